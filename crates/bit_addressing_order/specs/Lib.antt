@@ -1,0 +1,12 @@
+pub mod Bits
+pub mod Digits
+pub mod Index
+pub mod Law
+pub mod Masks
+pub mod OrderLaws
+pub mod Ranges
+pub mod Registers
+pub mod Verify
+pub mod VerifyLemmas
+pub mod VerifySteps
+pub mod Words

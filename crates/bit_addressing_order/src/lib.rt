@@ -1,0 +1,38 @@
+//! Storage words as registers, checked places inside a word, and bit orders with laws that each
+//! order proves.
+#![tactic(auto)]
+
+mod check;
+mod compare;
+mod end;
+mod fault;
+mod index;
+mod limits;
+mod mask;
+pub mod mem;
+mod order;
+mod position;
+mod ranges;
+mod register;
+mod selector;
+#[cfg(test)]
+mod tests;
+mod text;
+mod widths;
+mod words;
+
+pub use check::verify_for_type;
+pub use end::BitEnd;
+pub use fault::{OrderFault, WordFault};
+pub use index::{BitIdx, BitIdxError};
+pub use limits::{AllOrNone, Limits};
+pub use mask::BitMask;
+pub use order::{
+    BitOrder, LocalBits, Lsb0, Msb0, OrderCandidate, Positions, disjoint_masks, mask_from_at,
+    select_from_at,
+};
+pub use position::BitPos;
+pub use ranges::{EndRange, IndexRange, SelectorRange};
+pub use register::BitRegister;
+pub use selector::BitSel;
+pub use words::verify;

@@ -1,0 +1,10 @@
+use Rattle.std.proofs.Common.{◌*◌, ◌∷◌, [], ◌++◌, take, drop, sym, ap₂, ◌∙◌, arith}
+use Rattle.std.proofs.lemmas.List.FromFn.{map-range_with_len_more}
+use Rattle.bit_table_layout.specs.Images.{byte_of}
+use Rattle.bit_table.proofs.packed.PackedBits.to_bytes.Goals as goal
+
+pub loop-index-preserved : goal.loop-index-preserved
+loop-index-preserved c =
+    c.in_ok-push.ensures.items ∙ ap₂ (λ l b. l ++ b ∷ []) c.loop-index.invariant c.byte.ensures
+    ∙ sym (map-range_with_len_more (λ k. byte_of c.args.rule (take 8 (drop (8 * k) c.args.self.now))) 0
+    c.loop-index.index c.loop-index.index (omega arith))

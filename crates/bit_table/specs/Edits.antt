@@ -1,0 +1,19 @@
+-- What a command does to a table, and what it answers.
+use Rattle.std.specs.Prelude.{ℕ, List, [], ◌∷◌, ◌++◌, length, take, drop}
+use Rattle.bit_table_layout.specs.Rows.{new_row}
+use Rattle.bit_table_layout.specs.Images.{image_bytes}
+use Rattle.bit_table_script.specs.declared.command.Command.{Command}
+use Rattle.bit_table_script.specs.declared.command.Command.TheVariants.{Insert, Image}
+use Rattle.bit_table_script.specs.declared.reply.Reply.{Reply}
+use Rattle.bit_table_script.specs.declared.reply.Reply.TheVariants as answered
+use Rattle.bit_table.specs.Tables.{TableShape}
+
+-- the table that a command leaves: an insertion puts a new row, which bears no letter, before the row of its place
+abbrev pub edit : TableShape → Command → TableShape
+edit t (Insert p vs) = record t { rows = take p t.rows ++ (new_row vs ∷ drop p t.rows) }
+edit t Image = t
+
+-- what a command that is carried out answers
+abbrev pub reply_to : TableShape → Command → Reply
+reply_to t (Insert p vs) = answered.Done
+reply_to t Image = answered.Image (length t.rows) (image_bytes t.layout t.rows)

@@ -1,0 +1,7 @@
+pub mod Packed
+pub mod Tables
+pub mod Causes
+pub mod Edits
+pub mod Scripts
+pub mod Sessions
+pub mod ScriptLaws

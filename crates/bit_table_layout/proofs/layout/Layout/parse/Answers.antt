@@ -1,0 +1,100 @@
+use Rattle.std.proofs.Common.{◌≡◌, [], ◌∷◌, Some, None, Result, Err, refl, sym, ap, ◌∙◌}
+use Rattle.std.proofs.lemmas.Result.{err_from_is_err_and}
+use Rattle.bit_table_layout.specs.Words.{words}
+use Rattle.bit_table_layout.specs.WordsLeft.{words_left}
+use Rattle.bit_table_layout.specs.Layouts.{layout_of, rule_of, fields_of}
+use Rattle.bit_table_layout.proofs.LayoutLemmas.{layout_of-words, layout_of-no_rule, layout_of-no_fit, MakesLayout-from_fit, MakesLayout-of}
+use Rattle.bit_table_layout.proofs.layout.Layout.parse.Goals as goal
+
+-- what `?` passes on
+same_error : {T U E : Type 0} (r : Result U E) (y e d : E) → r ≡ Err y → y ≡ e → r ≡ Err d
+    → ◌≡◌ {A = Result T E} (Err e) (Err d)
+same_error r y e d is same wanted =
+    let equal : e ≡ d = cc in
+    ap Err equal
+
+pub returns-in_default-clause-refused : goal.returns-in_default-clause-refused
+returns-in_default-clause-refused c =
+    let line = c.args.line.now in
+    let none : layout_of line ≡ None =
+    layout_of-words line [] (sym c.new-words.ensures ∙ c.in_default.ensures.steps.0) in
+    (λ _. none, λ _. refl)
+
+pub returns-in_default-rule_of-clause-refused : goal.returns-in_default-rule_of-clause-refused
+returns-in_default-rule_of-clause-refused c =
+    let line = c.args.line.now in
+    let first = c.in-Some.first.now in
+    let rest = words_left c.next.new.self in
+    let is : words line ≡ first ∷ rest = sym c.new-words.ensures ∙ c.in-Some.ensures.steps in
+    let none = layout_of-no_rule line first rest is (sym c.rule_of.ensures ∙ c.in_default-rule_of.is) in
+    (λ _. none, λ _. refl)
+
+pub returns-then-not-spell_fields-clause-refused : goal.returns-then-not-spell_fields-clause-refused
+returns-then-not-spell_fields-clause-refused c =
+    let line = c.args.line.now in
+    let first = c.in-Some.first.now in
+    let rest = words_left c.next.new.self in
+    let rule = c.in-Some-rule_of.rule in
+    let is : words line ≡ first ∷ rest = sym c.new-words.ensures ∙ c.in-Some.ensures.steps in
+    let named : rule_of first ≡ Some rule = sym c.rule_of.ensures ∙ c.in-Some-rule_of.is in
+    let none = layout_of-no_fit line first rest rule is named (sym c.if-not-spell_fields.ensures) in
+    (λ _. none, λ _. refl)
+
+pub returns-in_err-fields-clause-refused : goal.returns-in_err-fields-clause-refused
+returns-in_err-fields-clause-refused c =
+    let line = c.args.line.now in
+    let first = c.in-Some.first.now in
+    let rest = words_left c.next.new.self in
+    let rule = c.in-Some-rule_of.rule in
+    let is : words line ≡ first ∷ rest = sym c.new-words.ensures ∙ c.in-Some.ensures.steps in
+    let named : rule_of first ≡ Some rule = sym c.rule_of.ensures ∙ c.in-Some-rule_of.is in
+    let made = MakesLayout-from_fit line first rest rule is named (sym c.if-not-spell_fields.ensures) in
+    let some : layout_of line ≡ Some (record { rule = rule; fields = made.0 }) = made.1.layout in
+    let spelled : fields_of rest ≡ Some made.0 = made.1.spelled in
+    let given = err_from_is_err_and c.from_residual.result c.from_residual.ensures.1 in (
+      (λ refused.
+          let none : fields_of rest ≡ None =
+          c.in_err-fields.ensures.refused (same_error _ _ _ _ given.1 given.2 refused) in
+          absurd cc),
+      (λ none. absurd cc),
+    )
+
+pub invariant_of-result : goal.invariant_of-result
+invariant_of-result c =
+    let line = c.args.line.now in
+    let first = c.in-Some.first.now in
+    let rest = words_left c.next.new.self in
+    let rule = c.in-Some-rule_of.rule in
+    let is : words line ≡ first ∷ rest = sym c.new-words.ensures ∙ c.in-Some.ensures.steps in
+    let named : rule_of first ≡ Some rule = sym c.rule_of.ensures ∙ c.in-Some-rule_of.is in
+    let made =
+    MakesLayout-of line first rest rule c.in_ok-fields.fields.items is named (sym c.if-not-spell_fields.ensures)
+    c.in_ok-fields.ensures.ok in
+    made.lawful
+
+pub returns-clause-ok : goal.returns-clause-ok
+returns-clause-ok c =
+    let line = c.args.line.now in
+    let first = c.in-Some.first.now in
+    let rest = words_left c.next.new.self in
+    let rule = c.in-Some-rule_of.rule in
+    let is : words line ≡ first ∷ rest = sym c.new-words.ensures ∙ c.in-Some.ensures.steps in
+    let named : rule_of first ≡ Some rule = sym c.rule_of.ensures ∙ c.in-Some-rule_of.is in
+    let made =
+    MakesLayout-of line first rest rule c.in_ok-fields.fields.items is named (sym c.if-not-spell_fields.ensures)
+    c.in_ok-fields.ensures.ok in
+    made.layout
+
+pub returns-clause-refused : goal.returns-clause-refused
+returns-clause-refused c =
+    let line = c.args.line.now in
+    let first = c.in-Some.first.now in
+    let rest = words_left c.next.new.self in
+    let rule = c.in-Some-rule_of.rule in
+    let is : words line ≡ first ∷ rest = sym c.new-words.ensures ∙ c.in-Some.ensures.steps in
+    let named : rule_of first ≡ Some rule = sym c.rule_of.ensures ∙ c.in-Some-rule_of.is in
+    let made =
+    MakesLayout-of line first rest rule c.in_ok-fields.fields.items is named (sym c.if-not-spell_fields.ensures)
+    c.in_ok-fields.ensures.ok in
+    let some = made.layout in
+    (λ refused. absurd cc, λ none. absurd cc)

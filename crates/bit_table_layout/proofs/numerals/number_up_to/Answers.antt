@@ -1,0 +1,10 @@
+use Rattle.std.proofs.Common.{arith}
+use Rattle.bit_table_layout.proofs.NumeralLemmas.{number-more}
+use Rattle.bit_table_layout.proofs.numerals.number_up_to.Goals as goal
+
+pub loop-byte-preserved : goal.loop-byte-preserved
+loop-byte-preserved c =
+    let w = c.args.word.now in
+    let i = c.loop-byte.byte-index in
+    let more = number-more w c.args.most c.loop-byte.number i c.requires.number (omega arith) c.loop-byte.invariant in
+    cc (c.min-number.ensures, c.from.ensures)

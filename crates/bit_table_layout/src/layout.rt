@@ -1,0 +1,173 @@
+//! Layouts.
+ghost use Rattle.std.specs.Prelude.{◌≡◌, ◌↔◌, ◌++◌, IfOk, IsErrOf, Some, None};
+ghost use Rattle.bit_table_layout.specs.Layouts.{rule_of, fields_of};
+ghost use Rattle.bit_table_layout.specs.WordsLeft.{words_left};
+ghost use Rattle.bit_table_layout.specs.Steps.{names_word, words_fit};
+
+use super::field::Field;
+use super::field_word::{FieldWord, parts};
+use super::words::Words;
+use std::alloc::Global;
+use std::marker::Model;
+use thiserror::Error;
+
+/// The greatest number of bits that a table has.
+pub const MAX_BITS: usize = 2_305_843_009_213_693_951;
+
+/// The greatest number of bits that a row has.
+const MAX_ROW_BITS: u32 = 256;
+
+/// In which order a field's digits lie.
+#[derive(Clone, Copy, Debug, PartialEq, Eq)]
+pub enum Rule {
+    /// The lowest digit first.
+    Low,
+    /// The highest digit first.
+    High,
+}
+
+/// Why there is no layout.
+#[derive(Clone, Copy, Debug, PartialEq, Eq, Error)]
+pub enum LayoutError {
+    /// The line is no layout line.
+    #[error("no layout line")]
+    Refused,
+    /// No memory was found.
+    #[error("no memory")]
+    Memory,
+}
+
+/// The layout of a row: a digit rule and the fields in order.
+#[derive(Debug, Drop)]
+pub struct Layout {
+    rule: Rule,
+    fields: Vec<Field>,
+}
+
+impl Model for Layout {
+    ghost use Rattle.std.specs.Prelude.{IsTrue};
+    ghost use Rattle.bit_table_layout.specs.Layouts.{LayoutShape, make_layout};
+
+    ghost Value = { LayoutShape };
+
+    ghost view = { λ l. record { rule = l.rule; fields = l.fields.items } };
+
+    ghost invariant = { λ l. IsTrue (make_layout l.fields.items) };
+}
+
+impl Layout {
+    ghost use Rattle.bit_table_layout.specs.Layouts.{row_width, is_layout, layout_of};
+    ghost use Rattle.std.specs.Prelude.{IsTrue};
+
+    /// Reads a layout line: the word `low`, then one or more words `name:uN` or `name:iN`.
+    ///
+    /// Words stand apart by spaces, tabs and carriage returns; every other byte belongs to a word, a line feed too.
+    /// A name has 1 to 16 bytes, a letter `a` to `z` followed by `a` to `z`, `0` to `9` or `_`, and no two fields
+    /// have one name. N is 1 to 64 in decimal without a leading zero, and all N together are at most 256.
+    ///
+    /// Any other line is `LayoutError::Refused`, which is decided before memory is taken. `LayoutError::Memory` says
+    /// that the line is a layout line, and that there was no memory for its fields.
+    pub fn parse(alloc: Global, line: &[u8]) -> Result<Layout, LayoutError>
+        ensures ok { IfOk result (λ layout. layout_of line.now ≡ Some layout) }
+        ensures refused { IsErrOf result LayoutError.Refused ↔ (layout_of line.now ≡ None) }
+    {
+        let mut words = Words::new(line);
+        let Some(first) = words.next() else {
+            return Err(LayoutError::Refused);
+        };
+        let Some(rule) = rule_of(first) else {
+            return Err(LayoutError::Refused);
+        };
+        if !spell_fields(words) {
+            return Err(LayoutError::Refused);
+        }
+        let fields = fields_of(alloc, words)?;
+        Ok(Layout { rule, fields })
+    }
+
+    /// The fields in order.
+    pub fn fields(&self) -> &[Field]
+        ensures fields { result.now ≡ self.now.fields }
+        ensures lawful { IsTrue (is_layout self.now) }
+    {
+        self.fields.as_slice()
+    }
+
+    /// How many bits a row has: 1 to 256.
+    pub fn row_bits(&self) -> usize
+        ensures bits { result ≡ row_width self.now.fields }
+        ensures lawful { IsTrue (is_layout self.now) }
+    {
+        let mut bits = 0;
+        for field in &self.fields {
+            bits += field.width() as usize;
+        }
+        bits
+    }
+
+    /// The digit rule.
+    pub fn rule(&self) -> Rule
+        ensures { result ≡ self.now.rule }
+    {
+        self.rule
+    }
+}
+
+/// The digit rule that a word names.
+fn rule_of(word: &[u8]) -> Option<Rule>
+    ensures { result ≡ rule_of word.now }
+{
+    if word == b"low".as_slice() {
+        Some(Rule::Low)
+    } else {
+        None
+    }
+}
+
+/// Whether the words that are left spell the fields of a layout. It stops at the first fault.
+fn spell_fields(mut words: Words) -> bool
+    ensures { result ≡ words_fit 0 (words_left words.entry) }
+{
+    let mut width = 0;
+    while let Some(word) = words.next() {
+        let Some(field) = FieldWord::parse(word) else {
+            return false;
+        };
+        width += field.width();
+        if width > MAX_ROW_BITS {
+            return false;
+        }
+        if names_word(field.name(), words) {
+            return false;
+        }
+    }
+    width > 0
+}
+
+/// Whether one of the words that are left has the name before its first colon.
+fn names_word(name: &[u8], mut words: Words) -> bool
+    ensures { result ≡ names_word name.now (words_left words.entry) }
+{
+    while let Some(word) = words.next() {
+        if parts(word).0 == name {
+            return true;
+        }
+    }
+    false
+}
+
+/// The fields that the words that are left spell.
+fn fields_of(alloc: Global, mut words: Words) -> Result<Vec<Field>, LayoutError>
+    ensures ok { IfOk result (λ fields. fields_of (words_left words.entry) ≡ Some fields.items) }
+    ensures refused { IsErrOf result LayoutError.Refused → fields_of (words_left words.entry) ≡ None }
+{
+    let mut fields = Vec::new(alloc);
+    while let Some(word) = words.next() {
+        let Some(word) = FieldWord::parse(word) else {
+            return Err(LayoutError::Refused);
+        };
+        let field = Field::new(alloc, word).map_err(|_| LayoutError::Memory)?;
+        fields.push(field).map_err(|_| LayoutError::Memory)?;
+    }
+    Ok(fields)
+}

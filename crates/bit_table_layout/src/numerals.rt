@@ -1,0 +1,23 @@
+//! Numbers that words spell in decimal.
+ghost use Rattle.std.specs.Prelude.{◌≡◌, ◌≤◌, ◌^◌, min, IsTrue};
+ghost use Rattle.bit_table_layout.specs.Numerals.{is_number, number_of};
+
+/// Whether a word is one or more decimal digits.
+pub fn is_number(word: &[u8]) -> bool
+    ensures { result ≡ is_number word.now }
+{
+    !word.is_empty() && word.iter().all(|byte| byte.is_ascii_digit())
+}
+
+/// The number that decimal digits spell, however many they are, or `most` where it is greater.
+pub fn number_up_to(word: &[u8], most: u128) -> u128
+    requires number { IsTrue (is_number word.now) }
+    requires room { most ≤ 2 ^ 100 }
+    ensures { result ≡ min (number_of word.now) most }
+{
+    let mut number = 0;
+    for byte in word {
+        number = most.min(number * 10 + u128::from(*byte - b'0'));
+    }
+    number
+}

@@ -1,0 +1,8 @@
+pub mod Sending
+pub mod LineLemmas
+pub mod GoingLemmas
+pub mod Pieces
+pub mod ReachedLemmas
+pub mod CommandLemmas
+pub mod CallerLemmas
+mod KnownRows

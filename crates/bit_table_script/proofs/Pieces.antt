@@ -1,0 +1,62 @@
+-- A piece of a text is fed byte by byte.
+use Rattle.std.proofs.Common.{◌≡◌, ◌≢◌, ℕ, ◌+◌, ◌<◌, ◌==◌, false, List, [], ◌∷◌, ◌++◌, length, take, drop, get_or, Option, refl, sym, ap, ◌∙◌, append_assoc, subst, arith, rules, take-append-drop}
+use Rattle.std.proofs.lemmas.Grind.{common_steps}
+use Rattle.std.specs.Io.KnownBytes.{Appends, Keeps}
+use Rattle.bit_table_script.specs.Lines.{IsBeginning, whole_lines}
+use Rattle.bit_table_script.specs.Streams.{AppendsPart}
+use Rattle.bit_table_script.specs.Runs.{AppendsFirstLines}
+use Rattle.bit_table_script.specs.Going.{Going}
+use Rattle.bit_table_script.proofs.GoingLemmas.{going_end, going_more, cut_at_end, cut_before, stopped}
+
+abbrev Answers : Type 0
+Answers = List (List ℕ) → List ℕ
+
+piece_step : (text piece : List ℕ) (i b : ℕ) → i < length piece → get_or piece i 0 ≡ b
+    → text ++ take (i + 1) piece ≡ (text ++ take i piece) ++ b ∷ []
+piece_step text piece i b h e =
+    let step : take (i + 1) piece ≡ take i piece ++ get_or piece i 0 ∷ [] = grind (arith, common_steps) in
+    ap (λ l. text ++ l) (step ∙ ap (λ n. take i piece ++ n ∷ []) e) ∙ sym (append_assoc text (take i piece) (b ∷ []))
+
+piece_rest : (text piece : List ℕ) (i : ℕ) → (text ++ take i piece) ++ drop i piece ≡ text ++ piece
+piece_rest text piece i =
+    append_assoc text (take i piece) (drop i piece) ∙ ap (λ l. text ++ l) (take-append-drop i piece)
+
+-- a line end came, and the line's answer went out
+pub feed_end : (answers next after : Answers) (start now new : Option (List ℕ)) (text piece line : List ℕ) (i : ℕ)
+    → i < length piece → get_or piece i 0 ≡ 10 → Going answers next start now (text ++ take i piece) line
+    → Appends now new (next (line ∷ []))
+    → ((rest : List (List ℕ)) → next (line ∷ rest) ≡ next (line ∷ []) ++ after rest)
+    → Going answers after start new (text ++ take (i + 1) piece) []
+feed_end answers next after start now new text piece line i b e h a f =
+    subst (λ l. Going answers after start new l []) (sym (piece_step text piece i 10 b e))
+    (going_end answers next after start now new (text ++ take i piece) line h a f)
+
+-- another byte came
+pub feed_more : (answers next : Answers) (start now : Option (List ℕ)) (text piece line longer : List ℕ) (i : ℕ)
+    → i < length piece → get_or piece i 0 ≢ 10 → Going answers next start now (text ++ take i piece) line
+    → longer ≡ line ++ get_or piece i 0 ∷ [] → Going answers next start now (text ++ take (i + 1) piece) longer
+feed_more answers next start now text piece line longer i b e h d =
+    let other : (get_or piece i 0 == 10) ≡ false = search rules in
+    subst (λ l. Going answers next start now (text ++ take (i + 1) piece) l) (sym d)
+    (subst (λ l. Going answers next start now l (line ++ get_or piece i 0 ∷ [])) (sym (piece_step text piece i (get_or piece i 0) b refl))
+    (going_more answers next start now (text ++ take i piece) line (get_or piece i 0) other h))
+
+-- a line end came, and the writer failed
+pub feed_cut : (answers next : Answers) (start now new : Option (List ℕ)) (text piece line : List ℕ) (i : ℕ)
+    → i < length piece → get_or piece i 0 ≡ 10 → Going answers next start now (text ++ take i piece) line
+    → ((front back : List (List ℕ)) → IsBeginning (answers front) (answers (front ++ back)))
+    → AppendsPart now new (next (line ∷ [])) → AppendsPart start new (answers (whole_lines (text ++ piece)))
+feed_cut answers next start now new text piece line i b e h f p =
+    let short : AppendsPart start new (answers (whole_lines (text ++ take (i + 1) piece))) =
+    subst (λ l. AppendsPart start new (answers (whole_lines l))) (sym (piece_step text piece i 10 b e))
+    (cut_at_end answers next start now new (text ++ take i piece) line h p) in
+    subst (λ l. AppendsPart start new (answers (whole_lines l))) (piece_rest text piece (i + 1))
+    (cut_before answers start new (text ++ take (i + 1) piece) (drop (i + 1) piece) f short)
+
+-- memory was wanted
+pub feed_stopped : (answers next : Answers) (start now new : Option (List ℕ)) (text piece line : List ℕ) (i : ℕ)
+    → Going answers next start now (text ++ take i piece) line → Keeps now new
+    → AppendsFirstLines answers start new (text ++ piece)
+feed_stopped answers next start now new text piece line i h k =
+    subst (AppendsFirstLines answers start new) (piece_rest text piece i)
+    (stopped answers next start now new (text ++ take i piece) (drop i piece) line h k)

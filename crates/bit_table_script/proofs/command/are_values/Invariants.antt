@@ -1,0 +1,11 @@
+use Rattle.std.proofs.Common.{◌≡◌, length}
+use Rattle.bit_table_layout.specs.WordsLeft.{words_left}
+use Rattle.bit_table_script.specs.CommandSteps.{have_values}
+use Rattle.bit_table_script.proofs.command.are_values.Given as goal
+
+-- the answer for the words that are left is the answer
+abbrev pub invariant-loop-word : goal.invariant-loop-word
+invariant-loop-word l = have_values l.fn.count (words_left l.fn.words) ≡ have_values l.left (words_left l.words)
+
+abbrev pub decreases-loop-word : goal.decreases-loop-word
+decreases-loop-word l = length (words_left l.words)

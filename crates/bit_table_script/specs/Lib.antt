@@ -1,0 +1,9 @@
+pub mod Causes
+pub mod Lines
+pub mod Streams
+pub mod Ends
+pub mod Runs
+pub mod Going
+pub mod Commands
+pub mod Replies
+pub mod CommandSteps

@@ -1,0 +1,130 @@
+//! A run of lines through a machine that answers them.
+ghost use Rattle.std.specs.Prelude.{◌≡◌, ℕ, ◌-◌, ◌^◌, ◌<◌, ◌↔◌, List, [], ◌∷◌, ◌++◌, Option, false, IfOk, OnOk, IfSome, IsErrOf, IsTrue, length};
+ghost use Rattle.std.specs.Io.KnownBytes.{Appends, IsAtEnd, Keeps};
+ghost use Rattle.bit_table_script.specs.Ends.{input_reader, input_failed, output_writer, output_failed};
+ghost use Rattle.bit_table_script.specs.Lines.{IsBeginning, lines, whole_lines};
+ghost use Rattle.bit_table_script.specs.Streams.{AppendsPart};
+ghost use Rattle.bit_table_script.specs.Runs.{AppendsFirstLines, StoppedByRead, StoppedByWrite, StoppedByMemory};
+ghost use Rattle.bit_table_script.specs.Going.{Going};
+
+use super::cause::RunError;
+use super::streams::{Input, Output};
+use std::alloc::{AllocError, Global};
+use std::io::{Read, Write};
+
+/// How many bytes are asked for at a time.
+const PIECE: usize = 4096;
+
+/// What answers lines, one after another.
+pub trait LineMachine {
+    /// What is answered to the lines that come next, all answers joined.
+    ghost answers: { Self → List (List ℕ) → List ℕ };
+
+    /// Carries a line out and gives its answer, which is empty where the line asks for nothing.
+    fn answer(&mut self, line: &[u8]) -> Result<Vec<u8>, AllocError>
+        ensures { IfOk result (λ text. (rest : List (List ℕ)) → answers self.old (line.now ∷ rest) ≡ text.items ++ answers self.new rest) };
+
+    /// No line has no answer.
+    ghost none: { (m : Self) → answers m [] ≡ [] };
+
+    /// Lines that follow change no answer that was given before.
+    ghost goes_on: { (m : Self) (front back : List (List ℕ)) → IsBeginning (answers m front) (answers m (front ++ back)) };
+}
+
+/// Carries a line out and writes its answer.
+fn carry_out<M: LineMachine, W: Write>(
+    machine: &mut M,
+    line: &[u8],
+    output: &mut Output<W>,
+) -> Result<(), RunError>
+    requires { output_failed output.old ≡ false }
+    ensures answered { OnOk result (Appends (W.contents (output_writer output.old)) (W.contents (output_writer output.new)) (M.answers machine.old (line.now ∷ []))) }
+    ensures next { OnOk result ((rest : List (List ℕ)) → M.answers machine.old (line.now ∷ rest) ≡ M.answers machine.old (line.now ∷ []) ++ M.answers machine.new rest) }
+    ensures read { IsErrOf result RunError.Read → ⊥ }
+    ensures write { IsErrOf result RunError.Write →
+        AppendsPart (W.contents (output_writer output.old)) (W.contents (output_writer output.new)) (M.answers machine.old (line.now ∷ [])) }
+    ensures memory { IsErrOf result RunError.Memory → Keeps (W.contents (output_writer output.old)) (W.contents (output_writer output.new)) }
+    ensures failed { IsErrOf result RunError.Write ↔ IsTrue (output_failed output.new) }
+{
+    let text = machine.answer(line).map_err(|_| RunError::Memory)?;
+    output.put(text.as_slice())
+}
+
+/// Carries out the lines that end in a piece of the text, and begins the next one.
+fn feed<M: LineMachine, W: Write>(
+    machine: &mut M,
+    line: &mut Vec<u8>,
+    piece: &[u8],
+    output: &mut Output<W>,
+) -> Result<(), RunError>
+    requires { output_failed output.old ≡ false }
+    ensures going { OnOk result ((answers : List (List ℕ) → List ℕ) (start : Option (List ℕ)) (text : List ℕ) →
+        Going answers (M.answers machine.old) start (W.contents (output_writer output.old)) text line.old.items →
+        Going answers (M.answers machine.new) start (W.contents (output_writer output.new)) (text ++ piece.now) line.new.items) }
+    ensures read { IsErrOf result RunError.Read → ⊥ }
+    ensures write { IsErrOf result RunError.Write → (answers : List (List ℕ) → List ℕ) (start : Option (List ℕ)) (text : List ℕ) →
+        Going answers (M.answers machine.old) start (W.contents (output_writer output.old)) text line.old.items →
+        ((front back : List (List ℕ)) → IsBeginning (answers front) (answers (front ++ back))) →
+        AppendsPart start (W.contents (output_writer output.new)) (answers (whole_lines (text ++ piece.now))) }
+    ensures memory { IsErrOf result RunError.Memory → (answers : List (List ℕ) → List ℕ) (start : Option (List ℕ)) (text : List ℕ) →
+        Going answers (M.answers machine.old) start (W.contents (output_writer output.old)) text line.old.items →
+        AppendsFirstLines answers start (W.contents (output_writer output.new)) (text ++ piece.now) }
+    ensures failed { IsErrOf result RunError.Write ↔ IsTrue (output_failed output.new) }
+{
+    for byte in piece {
+        if *byte == b'\n' {
+            carry_out(machine, line.as_slice(), output)?;
+            line.clear();
+        } else {
+            line.push(*byte).map_err(|_| RunError::Memory)?;
+        }
+    }
+    Ok(())
+}
+
+/// Runs a text through a machine: each line is carried out, and its answer written, before the reader is asked again.
+///
+/// A line ends at the byte 10 or at a clean end of the text. The reader is asked at most `2^64 - 1` times; without a
+/// clean end by then the run ends with `Read`.
+pub fn drive<M: LineMachine, R: Read, W: Write>(
+    alloc: Global,
+    machine: &mut M,
+    input: &mut Input<R>,
+    output: &mut Output<W>,
+) -> Result<(), RunError>
+    requires readable { input_failed input.old ≡ false }
+    requires writable { output_failed output.old ≡ false }
+
+    // The answers to all lines that the reader gives, however it cuts them, went out.
+    ensures done { OnOk result (IfSome (R.remaining (input_reader input.old)) (λ text.
+        Appends (W.contents (output_writer output.old)) (W.contents (output_writer output.new)) (M.answers machine.old (lines text)))) }
+    ensures ended { OnOk result (IsAtEnd (R.remaining (input_reader input.new))) }
+
+    // What went out before a fault.
+    ensures read { IsErrOf result RunError.Read → StoppedByRead (M.answers machine.old)
+        (R.remaining (input_reader input.old)) (R.remaining (input_reader input.new))
+        (W.contents (output_writer output.old)) (W.contents (output_writer output.new)) }
+    ensures write { IsErrOf result RunError.Write → StoppedByWrite (M.answers machine.old)
+        (R.remaining (input_reader input.old)) (R.remaining (input_reader input.new))
+        (W.contents (output_writer output.old)) (W.contents (output_writer output.new)) }
+    ensures memory { IsErrOf result RunError.Memory → StoppedByMemory (M.answers machine.old)
+        (R.remaining (input_reader input.old)) (R.remaining (input_reader input.new))
+        (W.contents (output_writer output.old)) (W.contents (output_writer output.new)) }
+
+    // A fault of the reader is always told, and nothing else is told as one, unless 2^64 - 1 reads find no end.
+    ensures read_told { IsTrue (input_failed input.new) → IsErrOf result RunError.Read }
+    ensures read_failed { IfSome (R.remaining (input_reader input.old)) (λ text. length text < 2 ^ 64 - 1 →
+        IsErrOf result RunError.Read → IsTrue (input_failed input.new)) }
+    ensures write_told { IsErrOf result RunError.Write ↔ IsTrue (output_failed output.new) }
+{
+    let mut line = Vec::new(alloc);
+    let mut piece = [0u8; PIECE];
+    'reads: for _ in 0..u64::MAX {
+        let count = input.read(&mut piece)?;
+        if count == 0 {
+            return carry_out(machine, line.as_slice(), output);
+        }
+        feed(machine, &mut line, &piece[..count], output)?;
+    }
+    Err(RunError::Read)
+}

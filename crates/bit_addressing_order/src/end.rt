@@ -70,10 +70,8 @@ impl<R: BitRegister> BitEnd<R> {
         requires { end ≤ R.BITS }
         ensures { result ≡ end }
     {
-        BitEnd {
-            end,
-            register: PhantomData,
-        }
+        let register = PhantomData;
+        BitEnd { end, register }
     }
 
     /// The number, which is at most `BITS`.

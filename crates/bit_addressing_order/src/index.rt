@@ -106,10 +106,8 @@ impl<R: BitRegister> BitIdx<R> {
         requires { index < R.BITS }
         ensures { result ≡ index }
     {
-        BitIdx {
-            index,
-            register: PhantomData,
-        }
+        let register = PhantomData;
+        BitIdx { index, register }
     }
 
     /// The indices from this one up to before `upto`, which is not below it. They come from both
@@ -118,7 +116,7 @@ impl<R: BitRegister> BitIdx<R> {
         requires { self ≤ upto }
         ensures { result ≡ range_with_len self (upto - self) }
     {
-        IndexRange::new(self.index, upto.into_inner())
+        IndexRange::new(self.into_inner(), upto.into_inner())
     }
 
     /// Every index of the register, ascending. They come from both ends.
@@ -175,7 +173,7 @@ impl<R: BitRegister> BitIdx<R> {
         ensures undone { prev_index R.BITS result.0 ≡ self }
         ensures crossed_back { IsTrue result.1 ↔ (result.0 ≡ 0) }
     {
-        let above = self.index + 1;
+        let above = self.into_inner() + 1;
         if above == R::BITS {
             (BitIdx::new_unchecked(0), true)
         } else {
@@ -192,10 +190,11 @@ impl<R: BitRegister> BitIdx<R> {
         ensures undone { next_index R.BITS result.0 ≡ self }
         ensures crossed_back { IsTrue result.1 ↔ (result.0 + 1 ≡ R.BITS) }
     {
-        if self.index == 0 {
+        let index = self.into_inner();
+        if index == 0 {
             (BitIdx::new_unchecked(R::BITS - 1), true)
         } else {
-            (BitIdx::new_unchecked(self.index - 1), false)
+            (BitIdx::new_unchecked(index - 1), false)
         }
     }
 
@@ -206,7 +205,7 @@ impl<R: BitRegister> BitIdx<R> {
         ensures { IsOffset R.BITS self by result.0 result.1 }
     {
         let (words, rest) = words_and_rest::<R>(by);
-        let index = rest + self.index;
+        let index = rest + self.into_inner();
         if index < R::BITS {
             (words, BitIdx::new_unchecked(index))
         } else {

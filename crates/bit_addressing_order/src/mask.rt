@@ -97,7 +97,7 @@ impl<R: BitRegister> BitMask<R> {
     pub fn test(&self, selector: BitSel<R>) -> bool
         ensures { (p : ℕ) → IsOneBit (R.number selector) p → IsTrue result ↔ (bit_at (R.number self.now) p ≡ 1) }
     {
-        let selected = self.word.and(selector.into_inner());
+        let selected = self.into_inner().and(selector.into_inner());
         !selected.equals(R::ZERO)
     }
 }
@@ -108,14 +108,14 @@ impl<R: BitRegister> BitMask<R> {
     pub fn insert(&mut self, selector: BitSel<R>)
         ensures { R.number self.new ≡ bit_or (R.number self.old) (R.number selector) }
     {
-        self.word = self.word.or(selector.into_inner());
+        *self = self.combine(selector);
     }
 
     /// The mask with the selector's position put in.
     pub fn combine(self, selector: BitSel<R>) -> BitMask<R>
         ensures { R.number result ≡ bit_or (R.number self) (R.number selector) }
     {
-        BitMask::new(self.word.or(selector.into_inner()))
+        BitMask::new(self.into_inner().or(selector.into_inner()))
     }
 }
 
@@ -126,7 +126,7 @@ impl<R: BitRegister> Not for BitMask<R> {
     ghost not_gives = { λ mask result. R.number result ≡ 2 ^ R.BITS - 1 - R.number mask };
 
     fn not(self) -> BitMask<R> {
-        BitMask::new(self.word.not())
+        BitMask::new(self.into_inner().not())
     }
 }
 
@@ -137,7 +137,7 @@ impl<R: BitRegister> BitAnd<R> for BitMask<R> {
     ghost bitand_gives = { λ mask word result. R.number result ≡ bit_and (R.number mask) (R.number word) };
 
     fn bitand(self, word: R) -> BitMask<R> {
-        BitMask::new(self.word.and(word))
+        BitMask::new(self.into_inner().and(word))
     }
 }
 
@@ -148,6 +148,6 @@ impl<R: BitRegister> BitOr<R> for BitMask<R> {
     ghost bitor_gives = { λ mask word result. R.number result ≡ bit_or (R.number mask) (R.number word) };
 
     fn bitor(self, word: R) -> BitMask<R> {
-        BitMask::new(self.word.or(word))
+        BitMask::new(self.into_inner().or(word))
     }
 }

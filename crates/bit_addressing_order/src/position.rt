@@ -69,10 +69,8 @@ impl<R: BitRegister> BitPos<R> {
         requires { position < R.BITS }
         ensures { result ≡ position }
     {
-        BitPos {
-            position,
-            register: PhantomData,
-        }
+        let register = PhantomData;
+        BitPos { position, register }
     }
 
     /// The number, which is below `BITS`.
@@ -88,7 +86,7 @@ impl<R: BitRegister> BitPos<R> {
     pub fn select(self) -> BitSel<R>
         ensures { R.number result ≡ 2 ^ self }
     {
-        BitSel::new_unchecked(R::ONE.shl(self.position))
+        BitSel::new_unchecked(R::ONE.shl(self.into_inner()))
     }
 
     /// The mask of this position alone.

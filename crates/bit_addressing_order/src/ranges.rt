@@ -193,7 +193,8 @@ impl<R: BitRegister> DoubleEndedIterator for EndRange<R> {
 #[tactic(auto, using(crate::specs::Ranges::ends_of_range))]
 impl<R: BitRegister> ExactSizeIterator for EndRange<R> {
     fn len(&self) -> usize {
-        (self.upto - self.from) as usize
+        let left = self.upto - self.from;
+        left as usize
     }
 }
 

@@ -78,7 +78,7 @@ impl<R: BitRegister> BitSel<R> {
     pub fn mask(self) -> BitMask<R>
         ensures { result ≡ self }
     {
-        BitMask::new(self.word)
+        BitMask::new(self.into_inner())
     }
 
     /// The selectors of every position, ascending. They come from both ends.

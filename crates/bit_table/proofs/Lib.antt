@@ -7,3 +7,4 @@ pub mod InsertLemmas
 pub mod CutLemmas
 pub mod AnswerLemmas
 pub mod SessionLemmas
+mod KnownRows

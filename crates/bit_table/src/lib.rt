@@ -5,6 +5,8 @@ mod packed;
 mod runner;
 mod session;
 mod table;
+#[cfg(test)]
+mod tests;
 
 pub use bit_table_layout::{Field, Layout, LayoutError, MAX_BITS, Rule, image};
 pub use bit_table_script::{Cause, Command, Fault, ImageBytes, Input, Output, Reply, RunError, Values};

@@ -60,9 +60,8 @@ and-regroup false y z = refl
 words_fit-Some : (width : ℕ) (word : List ℕ) (rest : List (List ℕ)) (f : FieldShape) → field_of word ≡ Some f
     → words_fit width (word ∷ rest) ≡ (not (names_word f.name rest) && words_fit (width + f.width) rest)
 words_fit-Some width word rest f some =
-    ap (λ o. option_map_or (fields_fit width) (option_and_then (λ x. option_map (λ fs. x ∷ fs) (fields_of rest)) o) false)
-    some
-    ∙ go (fields_of rest) refl
+    let behind : FieldShape → Option (List FieldShape) = λ x. option_map (λ fs. x ∷ fs) (fields_of rest) in
+    ap (λ o. option_map_or (fields_fit width) (option_and_then behind o) false) some ∙ go (fields_of rest) refl
   where
     go : (o : Option (List FieldShape)) → fields_of rest ≡ o
         → option_map_or (fields_fit width) (option_map (λ fs. f ∷ fs) o) false

@@ -1,10 +1,9 @@
 -- What cutting off leaves of a command: it changes neither what a field takes nor what is out of range.
-use Rattle.std.proofs.Common.{◌≡◌, ℕ, zero, suc, ◌-◌, ◌^◌, ◌<◌, ◌≤◌, ◌==◌, ◌&&◌, min, nat_lt, nat_le, Bool, true, false, cond, ℤ, pos, neg_ℤ, List, [], ◌∷◌, length, map, codes, Option, None, Some, option_and_then, refl, sym, ap, ◌∙◌, arith}
+use Rattle.std.proofs.Common.{◌≡◌, ℕ, ◌-◌, ◌^◌, ◌<◌, ◌≤◌, ◌==◌, ◌&&◌, nat_lt, Bool, true, false, cond, ℤ, pos, neg_ℤ, List, [], ◌∷◌, length, map, codes, None, Some, option_and_then, refl, sym, ap, ◌∙◌, arith}
 use Rattle.std.specs.Prelude.{int_lt, int_le, ◌<ℤ◌, ◌≤ℤ◌}
 use Rattle.std.specs.Int.{int_min, int_max}
 use Rattle.std.specs.List.{list_all}
 use Rattle.std.proofs.lemmas.Int.{ints, clamps}
-use Rattle.std.proofs.lemmas.Bool.{cases_Bool}
 use Rattle.std.proofs.lemmas.Bool.Decides.{nat_tests}
 use Rattle.std.proofs.lemmas.Nat.{pow_below}
 use Rattle.std.proofs.Math.Nat.{pow-le-pow_right}
@@ -16,8 +15,7 @@ use Rattle.bit_table_layout.specs.Numerals.{number_in}
 use Rattle.bit_table_layout.specs.Fields.{FieldShape, takes, least, limit}
 use Rattle.bit_table_layout.specs.Layouts.{LayoutShape, is_field}
 use Rattle.bit_table_layout.specs.Rows.{take_all}
-use Rattle.bit_table_script.specs.declared.command.Command.{Command}
-use Rattle.bit_table_script.specs.declared.command.Command.TheVariants.{Insert, Image}
+use Rattle.bit_table_script.specs.declared.command.Command.TheVariants.{Insert}
 use Rattle.bit_table_script.specs.Commands.{whole_numbers_in, insert_from, insert_in, image_in, command_in, command_of, cut_value, cut_place}
 
 -- v, or m where it is greater, or - m where it is less
@@ -27,7 +25,8 @@ cut_at m v = int_max (neg_ℤ (pos m)) (int_min v (pos m))
 cut_at-least : (m : ℕ) (low v : ℤ) → neg_ℤ (pos m) <ℤ low → low ≤ℤ pos m → int_le low (cut_at m v) ≡ int_le low v
 cut_at-least m low v h k = grind (arith, ints, clamps)
 
-cut_at-limit : (m : ℕ) (high v : ℤ) → neg_ℤ (pos m) <ℤ high → high ≤ℤ pos m → int_lt (cut_at m v) high ≡ int_lt v high
+cut_at-limit : (m : ℕ) (high v : ℤ) → neg_ℤ (pos m) <ℤ high → high ≤ℤ pos m
+    → int_lt (cut_at m v) high ≡ int_lt v high
 cut_at-limit m high v h k = grind (arith, ints, clamps)
 
 cut_at-same : (m : ℕ) (v : ℤ) → neg_ℤ (pos m) ≤ℤ v → v ≤ℤ pos m → cut_at m v ≡ v
@@ -110,7 +109,8 @@ cut_value-all_taken (f ∷ fs) (v ∷ vs) h t =
     let rest : list_all is_field fs ≡ true = grind arith in
     let one : takes f v ≡ true = grind arith in
     let more : take_all fs vs ≡ true = grind arith in
-    ap (λ x. x ∷ map cut_value vs) (cut_value-taken f v first one) ∙ ap (λ xs. v ∷ xs) (cut_value-all_taken fs vs rest more)
+    ap (λ x. x ∷ map cut_value vs) (cut_value-taken f v first one)
+    ∙ ap (λ xs. v ∷ xs) (cut_value-all_taken fs vs rest more)
 
 -- as many values are kept
 pub length-cut_value : (vs : List ℤ) → length (map cut_value vs) ≡ length vs
@@ -124,7 +124,8 @@ cut_place-below n p h = grind (arith, nat_tests)
 pub cut_place-within : (p : ℕ) → p ≤ 2 ^ 64 - 1 → cut_place p ≡ p
 cut_place-within p h = omega arith
 
-insertion-length : (n : ℕ) (k p : ℕ) (ws vs : List ℤ) → cond (length ws == n) (Some (Insert k ws)) None ≡ Some (Insert p vs)
+insertion-length : (n : ℕ) (k p : ℕ) (ws vs : List ℤ)
+    → cond (length ws == n) (Some (Insert k ws)) None ≡ Some (Insert p vs)
     → length vs ≡ n
 insertion-length n k p ws vs e =
     let both = cond_some (length ws == n) (Insert k ws) (Insert p vs) e in
@@ -132,7 +133,8 @@ insertion-length n k p ws vs e =
     let counted : length ws ≡ n = grind (arith, nat_tests, both.0) in
     ap length (sym same) ∙ counted
 
-insert_in-length : (l : LayoutShape) (words : List (List ℕ)) (p : ℕ) (vs : List ℤ) → insert_in l words ≡ Some (Insert p vs)
+insert_in-length : (l : LayoutShape) (words : List (List ℕ)) (p : ℕ) (vs : List ℤ)
+    → insert_in l words ≡ Some (Insert p vs)
     → length vs ≡ length l.fields
 insert_in-length l [] p vs e = absurd (cc)
 insert_in-length l (w ∷ ws) p vs e =
@@ -145,19 +147,22 @@ image_in-insert [] p vs e = cc
 image_in-insert (w ∷ ws) p vs e = cc
 
 named-length : (l : LayoutShape) (insert image : Bool) (rest : List (List ℕ)) (p : ℕ) (vs : List ℤ)
-    → cond insert (insert_in l rest) (cond image (image_in rest) None) ≡ Some (Insert p vs) → length vs ≡ length l.fields
+    → cond insert (insert_in l rest) (cond image (image_in rest) None) ≡ Some (Insert p vs)
+    → length vs ≡ length l.fields
 named-length l true image rest p vs e = insert_in-length l rest p vs e
 named-length l false true rest p vs e = absurd (image_in-insert rest p vs e)
 named-length l false false rest p vs e = absurd (cc)
 
-command_in-insert_length : (l : LayoutShape) (words : List (List ℕ)) (p : ℕ) (vs : List ℤ) → command_in l words ≡ Some (Insert p vs)
+command_in-insert_length : (l : LayoutShape) (words : List (List ℕ)) (p : ℕ) (vs : List ℤ)
+    → command_in l words ≡ Some (Insert p vs)
     → length vs ≡ length l.fields
 command_in-insert_length l [] p vs e = absurd (cc)
 command_in-insert_length l (name ∷ rest) p vs e =
     named-length l (bytes_eq name (codes "insert")) (bytes_eq name (codes "image")) rest p vs e
 
 -- an insertion has one value a field of the layout
-pub command_of-insert_length : (l : LayoutShape) (line : List ℕ) (p : ℕ) (vs : List ℤ) → command_of l line ≡ Some (Insert p vs)
+pub command_of-insert_length : (l : LayoutShape) (line : List ℕ) (p : ℕ) (vs : List ℤ)
+    → command_of l line ≡ Some (Insert p vs)
     → length vs ≡ length l.fields
 unfolding command_of
 command_of-insert_length l line p vs e = command_in-insert_length l (words line) p vs e

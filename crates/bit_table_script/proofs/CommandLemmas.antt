@@ -1,12 +1,12 @@
 -- The command that words spell, read word by word.
-use Rattle.std.proofs.Common.{◌≡◌, ◌≢◌, ◌↔◌, ℕ, zero, suc, ◌-◌, ◌^◌, ◌==◌, ◌&&◌, min, Bool, true, false, cond, ℤ, List, [], ◌∷◌, length, map, Option, None, Some, option_map, option_and_then, is_some, IsSome, codes, refl, sym, ap, ◌∙◌, arith}
+use Rattle.std.proofs.Common.{◌≡◌, ◌≢◌, ℕ, zero, suc, ◌-◌, ◌==◌, ◌&&◌, Bool, true, false, cond, ℤ, List, [], ◌∷◌, length, map, Option, None, Some, option_map, option_and_then, is_some, IsSome, codes, refl, sym, ap, ◌∙◌, arith}
 use Rattle.std.specs.Str.{bytes_eq}
 use Rattle.std.proofs.lemmas.Bool.Decides.{nat_tests}
 use Rattle.bit_table_layout.specs.Numerals.{is_number, number_of, number_in, whole_number_in}
 use Rattle.bit_table_layout.specs.Fields.{FieldShape}
 use Rattle.bit_table_layout.specs.Layouts.{LayoutShape}
 use Rattle.bit_table_script.specs.declared.command.Command.{Command}
-use Rattle.bit_table_script.specs.declared.command.Command.TheVariants.{Insert, Image}
+use Rattle.bit_table_script.specs.declared.command.Command.TheVariants.{Insert}
 use Rattle.bit_table_script.specs.Commands.{whole_numbers_in, insert_in, image_in, command_in, cut_value, cut_place, cut_off}
 use Rattle.bit_table_script.specs.CommandSteps.{insert_with, have_values, kept_values}
 
@@ -54,7 +54,8 @@ pub have_values-step : (n : ℕ) (all ws : List (List ℕ)) (w : List ℕ) (o : 
     → o ≡ option_map cut_value (whole_number_in w) → is_some o ≡ true → have_values n all ≡ have_values (n - 1) ws
 have_values-step zero all ws w o e p k h = absurd (p refl)
 have_values-step (suc n) all ws w o e p k h =
-    ap (have_values (suc n)) e ∙ ap (λ b. b && have_values n ws) (is_some-map o (whole_number_in w) k h) ∙ ap (λ m. have_values m ws) (omega arith)
+    ap (have_values (suc n)) e ∙ ap (λ b. b && have_values n ws) (is_some-map o (whole_number_in w) k h)
+    ∙ ap (λ m. have_values m ws) (omega arith)
 
 counts-some : (n : ℕ) (os : Option (List ℤ)) → counts n os ≡ true → IsSome os
 counts-some n None h = absurd (cc)
@@ -92,7 +93,8 @@ insert_refused-values n all ws w e h =
     ∙ insertion-none n (whole_numbers_in ws) (number_in w) (sym (have_values-counts n ws) ∙ h)
 
 -- a number and so many values spell an insertion, which is kept cut off
-pub insert_kept : (n : ℕ) (all ws : List (List ℕ)) (w : List ℕ) (p : ℕ) (vs : List ℤ) → all ≡ w ∷ ws → is_number w ≡ true
+pub insert_kept : (n : ℕ) (all ws : List (List ℕ)) (w : List ℕ) (p : ℕ) (vs : List ℤ) → all ≡ w ∷ ws
+    → is_number w ≡ true
     → have_values n ws ≡ true → kept_values ws ≡ Some vs → p ≡ cut_place (number_of w)
     → option_map cut_off (insert_with n all) ≡ Some (Insert p vs)
 insert_kept n all ws w p vs e a h k i =
@@ -124,11 +126,13 @@ pub command_in-none : (l : LayoutShape) (all : List (List ℕ)) → all ≡ [] �
 command_in-none l all e = rw e refl
 
 -- the answer of a comparison with a known word
-compared : (w word known : List ℕ) (r is : Bool) → word ≡ known → r ≡ bytes_eq w word → r ≡ is → bytes_eq w known ≡ is
+compared : (w word known : List ℕ) (r is : Bool) → word ≡ known → r ≡ bytes_eq w word → r ≡ is
+    → bytes_eq w known ≡ is
 compared w word known r is e h k = ap (bytes_eq w) (sym e) ∙ sym h ∙ k
 
 -- `insert` and more words
-pub command_in-insert : (l : LayoutShape) (fields : List FieldShape) (all ws : List (List ℕ)) (w word : List ℕ) (r : Bool)
+pub command_in-insert : (l : LayoutShape) (fields : List FieldShape) (all ws : List (List ℕ))
+    (w word : List ℕ) (r : Bool)
     → all ≡ w ∷ ws → word ≡ codes "insert" → r ≡ bytes_eq w word → r ≡ true → fields ≡ l.fields
     → command_in l all ≡ insert_with (length fields) ws
 command_in-insert l fields all ws w word r e k h is f =
@@ -137,7 +141,8 @@ command_in-insert l fields all ws w word r e k h is f =
 
 -- `image` and more words
 pub command_in-image : (l : LayoutShape) (all ws : List (List ℕ)) (w word other : List ℕ) (r s : Bool) → all ≡ w ∷ ws
-    → word ≡ codes "insert" → r ≡ bytes_eq w word → r ≡ false → other ≡ codes "image" → s ≡ bytes_eq w other → s ≡ true
+    → word ≡ codes "insert" → r ≡ bytes_eq w word → r ≡ false → other ≡ codes "image" → s ≡ bytes_eq w other
+    → s ≡ true
     → command_in l all ≡ image_in ws
 command_in-image l all ws w word other r s e k h is k2 h2 is2 =
     let first = compared w word (codes "insert") r false k h is in
@@ -146,7 +151,8 @@ command_in-image l all ws w word other r s e k h is k2 h2 is2 =
 
 -- another word and more words
 pub command_in-other : (l : LayoutShape) (all ws : List (List ℕ)) (w word other : List ℕ) (r s : Bool) → all ≡ w ∷ ws
-    → word ≡ codes "insert" → r ≡ bytes_eq w word → r ≡ false → other ≡ codes "image" → s ≡ bytes_eq w other → s ≡ false
+    → word ≡ codes "insert" → r ≡ bytes_eq w word → r ≡ false → other ≡ codes "image" → s ≡ bytes_eq w other
+    → s ≡ false
     → command_in l all ≡ None
 command_in-other l all ws w word other r s e k h is k2 h2 is2 =
     let first = compared w word (codes "insert") r false k h is in

@@ -1,5 +1,5 @@
 -- A run goes on by a byte, ends, or is cut short.
-use Rattle.std.proofs.Common.{◌≡◌, ℕ, ◌<◌, ◌==◌, Bool, true, false, List, [], ◌∷◌, ◌++◌, length, Option, refl, sym, ap, ◌∙◌, append_assoc, append-nil, length-append, subst, arith, rules}
+use Rattle.std.proofs.Common.{◌≡◌, ℕ, ◌==◌, Bool, true, false, List, [], ◌∷◌, ◌++◌, Option, refl, sym, ap, ◌∙◌, append_assoc, append-nil, length-append, subst, arith, rules}
 use Rattle.std.specs.Io.KnownBytes.{Appends, Keeps}
 use Rattle.std.proofs.KnownBytes.{Appends-nil, Appends-trans, Appends-kept}
 use Rattle.bit_table_script.specs.Lines.{IsBeginning, lines, whole_lines}
@@ -12,7 +12,8 @@ use Rattle.bit_table_script.proofs.LineLemmas.{lines-end, lines-more, whole_line
 abbrev Answers : Type 0
 Answers = List (List ℕ) → List ℕ
 
-pub going_start : (answers : Answers) (start : Option (List ℕ)) → answers [] ≡ [] → Going answers answers start start [] []
+pub going_start : (answers : Answers) (start : Option (List ℕ)) → answers [] ≡ []
+    → Going answers answers start start [] []
 going_start answers start e = record {
   cut = refl;
   follows = λ rest. sym (ap (λ l. l ++ answers rest) e);
@@ -20,7 +21,8 @@ going_start answers start e = record {
 }
 
 -- the answers to the whole lines once a line end has come
-answers-end : (answers next : Answers) (start now : Option (List ℕ)) (text line : List ℕ) → Going answers next start now text line
+answers-end : (answers next : Answers) (start now : Option (List ℕ)) (text line : List ℕ)
+    → Going answers next start now text line
     → answers (whole_lines (text ++ 10 ∷ [])) ≡ answers (whole_lines text) ++ next (line ∷ [])
 answers-end answers next start now text line h = ap answers (whole_lines-end text line h.cut) ∙ h.follows (line ∷ [])
 
@@ -44,7 +46,8 @@ going_end answers next after start now new text line h a f =
           (Appends-trans start now new (answers (whole_lines text)) (next (line ∷ [])) h.answered a);
     }
 
-pub going_more : (answers next : Answers) (start now : Option (List ℕ)) (text line : List ℕ) (b : ℕ) → (b == 10) ≡ false
+pub going_more : (answers next : Answers) (start now : Option (List ℕ)) (text line : List ℕ) (b : ℕ)
+    → (b == 10) ≡ false
     → Going answers next start now text line → Going answers next start now (text ++ b ∷ []) (line ++ b ∷ [])
 going_more answers next start now text line b e h =
     let whole : whole_lines (text ++ b ∷ []) ≡ whole_lines text = whole_lines-more text line b e h.cut in
@@ -55,12 +58,14 @@ going_more answers next start now text line b e h =
     }
 
 -- all the answers: those to the whole lines and the one to the last
-answers-last : (answers next : Answers) (start now : Option (List ℕ)) (text line : List ℕ) → Going answers next start now text line
+answers-last : (answers next : Answers) (start now : Option (List ℕ)) (text line : List ℕ)
+    → Going answers next start now text line
     → answers (lines text) ≡ answers (whole_lines text) ++ next (line ∷ [])
 answers-last answers next start now text line h = ap answers h.cut ∙ h.follows (line ∷ [])
 
 pub going_last : (answers next : Answers) (start now new : Option (List ℕ)) (text line : List ℕ)
-    → Going answers next start now text line → Appends now new (next (line ∷ [])) → Appends start new (answers (lines text))
+    → Going answers next start now text line → Appends now new (next (line ∷ []))
+    → Appends start new (answers (lines text))
 going_last answers next start now new text line h a =
     subst (Appends start new) (sym (answers-last answers next start now text line h))
     (Appends-trans start now new (answers (whole_lines text)) (next (line ∷ [])) h.answered a)
@@ -126,12 +131,14 @@ has_last-nil = record { last = []; cut = refl }
 has_last-grown : (text more : List ℕ) → HasLast text → HasLast (text ++ more)
 has_last-grown text [] h = subst HasLast (sym (append-nil text)) h
 has_last-grown text (b ∷ bs) h =
-    subst HasLast (append_assoc text (b ∷ []) bs) (has_last-grown (text ++ b ∷ []) bs (has_last-more text b (b == 10) refl h))
+    subst HasLast (append_assoc text (b ∷ []) bs)
+    (has_last-grown (text ++ b ∷ []) bs (has_last-more text b (b == 10) refl h))
 
 grows-byte : (text : List ℕ) (b : ℕ) (c : Bool) → (b == 10) ≡ c → HasLast text → GrowsBy text (text ++ b ∷ [])
 grows-byte text b true e h =
     let ten : b ≡ 10 = search rules in
-    subst (λ n. GrowsBy text (text ++ n ∷ [])) (sym ten) (record { more = h.last ∷ []; is = whole_lines-end text h.last h.cut })
+    subst (λ n. GrowsBy text (text ++ n ∷ [])) (sym ten)
+    (record { more = h.last ∷ []; is = whole_lines-end text h.last h.cut })
 grows-byte text b false e h =
     record { more = []; is = whole_lines-more text h.last b e h.cut ∙ sym (append-nil (whole_lines text)) }
 
@@ -149,11 +156,13 @@ grows text (b ∷ bs) h =
 -- what is cut short of the answers to a text's whole lines is cut short of those to a longer text's
 pub cut_before : (answers : Answers) (start new : Option (List ℕ)) (text more : List ℕ)
     → ((front back : List (List ℕ)) → IsBeginning (answers front) (answers (front ++ back)))
-    → AppendsPart start new (answers (whole_lines text)) → AppendsPart start new (answers (whole_lines (text ++ more)))
+    → AppendsPart start new (answers (whole_lines text))
+    → AppendsPart start new (answers (whole_lines (text ++ more)))
 cut_before answers start new text more f p =
     let on = grows text more (has_last-grown [] text has_last-nil) in
     subst (λ l. AppendsPart start new (answers l)) (sym on.is)
-    (longer_part start new (answers (whole_lines text)) (answers (whole_lines text ++ on.more)) p (f (whole_lines text) on.more))
+    (longer_part start new (answers (whole_lines text)) (answers (whole_lines text ++ on.more)) p
+    (f (whole_lines text) on.more))
 
 -- ---- want of memory
 

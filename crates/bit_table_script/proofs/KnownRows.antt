@@ -1,12 +1,11 @@
 -- Known lines, commands and answers, which pin the definitions.
-use Rattle.std.proofs.Common.{◌≡◌, ℕ, ◌-◌, ◌+◌, ◌^◌, true, false, ℤ, pos, neg_ℤ, List, [], ◌∷◌, ◌++◌, codes, Option, None, Some, refl}
+use Rattle.std.proofs.Common.{◌≡◌, ◌-◌, ◌+◌, ◌^◌, true, false, pos, neg_ℤ, [], ◌∷◌, codes, None, Some, refl}
 use Rattle.std.specs.Fmt.{digits}
 use Rattle.bit_table_layout.specs.declared.layout.Rule.TheVariants.{Low}
 use Rattle.bit_table_layout.specs.Layouts.{LayoutShape}
 use Rattle.bit_table_script.specs.declared.cause.Cause.TheVariants.{Form, Layout}
 use Rattle.bit_table_script.specs.declared.command.Command.TheVariants.{Insert, Image}
 use Rattle.bit_table_script.specs.declared.reply.Reply.TheVariants.{Done, Image as ImageReply}
-use Rattle.bit_table_script.specs.Causes.{cause_word}
 use Rattle.bit_table_script.specs.Commands.{command_of, cut_place, cut_value, cut_off}
 use Rattle.bit_table_script.specs.Lines.{lines, whole_lines}
 use Rattle.bit_table_script.specs.Replies.{reply_text, refusal_text}
@@ -37,7 +36,8 @@ whole_lines-none = refl
 two_fields : LayoutShape
 two_fields = record {
   rule = Low;
-  fields = record { name = codes "a"; width = 3; signed = false } ∷ record { name = codes "b"; width = 4; signed = true } ∷ [];
+  fields = record { name = codes "a"; width = 3; signed = false }
+      ∷ record { name = codes "b"; width = 4; signed = true } ∷ [];
 }
 
 command-insert : command_of two_fields (codes "insert 0 5 -1") ≡ Some (Insert 0 (pos 5 ∷ neg_ℤ (pos 1) ∷ []))

@@ -38,7 +38,8 @@ pub feed_more : (answers next : Answers) (start now : Option (List ℕ)) (text p
 feed_more answers next start now text piece line longer i b e h d =
     let other : (get_or piece i 0 == 10) ≡ false = search rules in
     subst (λ l. Going answers next start now (text ++ take (i + 1) piece) l) (sym d)
-    (subst (λ l. Going answers next start now l (line ++ get_or piece i 0 ∷ [])) (sym (piece_step text piece i (get_or piece i 0) b refl))
+    (subst (λ l. Going answers next start now l (line ++ get_or piece i 0 ∷ []))
+    (sym (piece_step text piece i (get_or piece i 0) b refl))
     (going_more answers next start now (text ++ take i piece) line (get_or piece i 0) other h))
 
 -- a line end came, and the writer failed

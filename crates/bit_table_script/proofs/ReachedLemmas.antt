@@ -1,5 +1,5 @@
 -- What the reader gave and what the writer took, as a run goes on and ends.
-use Rattle.std.proofs.Common.{◌≡◌, ℕ, ◌+◌, ◌<◌, ◌≤◌, List, [], ◌∷◌, ◌++◌, length, Option, None, Some, refl, sym, ap, ◌∙◌, append-nil, length-append, subst, arith, IfSome, inl, inr}
+use Rattle.std.proofs.Common.{◌≡◌, ℕ, ◌+◌, ◌<◌, ◌≤◌, List, [], ◌∷◌, ◌++◌, length, Option, None, Some, ap, ◌∙◌, append-nil, length-append, subst, arith, IfSome, inl, inr}
 use Rattle.std.specs.Io.KnownBytes.{Appends, Keeps, Consumes, IsAtEnd}
 use Rattle.std.proofs.KnownBytes.{Consumes-nil, Consumes-trans, Consumes-kept, Consumes-whole}
 use Rattle.bit_table_script.specs.Lines.{IsBeginning, lines, whole_lines}
@@ -22,7 +22,8 @@ pub reached_start : (answers : Answers) (given start : Option (List ℕ)) → an
 reached_start answers given start e =
     record { text = []; consumed = Consumes-nil given; going = going_start answers start e }
 
-pub reached_more : (answers next after : Answers) (given left rest start now new : Option (List ℕ)) (piece line longer : List ℕ)
+pub reached_more : (answers next after : Answers) (given left rest start now new : Option (List ℕ))
+    (piece line longer : List ℕ)
     → Reached answers next given left start now line → Consumes left rest piece
     → ((answers : Answers) (start : Option (List ℕ)) (text : List ℕ) → Going answers next start now text line
     → Going answers after start new (text ++ piece) longer)
@@ -34,10 +35,12 @@ reached_more answers next after given left rest start now new piece line longer 
 }
 
 -- nothing more came
-consumed_none : (given left rest : Option (List ℕ)) (text none : List ℕ) → Consumes given left text → Consumes left rest none
+consumed_none : (given left rest : Option (List ℕ)) (text none : List ℕ) → Consumes given left text
+    → Consumes left rest none
     → none ≡ [] → Consumes given rest text
 consumed_none given left rest text none h c e =
-    subst (Consumes given rest) (ap (λ l. text ++ l) e ∙ append-nil text) (Consumes-trans given left rest text none h c)
+    subst (Consumes given rest) (ap (λ l. text ++ l) e ∙ append-nil text)
+    (Consumes-trans given left rest text none h c)
 
 pub reached_end : (answers next : Answers) (given left rest start now new : Option (List ℕ)) (none line : List ℕ)
     → Reached answers next given left start now line → Consumes left rest none → none ≡ [] → IsAtEnd rest
@@ -68,7 +71,8 @@ reached_write answers next given left rest start now new piece line h c b f = re
   answered = inl (f answers start h.text h.going b);
 }
 
-pub reached_write_last : (answers next : Answers) (given left rest start now new : Option (List ℕ)) (none line : List ℕ)
+pub reached_write_last : (answers next : Answers) (given left rest start now new : Option (List ℕ))
+    (none line : List ℕ)
     → Reached answers next given left start now line → Consumes left rest none → none ≡ [] → IsAtEnd rest
     → AppendsPart now new (next (line ∷ [])) → StoppedByWrite answers given rest start new
 reached_write_last answers next given left rest start now new none line h c e z p = record {
@@ -88,7 +92,8 @@ reached_memory answers next given left rest start now new piece line h c f = rec
   answered = f answers start h.text h.going;
 }
 
-pub reached_memory_last : (answers next : Answers) (given left rest start now new : Option (List ℕ)) (none line : List ℕ)
+pub reached_memory_last : (answers next : Answers) (given left rest start now new : Option (List ℕ))
+    (none line : List ℕ)
     → Reached answers next given left start now line → Consumes left rest none → Keeps now new
     → StoppedByMemory answers given rest start new
 reached_memory_last answers next given left rest start now new none line h c k =
@@ -122,7 +127,8 @@ took_all (Some xs) (Some ys) n h =
     let c : xs ≡ h.bytes ++ ys = h.consumed in
     omega (arith, ap length c, length-append h.bytes ys)
 
-if_some_weaker : (o : Option (List ℕ)) (P Q : List ℕ → Type 0) → ((xs : List ℕ) → P xs → Q xs) → IfSome o P → IfSome o Q
+if_some_weaker : (o : Option (List ℕ)) (P Q : List ℕ → Type 0) → ((xs : List ℕ) → P xs → Q xs) → IfSome o P
+    → IfSome o Q
 if_some_weaker None P Q f h = tt
 if_some_weaker (Some xs) P Q f h = f xs h
 

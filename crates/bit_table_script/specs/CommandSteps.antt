@@ -9,7 +9,9 @@ use Rattle.bit_table_script.specs.Commands.{whole_numbers_in, cut_value}
 abbrev pub insert_with : ℕ → List (List ℕ) → Option Command
 insert_with count [] = None
 insert_with count (place ∷ values) =
-    option_and_then (λ p. option_and_then (λ vs. if length vs == count then Some (Insert p vs) else None) (whole_numbers_in values)) (number_in place)
+    option_and_then
+    (λ p. option_and_then (λ vs. if length vs == count then Some (Insert p vs) else None) (whole_numbers_in values))
+    (number_in place)
 
 -- whether there are so many words, and each spells a whole number
 abbrev pub have_values : ℕ → List (List ℕ) → Bool

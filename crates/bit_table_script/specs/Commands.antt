@@ -11,7 +11,8 @@ use Rattle.bit_table_script.specs.declared.command.Command.TheVariants.{Insert, 
 -- the whole numbers that words spell, where each spells one
 abbrev pub whole_numbers_in : List (List ℕ) → Option (List ℤ)
 whole_numbers_in [] = Some []
-whole_numbers_in (word ∷ rest) = option_and_then (λ v. option_map (λ vs. v ∷ vs) (whole_numbers_in rest)) (whole_number_in word)
+whole_numbers_in (word ∷ rest) =
+    option_and_then (λ v. option_map (λ vs. v ∷ vs) (whole_numbers_in rest)) (whole_number_in word)
 
 -- the insertion at a place of one value a field of the layout
 abbrev pub insert_from : LayoutShape → ℕ → List ℤ → Option Command
@@ -20,7 +21,8 @@ insert_from l p vs = if length vs == length l.fields then Some (Insert p vs) els
 -- `insert p v..`, behind its first word: a row number, and one value a field of the layout
 abbrev pub insert_in : LayoutShape → List (List ℕ) → Option Command
 insert_in l [] = None
-insert_in l (place ∷ values) = option_and_then (λ p. option_and_then (insert_from l p) (whole_numbers_in values)) (number_in place)
+insert_in l (place ∷ values) =
+    option_and_then (λ p. option_and_then (insert_from l p) (whole_numbers_in values)) (number_in place)
 
 -- `image`, behind its first word: nothing
 abbrev pub image_in : List (List ℕ) → Option Command

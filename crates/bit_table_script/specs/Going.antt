@@ -5,7 +5,8 @@ use Rattle.bit_table_script.specs.Lines.{lines, whole_lines}
 
 -- text was read and its whole lines were answered: line is what came behind the last of them, and `next` gives the
 -- answers to the lines that follow
-pub record Going (answers next : List (List ℕ) → List ℕ) (start now : Option (List ℕ)) (text line : List ℕ) : Type 0 where
+pub record Going (answers next : List (List ℕ) → List ℕ) (start now : Option (List ℕ)) (text line : List ℕ)
+    : Type 0 where
   pub cut : lines text ≡ whole_lines text ++ line ∷ []
   pub follows : (rest : List (List ℕ)) → answers (whole_lines text ++ rest) ≡ answers (whole_lines text) ++ next rest
   pub answered : Appends start now (answers (whole_lines text))

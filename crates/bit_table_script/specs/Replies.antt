@@ -1,5 +1,5 @@
 -- The text of answers.
-use Rattle.std.specs.Prelude.{ℕ, List, [], ◌∷◌, ◌++◌, codes}
+use Rattle.std.specs.Prelude.{ℕ, List, ◌++◌, codes}
 use Rattle.bit_table_layout.specs.Images.{image_line}
 use Rattle.bit_table_script.specs.declared.cause.Cause.{Cause}
 use Rattle.bit_table_script.specs.declared.reply.Reply.{Reply}

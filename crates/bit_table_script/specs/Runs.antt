@@ -5,7 +5,8 @@ use Rattle.bit_table_script.specs.Lines.{lines, whole_lines}
 use Rattle.bit_table_script.specs.Streams.{AppendsPart}
 
 -- the answers to the first lines of a text went out, each whole
-pub record AppendsFirstLines (answers : List (List ℕ) → List ℕ) (old new : Option (List ℕ)) (text : List ℕ) : Type 0 where
+pub record AppendsFirstLines (answers : List (List ℕ) → List ℕ) (old new : Option (List ℕ)) (text : List ℕ)
+    : Type 0 where
   pub done : List ℕ
   pub rest : List ℕ
   pub joined : text ≡ done ++ rest
@@ -22,7 +23,8 @@ pub record StoppedByRead (answers : List (List ℕ) → List ℕ) (given left ol
 pub record StoppedByWrite (answers : List (List ℕ) → List ℕ) (given left old new : Option (List ℕ)) : Type 0 where
   pub text : List ℕ
   pub consumed : Consumes given left text
-  pub answered : AppendsPart old new (answers (whole_lines text)) ⊎ (IsAtEnd left × AppendsPart old new (answers (lines text)))
+  pub answered : AppendsPart old new (answers (whole_lines text))
+      ⊎ (IsAtEnd left × AppendsPart old new (answers (lines text)))
 
 -- memory was wanted: the answers to the first of the lines that were read whole went out, each whole
 pub record StoppedByMemory (answers : List (List ℕ) → List ℕ) (given left old new : Option (List ℕ)) : Type 0 where

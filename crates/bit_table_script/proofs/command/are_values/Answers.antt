@@ -1,4 +1,4 @@
-use Rattle.std.proofs.Common.{◌≡◌, ◌∙◌, not, ap}
+use Rattle.std.proofs.Common.{◌∙◌, not, ap}
 use Rattle.bit_table_layout.specs.WordsLeft.{words_left}
 use Rattle.bit_table_script.proofs.CommandLemmas.{have_values-step}
 use Rattle.bit_table_script.proofs.command.are_values.Goals as goal
@@ -6,5 +6,6 @@ use Rattle.bit_table_script.proofs.command.are_values.Goals as goal
 pub loop-word-preserved : goal.loop-word-preserved
 loop-word-preserved c =
     c.loop-word.invariant
-    ∙ have_values-step c.loop-word.left (words_left c.loop-word.words) (words_left c.next.new.self) c.in-Some.word.now c.whole_number.result
+    ∙ have_values-step c.loop-word.left (words_left c.loop-word.words) (words_left c.next.new.self)
+    c.in-Some.word.now c.whole_number.result
     c.in-Some.ensures.steps c.if-left-eq0.false c.whole_number.ensures (c.is_none.ensures ∙ ap not c.if-is_none.false)

@@ -1,7 +1,6 @@
-use Rattle.std.proofs.Common.{◌≡◌, ◌↔◌, None, Some, IsErrOf, option_map, refl, sym, ap, ◌∙◌, subst, arith, rules}
+use Rattle.std.proofs.Common.{◌≡◌, None, Some, refl, sym, ap, ◌∙◌, arith}
 use Rattle.bit_table_layout.specs.WordsLeft.{words_left}
-use Rattle.bit_table_script.specs.Commands.{cut_off}
-use Rattle.bit_table_script.specs.CommandSteps.{insert_with, have_values, kept_values}
+use Rattle.bit_table_script.specs.CommandSteps.{insert_with}
 use Rattle.bit_table_script.proofs.CommandLemmas.{insert_refused-place, insert_refused-values, insert_kept, insert_is, have_values-some}
 use Rattle.bit_table_script.proofs.command.read_insert.Goals as goal
 use Rattle.bit_table_script.proofs.command.read_insert.Goals.{then-not-is_number-via-then-not-is_number, then-not-is_number-via-else-not-is_number+then-not-are_values}
@@ -13,7 +12,8 @@ returns-then-not-is_number-clause-refused c =
           insert_refused-place c.args.fields (words_left c.args.words) (words_left c.next.new.self) c.in-Some.place.now
           c.in-Some.ensures.steps (sym c.is_number.ensures ∙ w.if-not-is_number.true)
       | then-not-is_number-via-else-not-is_number+then-not-are_values w ↦
-          insert_refused-values c.args.fields (words_left c.args.words) (words_left c.next.new.self) c.in-Some.place.now
+          insert_refused-values c.args.fields (words_left c.args.words) (words_left c.next.new.self)
+          c.in-Some.place.now
           c.in-Some.ensures.steps (sym w.are_values.ensures ∙ w.if-not-are_values.true)
     ] in
     ((λ e. none), (λ e. refl))
@@ -32,8 +32,10 @@ returns-in_err-values-clause-refused c =
 pub returns-clause-ok : goal.returns-clause-ok
 returns-clause-ok c =
     insert_kept c.args.fields (words_left c.args.words) (words_left c.next.new.self) c.in-Some.place.now
-    c.number_up_to-place.result c.new.result c.in-Some.ensures.steps (sym c.is_number.ensures ∙ c.if-not-is_number.false)
-    (sym c.are_values.ensures ∙ c.if-not-are_values.false) (c.in_ok-values.ensures.ok ∙ ap Some (sym c.new.ensures)) (cc)
+    c.number_up_to-place.result c.new.result c.in-Some.ensures.steps
+    (sym c.is_number.ensures ∙ c.if-not-is_number.false)
+    (sym c.are_values.ensures ∙ c.if-not-are_values.false)
+    (c.in_ok-values.ensures.ok ∙ ap Some (sym c.new.ensures)) (cc)
 
 pub returns-clause-refused : goal.returns-clause-refused
 returns-clause-refused c =

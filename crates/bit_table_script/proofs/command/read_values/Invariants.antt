@@ -9,7 +9,8 @@ use Rattle.bit_table_script.proofs.command.read_values.Given as goal
 abbrev pub invariant-loop-word : goal.invariant-loop-word
 invariant-loop-word l = record {
   spelled : IsSome (whole_numbers_in (words_left l.words));
-  joined : kept_values (words_left l.fn.words) ≡ option_map (λ vs. l.values.items ++ vs) (kept_values (words_left l.words));
+  joined : kept_values (words_left l.fn.words) ≡ option_map (λ vs. l.values.items ++ vs)
+      (kept_values (words_left l.words));
 }
 
 abbrev pub decreases-loop-word : goal.decreases-loop-word

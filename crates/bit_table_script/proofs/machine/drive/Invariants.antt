@@ -9,7 +9,8 @@ invariant-reads g l =
     let answered = g.M.LineMachine.answers in
     record {
       reached : Reached (answered l.fn.machine) (answered l.machine)
-          (remaining l.fn.input.reader) (remaining l.input.reader) (contents l.fn.output.writer) (contents l.output.writer) l.line.items;
+          (remaining l.fn.input.reader) (remaining l.input.reader)
+          (contents l.fn.output.writer) (contents l.output.writer) l.line.items;
       took : TookAtLeast (remaining l.fn.input.reader) (remaining l.input.reader) l.counter;
       reading : l.input.failed ≡ false;
       writing : l.output.failed ≡ false;

@@ -8,7 +8,8 @@ use Rattle.bit_table_script.proofs.machine.feed.Goals.{then-byte-eq10+in_ok-carr
 pub returns-in_err-carry_out-clause-write : goal.returns-in_err-carry_out-clause-write
 returns-in_err-carry_out-clause-write g c = λ e answers start text h b.
     let p = err_from_is_err_and c.from_residual.result c.from_residual.ensures.1 in
-    feed_cut answers _ start _ _ text c.args.piece.now c.loop-byte.line.items c.loop-byte.byte-index c.loop-byte-test.true
+    feed_cut answers _ start _ _ text c.args.piece.now c.loop-byte.line.items c.loop-byte.byte-index
+    c.loop-byte-test.true
     (search rules) (c.loop-byte.invariant.going answers start text h) b
     (rw c.as_slice.ensures.value at (c.in_err-carry_out.ensures.write (let q = p.1 in let r = p.2 in cc)))
 

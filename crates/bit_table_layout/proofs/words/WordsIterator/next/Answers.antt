@@ -26,8 +26,8 @@ returns-clause-steps c =
     position_from_yields_List is_separator _ _ c.position-2.result c.position-2.ensures.ran
     (YieldsList-from_slice from cc)
     (λ x b q k. search (rules, tests)) in
-    words-next line from c.position.result c.position-2.result c.in-Some.start c.unwrap_or-end.result found c.in-Some.is
-    refl ended c.unwrap_or-end.ensures
+    words-next line from c.position.result c.position-2.result c.in-Some.start c.unwrap_or-end.result found
+    c.in-Some.is refl ended c.unwrap_or-end.ensures
 
 pub returns-clause-goes : goal.returns-clause-goes
 returns-clause-goes c =

@@ -1,10 +1,9 @@
-use Rattle.std.proofs.Common.{◌≡◌, ◌↔◌, None, Some, IfOk, IsErrOf, length, option_map, refl, sym, ap, ◌∙◌, subst}
+use Rattle.std.proofs.Common.{◌≡◌, ◌↔◌, None, Some, IfOk, IsErrOf, option_map, refl, sym, ap, ◌∙◌, subst}
 use Rattle.bit_table_layout.specs.Words.{words}
 use Rattle.bit_table_layout.specs.WordsLeft.{words_left}
 use Rattle.bit_table_script.specs.declared.cause.Cause.TheVariants.{Form}
 use Rattle.bit_table_script.specs.declared.cause.Fault.TheVariants.{Refused}
-use Rattle.bit_table_script.specs.Commands.{command_of, command_in, image_in, cut_off}
-use Rattle.bit_table_script.specs.CommandSteps.{insert_with}
+use Rattle.bit_table_script.specs.Commands.{command_of, cut_off}
 use Rattle.bit_table_script.proofs.CommandLemmas.{command_in-none, command_in-insert, command_in-image, command_in-other, cut_off-image_in}
 use Rattle.bit_table_script.proofs.command.Command.parse.Goals as goal
 
@@ -22,7 +21,8 @@ returns-then-eq-clause-ok c =
     command_in-insert c.args.layout.now c.fields.result.now (words c.args.line.now) (words_left c.next.new.self)
     c.in-Some.name.now c.as_slice.result.now c.eq.result (sym c.new-words.ensures ∙ c.in-Some.ensures.steps)
     c.as_slice.ensures c.eq.ensures c.if-eq.true c.fields.ensures.fields in
-    subst (λ o. IfOk c.read_insert.result (λ command. option_map cut_off o ≡ Some command)) (sym is) c.read_insert.ensures.ok
+    subst (λ o. IfOk c.read_insert.result (λ command. option_map cut_off o ≡ Some command)) (sym is)
+    c.read_insert.ensures.ok
 
 pub returns-then-eq-clause-refused : goal.returns-then-eq-clause-refused
 unfolding command_of

@@ -5,6 +5,7 @@ use Rattle.bit_table_script.proofs.streams.Output.put.Goals as goal
 
 pub loop-rest-preserved : goal.loop-rest-preserved
 loop-rest-preserved g c = record {
-  sent = has_sent_more _ _ _ _ _ _ c.in-Ok.count c.loop-rest.invariant.sent c.in-Ok.ensures.bytes (grind (arith, common_steps));
+  sent = has_sent_more _ _ _ _ _ _ c.in-Ok.count c.loop-rest.invariant.sent c.in-Ok.ensures.bytes
+      (grind (arith, common_steps));
   working = search rules;
 }

@@ -6,6 +6,7 @@ pub mod Masks
 pub mod OrderLaws
 pub mod Ranges
 pub mod Registers
+pub mod Text
 pub mod Verify
 pub mod VerifyLemmas
 pub mod VerifySteps

@@ -1,7 +1,7 @@
 //! Whether a candidate is a lawful order.
 
 ghost use Rattle.std.specs.Prelude.{◌≡◌, ℕ, ◌+◌, ◌-◌, ◌^◌, ◌<◌, ◌≤◌, ◌↔◌, IsOk, IfErr, IsTrue, MatchResult};
-ghost use Rattle.bit_addressing_order.specs.Law.{lower, upper, mask_from, IsIndexBound, IsLawful};
+ghost use Rattle.bit_addressing_order.specs.Law.{lower, upper, mask_from, masks_from, IsLawful};
 ghost use Rattle.bit_addressing_order.specs.Verify.{AreGoodIndices, IsGoodIndex, IsGoodMask, IsGoodRow, AreGoodRows, AreGoodEnds, AreGoodStarts, IsFirstFault};
 ghost use Rattle.bit_addressing_order.specs.VerifySteps.{AreWithin, IsIndexFault, IsRowFault, IsPairFault, IsEndFault, IsStartFault};
 
@@ -11,13 +11,14 @@ use crate::index::BitIdx;
 use crate::order::{OrderCandidate, mask_of_indices};
 use crate::register::BitRegister;
 
-/// Whether the candidate is lawful at words of this register: `Ok` exactly where it is, else the first
-/// law that it breaks.
+/// Whether the candidate is lawful at words of this register: `Ok` exactly where it is, else the
+/// first law that it breaks.
 ///
-/// For each index, ascending: that its selector is its position alone, then that no index below has that
-/// position. Then the masks: between each two present bounds, the first ascending and for each the second
-/// ascending; then up to each end with no first bound; then from each index with no second bound; then
-/// with neither. In bitvec the call is told whether to print, and panics at the first fault.
+/// For each index, ascending: that its selector is its position alone, then that no index below has
+/// that position. Then the masks: between each two present bounds, the first ascending and for each
+/// the second ascending; then up to each end with no first bound; then from each index with no
+/// second bound; then with neither. In bitvec the call is told whether to print, and panics at the
+/// first fault.
 #[tactic(auto, using(crate::specs::VerifyLemmas::first_faults, crate::specs::VerifyLemmas::lawful_from_checks))]
 pub fn verify_for_type<R: BitRegister, C: OrderCandidate<R>>() -> Result<(), OrderFault<R>>
     ensures lawful { IsOk result ↔ IsLawful R.BITS C.position C.selector C.masked }
@@ -151,7 +152,7 @@ fn wanted_mask<R: BitRegister, C: OrderCandidate<R>>(
     upto: &Option<BitEnd<R>>,
 ) -> R
     requires { lower from.now ≤ upper R.BITS upto.now }
-    ensures { R.number result ≡ mask_from C.position (lower from.now) (upper R.BITS upto.now - lower from.now) }
+    ensures { R.number result ≡ masks_from R.BITS C.position from.now upto.now }
 {
     let first = match from {
         Some(index) => index.into_inner(),

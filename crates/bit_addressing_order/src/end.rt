@@ -9,8 +9,8 @@ use crate::ranges::EndRange;
 use crate::register::BitRegister;
 use std::marker::{Model, PhantomData};
 
-/// The end of a range of indices, from 0 to `BITS`: it says up to before which index the range goes.
-/// A contract sees it as that number.
+/// The end of a range of indices, from 0 to `BITS`: it says up to before which index the range
+/// goes. A contract sees it as that number.
 #[derive_where(Clone, Copy, PartialEq, Eq, PartialOrd, Ord, Hash)]
 pub struct BitEnd<R: BitRegister> {
     end: u8,

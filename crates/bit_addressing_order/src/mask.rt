@@ -73,7 +73,8 @@ impl<R: BitRegister> BitMask<R> {
     pub fn sum<I: Iterator<Item = BitSel<R>> + Drop>(selectors: I) -> BitMask<R>
         requires can { I.can_next selectors }
         requires ends { IsFinite (I.remaining selectors) }
-        ensures { (items : _) × Drains I.next_gives selectors items × IsUnionOf (R.number result) (map R.number items) }
+        ensures { (items : _) × Drains I.next_gives selectors items
+            × IsUnionOf (R.number result) (map R.number items) }
     {
         let mut sum = R::ZERO;
         for selector in selectors {
@@ -95,7 +96,8 @@ impl<R: BitRegister> BitMask<R> {
     /// Whether the selector's position is in the mask.
     #[tactic(auto, using(crate::specs::Digits::test_of_one))]
     pub fn test(&self, selector: BitSel<R>) -> bool
-        ensures { (p : ℕ) → IsOneBit (R.number selector) p → IsTrue result ↔ (bit_at (R.number self.now) p ≡ 1) }
+        ensures { (p : ℕ) → IsOneBit (R.number selector) p
+            → IsTrue result ↔ (bit_at (R.number self.now) p ≡ 1) }
     {
         let selected = self.into_inner().and(selector.into_inner());
         !selected.equals(R::ZERO)
@@ -134,7 +136,8 @@ impl<R: BitRegister> Not for BitMask<R> {
 impl<R: BitRegister> BitAnd<R> for BitMask<R> {
     type Output = BitMask<R>;
 
-    ghost bitand_gives = { λ mask word result. R.number result ≡ bit_and (R.number mask) (R.number word) };
+    ghost bitand_gives = { λ mask word result.
+        R.number result ≡ bit_and (R.number mask) (R.number word) };
 
     fn bitand(self, word: R) -> BitMask<R> {
         BitMask::new(self.into_inner().and(word))
@@ -145,7 +148,8 @@ impl<R: BitRegister> BitAnd<R> for BitMask<R> {
 impl<R: BitRegister> BitOr<R> for BitMask<R> {
     type Output = BitMask<R>;
 
-    ghost bitor_gives = { λ mask word result. R.number result ≡ bit_or (R.number mask) (R.number word) };
+    ghost bitor_gives = { λ mask word result.
+        R.number result ≡ bit_or (R.number mask) (R.number word) };
 
     fn bitor(self, word: R) -> BitMask<R> {
         BitMask::new(self.into_inner().or(word))

@@ -13,7 +13,8 @@ pub fn bits_of<R: BitRegister>() -> usize
     R::BITS as usize
 }
 
-/// How many words hold `bits` bits: the least number of them. No step of it wraps, whatever `bits` is.
+/// How many words hold `bits` bits: the least number of them. No step of it wraps, whatever `bits`
+/// is.
 #[tactic(auto, using(crate::specs::Registers::div_ceil_holds, crate::specs::Registers::div_ceil_least))]
 pub fn elts<R: BitRegister>(bits: usize) -> usize
     ensures enough { bits ≤ result * R.BITS }

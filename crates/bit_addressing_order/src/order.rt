@@ -31,8 +31,8 @@ pub trait Positions<R: BitRegister> {
     }
 }
 
-/// What may be an order: positions, selectors and masks, each a function of its arguments alone, with
-/// no law.
+/// What may be an order: positions, selectors and masks, each a function of its arguments alone,
+/// with no law.
 ///
 /// A candidate writes `selector_of` and `mask_of`, over plain numbers and words, perhaps by
 /// `select_from_at` and `mask_from_at`; its users call `select` and `mask`. Whether it is lawful is
@@ -48,7 +48,8 @@ pub trait OrderCandidate<R: BitRegister>: Positions<R> {
         ensures value { R.number result ≡ selector index }
         ensures one { IsSelector R.BITS (R.number result) };
 
-    /// The mask of the indices from one bound up to before another. An absent bound is 0, or `BITS`.
+    /// The mask of the indices from one bound up to before another. An absent bound is 0, or
+    /// `BITS`.
     fn mask_of(from: Option<u8>, upto: Option<u8>) -> R
         requires order { lower from ≤ upper R.BITS upto }
         requires within { upper R.BITS upto ≤ R.BITS }
@@ -61,8 +62,8 @@ pub trait OrderCandidate<R: BitRegister>: Positions<R> {
         BitSel::new_unchecked(Self::selector_of(index.into_inner()))
     }
 
-    /// The mask of the indices from `from` up to before `upto`, which is not below it. An absent bound
-    /// is the least index, or the greatest end.
+    /// The mask of the indices from `from` up to before `upto`, which is not below it. An absent
+    /// bound is the least index, or the greatest end.
     final fn mask(from: Option<BitIdx<R>>, upto: Option<BitEnd<R>>) -> BitMask<R>
         requires { lower from ≤ upper R.BITS upto }
         ensures value { R.number result ≡ masked from upto }
@@ -85,9 +86,9 @@ pub trait OrderCandidate<R: BitRegister>: Positions<R> {
 
 /// A lawful order: a candidate whose impl proves the laws.
 ///
-/// `at` is one to one from the indices onto the positions, `select` holds the digit of that position
-/// alone, and `mask` exactly the digits of its indices. In bitvec the trait is unsafe, its laws are
-/// comments, and `select` and `mask` have bodies of their own.
+/// `at` is one to one from the indices onto the positions, `select` holds the digit of that
+/// position alone, and `mask` exactly the digits of its indices. In bitvec the trait is unsafe, its
+/// laws are comments, and `select` and `mask` have bodies of their own.
 pub trait BitOrder<R: BitRegister>: OrderCandidate<R> {
     ghost lawful: { IsLawful R.BITS Self.position Self.selector Self.masked };
 }
@@ -185,8 +186,8 @@ pub fn select_from_at<R: BitRegister, P: Positions<R>>(index: u8) -> R
     P::at(BitIdx::new_unchecked(index)).select().into_inner()
 }
 
-/// The mask of the indices from one bound up to before another, made from their positions alone, one
-/// after another: for an order's own `mask_of`. An absent bound is 0, or `BITS`.
+/// The mask of the indices from one bound up to before another, made from their positions alone,
+/// one after another: for an order's own `mask_of`. An absent bound is 0, or `BITS`.
 pub fn mask_from_at<R: BitRegister, P: Positions<R>>(from: Option<u8>, upto: Option<u8>) -> R
     requires order { lower from ≤ upper R.BITS upto }
     requires within { upper R.BITS upto ≤ R.BITS }
@@ -209,8 +210,8 @@ pub(crate) fn mask_of_indices<R: BitRegister, P: Positions<R>>(first: u8, end: u
     mask
 }
 
-/// The masks of two ranges of indices, the second not before the end of the first. They have no digit
-/// in common, whatever the order.
+/// The masks of two ranges of indices, the second not before the end of the first. They have no
+/// digit in common, whatever the order.
 pub fn disjoint_masks<R: BitRegister, O: BitOrder<R>>(
     from: Option<BitIdx<R>>,
     upto: Option<BitEnd<R>>,

@@ -1,8 +1,9 @@
 //! The iterators over the places of a word, from both ends.
 
-ghost use Rattle.std.specs.Prelude.{◌≡◌, ◌+◌, ◌-◌, ◌≤◌, ◌^◌, map, ⊤};
+ghost use Rattle.std.specs.Prelude.{◌≡◌, ◌+◌, ◌-◌, ◌≤◌, ◌^◌, length, map, IfSome, Some, ⊤};
 ghost use Rattle.std.specs.List.{range_with_len};
-ghost use Rattle.std.specs.Iterator.{YieldsFirst, YieldsLast, YieldsFirstBy, YieldsLastBy, item_count};
+ghost use Rattle.std.specs.Iterator.{YieldsFirst, YieldsLast, YieldsFirstBy, YieldsLastBy, item_count, at_most, UpTo};
+ghost use Rattle.std.specs.Iterator.SizeHint.{IsWithinCount};
 
 use crate::end::BitEnd;
 use crate::index::BitIdx;
@@ -75,7 +76,11 @@ impl<R: BitRegister> Iterator for IndexRange<R> {
         Some(BitIdx::new_unchecked(index))
     }
 
-    fn size_hint(&self) -> (usize, Option<usize>) {
+    fn size_hint(&self) -> (usize, Option<usize>)
+        ensures lower { IsWithinCount result.0 (at_most (length self.now)) }
+        ensures upper { IfSome result.1 (UpTo (at_most (length self.now))) }
+        ensures exact { result ≡ (length self.now, Some (length self.now)) }
+    {
         let len = self.len();
         (len, Some(len))
     }
@@ -104,8 +109,8 @@ impl<R: BitRegister> ExactSizeIterator for IndexRange<R> {
 
 impl<R: BitRegister> FusedIterator for IndexRange<R> {}
 
-/// The ends of ranges from one index on, ascending; a contract sees it as the list of those that are
-/// left.
+/// The ends of ranges from one index on, ascending; a contract sees it as the list of those that
+/// are left.
 ///
 /// It is exact in length, gives each end once from either end, and then `None` for good.
 #[derive(Drop)]
@@ -170,7 +175,11 @@ impl<R: BitRegister> Iterator for EndRange<R> {
         Some(BitEnd::new_unchecked(end))
     }
 
-    fn size_hint(&self) -> (usize, Option<usize>) {
+    fn size_hint(&self) -> (usize, Option<usize>)
+        ensures lower { IsWithinCount result.0 (at_most (length self.now)) }
+        ensures upper { IfSome result.1 (UpTo (at_most (length self.now))) }
+        ensures exact { result ≡ (length self.now, Some (length self.now)) }
+    {
         let len = self.len();
         (len, Some(len))
     }
@@ -250,7 +259,11 @@ impl<R: BitRegister> Iterator for SelectorRange<R> {
         Some(BitPos::new_unchecked(position.into_inner()).select())
     }
 
-    fn size_hint(&self) -> (usize, Option<usize>) {
+    fn size_hint(&self) -> (usize, Option<usize>)
+        ensures lower { IsWithinCount result.0 (at_most (length self.now)) }
+        ensures upper { IfSome result.1 (UpTo (at_most (length self.now))) }
+        ensures exact { result ≡ (length self.now, Some (length self.now)) }
+    {
         let len = self.len();
         (len, Some(len))
     }

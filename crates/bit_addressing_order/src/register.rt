@@ -57,6 +57,10 @@ pub trait BitRegister: Copy {
     fn value(self) -> u128
         ensures { result ≡ number self };
 
+    /// The word of the lowest `BITS` digits of a number: the higher digits are dropped.
+    fn from_value(value: u128) -> Self
+        ensures { number result ≡ value % 2 ^ BITS };
+
     /// The digits that are 1 in both words.
     fn and(self, other: Self) -> Self
         ensures { number result ≡ bit_and (number self) (number other) };

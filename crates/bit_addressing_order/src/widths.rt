@@ -65,6 +65,10 @@ impl BitRegister for u8 {
         self as u128
     }
 
+    fn from_value(value: u128) -> u8 {
+        (value % (1 << 8)) as u8
+    }
+
     fn and(self, other: u8) -> u8 {
         self & other
     }
@@ -153,6 +157,10 @@ impl BitRegister for u16 {
         self as u128
     }
 
+    fn from_value(value: u128) -> u16 {
+        (value % (1 << 16)) as u16
+    }
+
     fn and(self, other: u16) -> u16 {
         self & other
     }
@@ -239,6 +247,10 @@ impl BitRegister for u32 {
 
     fn value(self) -> u128 {
         self as u128
+    }
+
+    fn from_value(value: u128) -> u32 {
+        (value % (1 << 32)) as u32
     }
 
     fn and(self, other: u32) -> u32 {
@@ -330,6 +342,10 @@ impl BitRegister for u64 {
         self as u128
     }
 
+    fn from_value(value: u128) -> u64 {
+        (value % (1 << 64)) as u64
+    }
+
     fn and(self, other: u64) -> u64 {
         self & other
     }
@@ -417,6 +433,10 @@ impl BitRegister for usize {
 
     fn value(self) -> u128 {
         self as u128
+    }
+
+    fn from_value(value: u128) -> usize {
+        (value % (1 << 64)) as usize
     }
 
     fn and(self, other: usize) -> usize {

@@ -1,5 +1,5 @@
 -- A line with a word in a table: what it is answered, and what state it leaves.
-use Rattle.std.proofs.Common.{◌≡◌, ℕ, List, Option, Some, None, Ok, Err, Result, IfOk, OnOk, MatchOption, IsOkUnless, sym, ap, ◌∙◌, refl}
+use Rattle.std.proofs.Common.{◌≡◌, ℕ, List, Option, Some, None, Ok, Err, Result, IfOk, OnOk, sym, ap, ◌∙◌}
 use Rattle.std.specs.Prelude.{option_map}
 use Rattle.bit_table_script.specs.declared.cause.Cause.{Cause}
 use Rattle.bit_table_script.specs.declared.command.Command.{Command}
@@ -10,7 +10,7 @@ use Rattle.bit_table.specs.Tables.{TableShape, IsTable, state_with}
 use Rattle.bit_table.specs.Causes.{cause_in, spelled_cause}
 use Rattle.bit_table.specs.Edits.{edit, reply_to}
 use Rattle.bit_table.specs.Scripts.{answer_by, after_by, command_answer, command_edit}
-use Rattle.bit_table.proofs.CutLemmas.{IsSpelled, is_spelled, cause_in-cut_off, cut_off-accepted}
+use Rattle.bit_table.proofs.CutLemmas.{is_spelled, cause_in-cut_off, cut_off-accepted}
 
 pub if_ok_weaker : {T E : Type 0} (r : Result T E) (P Q : T → Type 0) → ((x : T) → P x → Q x) → IfOk r P → IfOk r Q
 if_ok_weaker (Ok x) P Q f h = f x h
@@ -20,8 +20,8 @@ pub on_ok_always : {T E : Type 0} (r : Result T E) (P : Type 0) → P → OnOk r
 on_ok_always (Ok x) P h = h
 on_ok_always (Err e) P h = tt
 
-pub if_and_on_ok : {T E : Type 0} (r : Result T E) (P Q : T → Type 0) (S : Type 0) → ((x : T) → P x → S → Q x) → IfOk r P → OnOk r S
-    → IfOk r Q
+pub if_and_on_ok : {T E : Type 0} (r : Result T E) (P Q : T → Type 0) (S : Type 0) → ((x : T) → P x → S → Q x)
+    → IfOk r P → OnOk r S → IfOk r Q
 if_and_on_ok (Ok x) P Q S f h k = f x h k
 if_and_on_ok (Err e) P Q S f h k = tt
 
@@ -44,18 +44,20 @@ is_read t line kept cause h e c =
     }
 
 -- an accepted line spells the very command that is kept
-whole_is : (t : TableShape) (line : List ℕ) (kept : Command) → IsTable t → (h : IsRead t line kept None) → h.whole ≡ kept
+whole_is : (t : TableShape) (line : List ℕ) (kept : Command) → IsTable t → (h : IsRead t line kept None)
+    → h.whole ≡ kept
 whole_is t line kept lawful h =
     sym (cut_off-accepted t lawful h.whole (sym (ap (spelled_cause t) h.is) ∙ h.answered)) ∙ h.cut
 
-pub accepted_text : (t : TableShape) (line : List ℕ) (kept : Command) (reply : Reply) → IsTable t → IsRead t line kept None
-    → reply ≡ reply_to t kept
+pub accepted_text : (t : TableShape) (line : List ℕ) (kept : Command) (reply : Reply)
+    → IsTable t → IsRead t line kept None → reply ≡ reply_to t kept
     → reply_text reply ≡ answer_by (spelled_cause t (command_of t.layout line)) (Some t) line
 accepted_text t line kept reply lawful h e =
     ap reply_text (e ∙ ap (reply_to t) (sym (whole_is t line kept lawful h))) ∙ ap (command_answer t) (sym h.is)
     ∙ ap (λ c. answer_by c (Some t) line) (sym h.answered)
 
-pub accepted_state : (t new : TableShape) (line : List ℕ) (kept : Command) → IsTable t → IsRead t line kept None → new ≡ edit t kept
+pub accepted_state : (t new : TableShape) (line : List ℕ) (kept : Command)
+    → IsTable t → IsRead t line kept None → new ≡ edit t kept
     → state_with new ≡ after_by (spelled_cause t (command_of t.layout line)) (state_with t) line
 accepted_state t new line kept lawful h e =
     ap state_with (e ∙ ap (edit t) (sym (whole_is t line kept lawful h)) ∙ ap (command_edit t) (sym h.is))

@@ -1,5 +1,5 @@
 -- What it says of an insertion that no cause refuses it.
-use Rattle.std.proofs.Common.{◌≡◌, ℕ, ◌+◌, ◌*◌, ◌<◌, ◌≤◌, ◌==◌, not, nat_lt, [], ◌∷◌, Bool, true, false, ℤ, List, length, Option, Some, None, sym, ap, ◌∙◌, arith, refl, subst, MatchOption}
+use Rattle.std.proofs.Common.{◌≡◌, ℕ, ◌+◌, ◌*◌, ◌≤◌, ◌==◌, not, nat_lt, [], ◌∷◌, Bool, true, false, ℤ, List, length, Option, None, sym, ap, ◌∙◌, arith, refl, subst, MatchOption}
 use Rattle.std.proofs.lemmas.Bool.Decides.{nat_tests}
 use Rattle.bit_table_layout.specs.declared.layout.TheConstants.{MAX_BITS}
 use Rattle.bit_table_layout.specs.Layouts.{LayoutShape, row_width}
@@ -21,8 +21,8 @@ pub record IsAccepted (l : LayoutShape) (n p : ℕ) (vs : List ℤ) : Type 0 whe
   pub room : (n + 1) * row_width l.fields ≤ MAX_BITS
 
 no_cause : (form row value full : Bool)
-    → first_of ((form, refusal.Form) ∷ (false, refusal.Field) ∷ (row, refusal.Row) ∷ (value, refusal.Value) ∷ (full, refusal.Full)
-      ∷ (false, refusal.Image) ∷ (false, refusal.Kept) ∷ []) ≡ None
+    → first_of ((form, refusal.Form) ∷ (false, refusal.Field) ∷ (row, refusal.Row) ∷ (value, refusal.Value)
+    ∷ (full, refusal.Full) ∷ (false, refusal.Image) ∷ (false, refusal.Kept) ∷ []) ≡ None
     → (form ≡ false) × (row ≡ false) × (value ≡ false) × (full ≡ false)
 no_cause true row value full e = cc
 no_cause false true value full e = cc
@@ -49,8 +49,8 @@ is_accepted l n p vs e =
     }
 
 -- the causes of a table are those of the layout and the number of rows that its packed bits hold
-pub cause_in-table_from : (l : LayoutShape) (n : ℕ) (bits : List Bool) (t : TableShape) (c : Command) → table_from l n bits ≡ t
-    → cause_in t c ≡ command_cause l n false c
+pub cause_in-table_from : (l : LayoutShape) (n : ℕ) (bits : List Bool) (t : TableShape) (c : Command)
+    → table_from l n bits ≡ t → cause_in t c ≡ command_cause l n false c
 cause_in-table_from l n bits t c e =
     sym (ap (λ s. cause_in s c) e) ∙ ap (λ m. command_cause l m false c) (length-rows_from l n bits)
 
@@ -58,7 +58,9 @@ cause_in-table_from l n bits t c e =
 pub image_accepted : (t : TableShape) → IsTable t → cause_in t Image ≡ None
 unfolding command_cause
 image_accepted t h =
-    let fits : nat_lt MAX_BITS (length t.rows * row_width t.layout.fields) ≡ false = let room = h.room in grind (arith, nat_tests) in
+    let fits : nat_lt MAX_BITS (length t.rows * row_width t.layout.fields) ≡ false =
+    let room = h.room in
+    grind (arith, nat_tests) in
     rw fits refl
 
 -- what holds where no cause refuses

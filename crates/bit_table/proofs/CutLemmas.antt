@@ -1,9 +1,7 @@
 -- A command that is kept cut off is refused, edits and answers as the one that its words spell.
-use Rattle.std.proofs.Common.{◌≡◌, ℕ, ◌+◌, ◌-◌, ◌*◌, ◌^◌, ◌<◌, ◌≤◌, ◌==◌, not, nat_lt, is_some, Bool, true, false, ℤ, List, length, map, Option, Some, None, Ok, Err, Result, MatchOption, IsOkUnless, sym, ap, ◌∙◌, arith, refl, subst}
+use Rattle.std.proofs.Common.{◌≡◌, ◌-◌, ◌*◌, ◌^◌, ◌<◌, ◌≤◌, length, map, Option, Some, None, Ok, Err, Result, MatchOption, IsOkUnless, arith, refl, subst}
 use Rattle.std.specs.Prelude.{option_map}
-use Rattle.bit_table_layout.specs.declared.layout.TheConstants.{MAX_BITS}
-use Rattle.bit_table_layout.specs.Layouts.{LayoutShape, row_width}
-use Rattle.bit_table_layout.specs.Rows.{take_all}
+use Rattle.bit_table_layout.specs.Layouts.{row_width}
 use Rattle.bit_table_layout.proofs.RowLemmas.{fields_lawful, some_row_bits}
 use Rattle.bit_table_script.specs.declared.cause.Cause.{Cause}
 use Rattle.bit_table_script.specs.declared.cause.Fault.{Fault}
@@ -11,13 +9,10 @@ use Rattle.bit_table_script.specs.declared.cause.Fault.TheVariants.{Refused, Mem
 use Rattle.bit_table_script.specs.declared.command.Command.{Command}
 use Rattle.bit_table_script.specs.declared.command.Command.TheVariants.{Insert, Image}
 use Rattle.bit_table_script.specs.declared.reply.Reply.{Reply}
-use Rattle.bit_table_script.specs.Commands.{command_of, cut_off, cut_place, cut_value}
-use Rattle.bit_table_script.specs.Replies.{reply_text, refusal_text}
+use Rattle.bit_table_script.specs.Commands.{cut_off, cut_place, cut_value}
 use Rattle.bit_table_script.proofs.CallerLemmas.{take_all-cut_value, cut_value-all_taken, length-cut_value, cut_place-below, cut_place-within}
-use Rattle.bit_table.specs.Tables.{TableShape, IsTable, State, state_with}
-use Rattle.bit_table.specs.Causes.{command_cause, cause_in, spelled_cause, line_cause}
-use Rattle.bit_table.specs.Edits.{edit, reply_to}
-use Rattle.bit_table.specs.Scripts.{answer_by, after_by}
+use Rattle.bit_table.specs.Tables.{TableShape, IsTable}
+use Rattle.bit_table.specs.Causes.{command_cause, cause_in}
 use Rattle.bit_table.proofs.CauseLemmas.{is_accepted}
 
 -- a table has fewer rows than the greatest row number that a command keeps
@@ -28,12 +23,13 @@ few_rows t h =
     let room = h.room in
     omega (arith, e, room)
 
-
 -- what a command keeps is refused for the causes for which its words are
 pub cause_in-cut_off : (t : TableShape) → IsTable t → (c : Command) → cause_in t (cut_off c) ≡ cause_in t c
 unfolding command_cause
 cause_in-cut_off t h (Insert p vs) =
-    rw (length-cut_value vs, cut_place-below (length t.rows) p (few_rows t h), take_all-cut_value t.layout.fields vs (fields_lawful t.layout h.layout)) refl
+    let place = cut_place-below (length t.rows) p (few_rows t h) in
+    let values = take_all-cut_value t.layout.fields vs (fields_lawful t.layout h.layout) in
+    rw (length-cut_value vs, place, values) refl
 cause_in-cut_off t h Image = refl
 
 -- a command that is not refused is kept as it is spelled
@@ -43,7 +39,8 @@ cut_off-accepted t h (Insert p vs) e =
     let a = is_accepted t.layout (length t.rows) p vs e in
     let few = few_rows t h in
     let place : cut_place p ≡ p = let low = a.place in cut_place-within p (omega (arith, low, few)) in
-    let values : map cut_value vs ≡ vs = cut_value-all_taken t.layout.fields vs (fields_lawful t.layout h.layout) a.taken in
+    let values : map cut_value vs ≡ vs =
+    cut_value-all_taken t.layout.fields vs (fields_lawful t.layout h.layout) a.taken in
     cc
 cut_off-accepted t h Image e = refl
 
@@ -53,7 +50,8 @@ pub record IsSpelled (spelled : Option Command) (kept : Command) : Type 0 where
   pub is : spelled ≡ Some whole
   pub cut : cut_off whole ≡ kept
 
-pub is_spelled : (spelled : Option Command) (kept : Command) → option_map cut_off spelled ≡ Some kept → IsSpelled spelled kept
+pub is_spelled : (spelled : Option Command) (kept : Command) → option_map cut_off spelled ≡ Some kept
+    → IsSpelled spelled kept
 is_spelled None kept e = absurd (cc)
 is_spelled (Some c) kept e = record { whole = c; is = refl; cut = cc }
 

@@ -1,8 +1,7 @@
 -- A row is put in among the rows that packed bits hold.
-use Rattle.std.proofs.Common.{◌≡◌, ℕ, ◌+◌, ◌-◌, ◌*◌, ◌≤◌, Bool, true, ℤ, List, [], ◌∷◌, ◌++◌, length, take, drop, sym, ap, ◌∙◌, subst, arith, refl, length-append, None}
+use Rattle.std.proofs.Common.{◌≡◌, ℕ, ◌+◌, ◌*◌, ◌≤◌, Bool, true, ℤ, List, ◌++◌, length, take, drop, sym, ap, ◌∙◌, arith, None}
 use Rattle.std.proofs.Math.Nat.{mul-le-mul_right}
 use Rattle.std.proofs.lemmas.Grind.{common_steps}
-use Rattle.bit_table_layout.specs.declared.layout.TheConstants.{MAX_BITS}
 use Rattle.bit_table_layout.specs.Layouts.{LayoutShape, is_layout, row_width}
 use Rattle.bit_table_layout.specs.Rows.{numbers_bits}
 use Rattle.bit_table_layout.proofs.RowLemmas.{rows_from-insert}
@@ -20,8 +19,8 @@ rows_le p n w most h room = let e : p * w ≤ n * w = mul-le-mul_right w h in om
 abbrev pub with_row : LayoutShape → List Bool → ℕ → List ℤ → List Bool
 with_row l bits at vs = take at bits ++ (numbers_bits l.rule l.fields vs ++ drop at bits)
 
-pub length-with_row : (l : LayoutShape) (bits : List Bool) (at : ℕ) (vs : List ℤ) → length l.fields ≡ length vs → at ≤ length bits
-    → length (with_row l bits at vs) ≡ length bits + row_width l.fields
+pub length-with_row : (l : LayoutShape) (bits : List Bool) (at : ℕ) (vs : List ℤ)
+    → length l.fields ≡ length vs → at ≤ length bits → length (with_row l bits at vs) ≡ length bits + row_width l.fields
 length-with_row l bits at vs e h =
     let row = length-numbers_bits_counted l.rule l.fields vs e in
     grind (arith, common_steps, row)
@@ -33,7 +32,8 @@ pub edited : (l : LayoutShape) (n p : ℕ) (bits new : List Bool) (vs : List ℤ
     → table_from l (n + 1) new ≡ edit t (Insert p vs)
 edited l n p bits new vs t lawful fits e a made =
     ap (table_from l (n + 1)) made
-    ∙ ap (λ rows. record { layout = l; rows = rows; kept = None }) (rows_from-insert l n p bits vs lawful a.taken a.place fits)
+    ∙ ap (λ rows. record { layout = l; rows = rows; kept = None })
+    (rows_from-insert l n p bits vs lawful a.taken a.place fits)
     ∙ ap (λ s. edit s (Insert p vs)) e
 
 -- how many bits there are after an insertion

@@ -1,5 +1,5 @@
 -- Known scripts and their answers, computed: a wrong rule among the definitions does not check.
-use Rattle.std.proofs.Common.{◌≡◌, [], codes, refl}
+use Rattle.std.proofs.Common.{◌≡◌, [], ◌++◌, codes, refl}
 use Rattle.std.specs.Prelude.{⊤}
 use Rattle.std.specs.Fmt.{digits}
 use Rattle.hex.proofs.OnLiterals.{hex_on_literals}
@@ -28,7 +28,8 @@ unfolding scripts_on_literals
 script-one_row = refl
 
 -- two rows, without a last line end
-script-two_rows : script_answer (codes "low a:u3 b:i4\ninsert 0 5 -1\ninsert 1 2 3\nimage") ≡ codes "ok\nok\nok\n2 7d0d\n"
+script-two_rows : script_answer (codes "low a:u3 b:i4\ninsert 0 5 -1\ninsert 1 2 3\nimage")
+    ≡ codes "ok\nok\nok\n2 7d0d\n"
 unfolding scripts_on_literals
 script-two_rows = refl
 
@@ -38,16 +39,19 @@ unfolding scripts_on_literals
 script-no_row = refl
 
 -- a field that crosses bytes
-script-wide : script_answer (codes "low p:u3 q:u64\ninsert 0 7 18446744073709551615\nimage\n") ≡ codes "ok\nok\n1 ffffffffffffffff07\n"
+script-wide : script_answer (codes "low p:u3 q:u64\ninsert 0 7 18446744073709551615\nimage\n")
+    ≡ codes "ok\nok\n1 ffffffffffffffff07\n"
 unfolding scripts_on_literals
 script-wide = refl
 
 -- lines that are no layout leave the next line to be tried as one; behind a layout line they are no commands
-script-no_layout : script_answer (codes "insert 0 1\nlow\nlow a:u65\n") ≡ codes "refused layout\nrefused layout\nrefused layout\n"
+script-no_layout : script_answer (codes "insert 0 1\nlow\nlow a:u65\n")
+    ≡ codes "refused layout\nrefused layout\nrefused layout\n"
 unfolding scripts_on_literals
 script-no_layout = refl
 
-script-no_layout_then_one : script_answer (codes "low a:u1 a:u1\nlow a:u01\nlow a:u1\n") ≡ codes "refused layout\nrefused layout\nok\n"
+script-no_layout_then_one : script_answer (codes "low a:u1 a:u1\nlow a:u01\nlow a:u1\n")
+    ≡ codes "refused layout\nrefused layout\nok\n"
 unfolding scripts_on_literals
 script-no_layout_then_one = refl
 
@@ -56,12 +60,14 @@ unfolding scripts_on_literals
 script-second_layout = refl
 
 -- the first cause is answered, and a refused line changes nothing
-script-refused : script_answer (codes "low a:u3 b:i4\ninsert 0 5 -1\ninsert 1 2 3\ninsert 3 8 0\ninsert 0 8 0\ninsert 0 5\ninsert 0 +1 0\nimage\n")
+script-refused : script_answer (codes "low a:u3 b:i4\ninsert 0 5 -1\ninsert 1 2 3\n"
+    ++ codes "insert 3 8 0\ninsert 0 8 0\ninsert 0 5\ninsert 0 +1 0\nimage\n")
     ≡ codes "ok\nok\nok\nrefused row\nrefused value\nrefused form\nrefused form\n2 7d0d\n"
 unfolding scripts_on_literals
 script-refused = refl
 
 -- an insertion goes before the row of its place
-script-before : script_answer (codes "low a:u3 b:i4\ninsert 0 2 3\ninsert 0 5 -1\nimage\n") ≡ codes "ok\nok\nok\n2 7d0d\n"
+script-before : script_answer (codes "low a:u3 b:i4\ninsert 0 2 3\ninsert 0 5 -1\nimage\n")
+    ≡ codes "ok\nok\nok\n2 7d0d\n"
 unfolding scripts_on_literals
 script-before = refl

@@ -1,5 +1,5 @@
 -- A table as its packed bits give it back.
-use Rattle.std.proofs.Common.{◌≡◌, ℕ, ◌+◌, ◌*◌, ◌<◌, ◌≤◌, true, false, List, [], ◌∷◌, ◌++◌, Bool, length, take, drop, get_or, cond, None, sym, ap, ◌∙◌, subst, arith, refl, ℤ, length-append}
+use Rattle.std.proofs.Common.{◌≡◌, ℕ, ◌+◌, ◌*◌, ◌≤◌, true, List, [], ◌∷◌, Bool, length, None, sym, ap, ◌∙◌, subst, arith, refl, ℤ, length-append}
 use Rattle.std.proofs.lemmas.List.Sums.{sum_by-cons}
 use Rattle.bit_table_layout.specs.declared.layout.Rule.{Rule}
 use Rattle.bit_table_layout.specs.declared.layout.TheConstants.{MAX_BITS}
@@ -32,7 +32,8 @@ pub image_bytes-rows_from : (l : LayoutShape) (n : ℕ) (bits : List Bool) → l
 image_bytes-rows_from l n bits fits = ap (bytes_of l.rule) (table_bits-rows_from l n bits fits)
 
 -- the rows of a table are the only ones with their image
-pub only_numbers : (t : TableShape) → IsTable t → HasOnlyNumbers t.layout (length t.rows) (image_bytes t.layout t.rows) t.rows
+pub only_numbers : (t : TableShape) → IsTable t
+    → HasOnlyNumbers t.layout (length t.rows) (image_bytes t.layout t.rows) t.rows
 only_numbers t h = has_only_numbers t.layout t.rows h.layout h.rows
 
 -- what a closed table's fields say of it
@@ -46,7 +47,8 @@ pub length-numbers_bits_counted : (rule : Rule) (fs : List FieldShape) (vs : Lis
 length-numbers_bits_counted rule [] vs e = refl
 length-numbers_bits_counted rule (f ∷ fs) [] e = absurd (omega arith)
 length-numbers_bits_counted rule (f ∷ fs) (v ∷ vs) e =
-    let rest : length (numbers_bits rule fs vs) ≡ row_width fs = length-numbers_bits_counted rule fs vs (omega arith) in
+    let rest : length (numbers_bits rule fs vs) ≡ row_width fs =
+    length-numbers_bits_counted rule fs vs (omega arith) in
     length-append (field_bits rule f.width v) (numbers_bits rule fs vs)
     ∙ ap (λ n. n + length (numbers_bits rule fs vs)) (length-field_bits rule f.width v)
     ∙ ap (λ n. f.width + n) rest
@@ -59,5 +61,5 @@ pub image_of_bits : (l : LayoutShape) (n : ℕ) (bits : List Bool) (t : TableSha
 image_of_bits l n bits t bytes fits e made =
     let count : length t.rows ≡ n = sym (ap (λ (s : TableShape). length s.rows) e) ∙ length-rows_from l n bits in
     let image : image_bytes t.layout t.rows ≡ bytes =
-      sym (ap (λ (s : TableShape). image_bytes s.layout s.rows) e) ∙ image_bytes-rows_from l n bits fits ∙ sym made in
+    sym (ap (λ (s : TableShape). image_bytes s.layout s.rows) e) ∙ image_bytes-rows_from l n bits fits ∙ sym made in
     cc

@@ -57,8 +57,9 @@ first_of (p ∷ ps) = if p.0 then Some p.1 else first_of ps
 -- the cause that refuses a command over n rows of a layout, if one does
 unfoldable pub command_cause : LayoutShape → ℕ → Bool → Command → Option Cause
 command_cause l n kept c =
-    first_of ((wrong_form l c, refusal.Form) ∷ (wrong_field l c, refusal.Field) ∷ (wrong_row n c, refusal.Row) ∷ (wrong_value l c, refusal.Value)
-    ∷ (too_full l n c, refusal.Full) ∷ (wrong_image l c, refusal.Image) ∷ (nothing_kept kept c, refusal.Kept) ∷ [])
+    first_of ((wrong_form l c, refusal.Form) ∷ (wrong_field l c, refusal.Field) ∷ (wrong_row n c, refusal.Row)
+    ∷ (wrong_value l c, refusal.Value) ∷ (too_full l n c, refusal.Full) ∷ (wrong_image l c, refusal.Image)
+    ∷ (nothing_kept kept c, refusal.Kept) ∷ [])
 
 -- the cause that refuses a command in a table, if one does
 abbrev pub cause_in : TableShape → Command → Option Cause

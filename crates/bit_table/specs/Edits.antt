@@ -1,5 +1,5 @@
 -- What a command does to a table, and what it answers.
-use Rattle.std.specs.Prelude.{ℕ, List, [], ◌∷◌, ◌++◌, length, take, drop}
+use Rattle.std.specs.Prelude.{◌∷◌, ◌++◌, length, take, drop}
 use Rattle.bit_table_layout.specs.Rows.{new_row}
 use Rattle.bit_table_layout.specs.Images.{image_bytes}
 use Rattle.bit_table_script.specs.declared.command.Command.{Command}

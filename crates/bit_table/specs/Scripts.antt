@@ -1,7 +1,7 @@
 -- The answer to a script.
 use Rattle.std.specs.Prelude.{ℕ, ◌==◌, not, Bool, List, [], ◌∷◌, ◌++◌, length, codes, Option, Some, None, option_map, if◌then◌else◌}
 use Rattle.bit_table_layout.specs.Words.{words}
-use Rattle.bit_table_layout.specs.Layouts.{LayoutShape, layout_of}
+use Rattle.bit_table_layout.specs.Layouts.{layout_of}
 use Rattle.bit_table_script.specs.declared.cause.Cause.{Cause}
 use Rattle.bit_table_script.specs.declared.command.Command.{Command}
 use Rattle.bit_table_script.specs.Commands.{command_of}

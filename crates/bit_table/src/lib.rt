@@ -9,6 +9,8 @@ mod table;
 mod tests;
 
 pub use bit_table_layout::{Field, Layout, LayoutError, MAX_BITS, Rule, image};
-pub use bit_table_script::{Cause, Command, Fault, ImageBytes, Input, Output, Reply, RunError, Values};
+pub use bit_table_script::{
+    Cause, Command, Fault, ImageBytes, Input, Output, Reply, RunError, Values,
+};
 pub use runner::run;
 pub use table::Table;

@@ -77,8 +77,10 @@ fn begin(alloc: Global, line: &[u8]) -> Result<(Option<Table>, Vec<u8>), AllocEr
 
 /// Carries a line with a word out on a table, and gives its answer.
 fn carry_out(alloc: Global, table: &mut Table, line: &[u8]) -> Result<Vec<u8>, AllocError>
-    ensures text { IfOk result (λ text. text.items ≡ answer_by (line_cause (Some table.old) line.now) (Some table.old) line.now) }
-    ensures state { OnOk result (state_with table.new ≡ after_by (line_cause (Some table.old) line.now) (state_with table.old) line.now) }
+    ensures text { IfOk result (λ text.
+        text.items ≡ answer_by (line_cause (Some table.old) line.now) (Some table.old) line.now) }
+    ensures state { OnOk result (
+        state_with table.new ≡ after_by (line_cause (Some table.old) line.now) (state_with table.old) line.now) }
 {
     let command = match Command::parse(alloc, table.layout(), line) {
         Ok(command) => command,

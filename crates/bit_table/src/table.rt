@@ -39,7 +39,9 @@ impl Model for Table {
 
     ghost view = { λ t. record { layout = t.layout; rows = rows_from t.layout t.rows t.bits; kept = None } };
 
-    ghost invariant = { λ t. (is_layout t.layout ≡ true) × (length t.bits ≡ t.rows * row_width t.layout.fields) × (t.rows * row_width t.layout.fields ≤ MAX_BITS) };
+    ghost invariant = { λ t. (is_layout t.layout ≡ true)
+        × (length t.bits ≡ t.rows * row_width t.layout.fields)
+        × (t.rows * row_width t.layout.fields ≤ MAX_BITS) };
 }
 
 impl Table {
@@ -80,7 +82,8 @@ impl Table {
     /// command is carried out, unless memory is wanted. A command that is not carried out changes nothing.
     pub fn apply(&mut self, command: &Command) -> Result<Reply, Fault>
         // The first cause that applies refuses, and nothing else does.
-        ensures cause { MatchOption (cause_in self.old command.now) (IsOkUnless result Fault.Memory) (λ c. result ≡ Err (Fault.Refused c)) }
+        ensures cause { MatchOption (cause_in self.old command.now) (IsOkUnless result Fault.Memory)
+            (λ c. result ≡ Err (Fault.Refused c)) }
 
         // What a command does and answers.
         ensures ok { OnOk result (self.new ≡ edit self.old command.now) }
@@ -89,7 +92,8 @@ impl Table {
 
         // The rows with this image have the table's numbers.
         ensures image { command.now ≡ Command.Image →
-            HasOnlyNumbers self.old.layout (length self.old.rows) (image_bytes self.old.layout self.old.rows) self.old.rows }
+            HasOnlyNumbers self.old.layout (length self.old.rows) (image_bytes self.old.layout self.old.rows)
+            self.old.rows }
     {
         match command {
             Command::Insert { place, values } => self.insert(*place, values.as_slice()),
@@ -99,7 +103,8 @@ impl Table {
 
     /// Inserts a row of these values before the row of this number.
     fn insert(&mut self, place: u64, values: &[i128]) -> Result<Reply, Fault>
-        ensures cause { MatchOption (cause_in self.old (Command.Insert place values.now)) (IsOkUnless result Fault.Memory) (λ c. result ≡ Err (Fault.Refused c)) }
+        ensures cause { MatchOption (cause_in self.old (Command.Insert place values.now))
+            (IsOkUnless result Fault.Memory) (λ c. result ≡ Err (Fault.Refused c)) }
         ensures ok { OnOk result (self.new ≡ edit self.old (Command.Insert place values.now)) }
         ensures reply { IfOk result (λ reply. reply ≡ reply_to self.old (Command.Insert place values.now)) }
         ensures err { OnErr result (self.new ≡ self.old) }
@@ -119,7 +124,8 @@ impl Table {
         ensures ok { IfOk result (λ reply. reply ≡ reply_to self.now Command.Image) }
         ensures err { IsOkUnless result Fault.Memory }
         ensures cause { cause_in self.now Command.Image ≡ None }
-        ensures image { HasOnlyNumbers self.now.layout (length self.now.rows) (image_bytes self.now.layout self.now.rows) self.now.rows }
+        ensures image { HasOnlyNumbers self.now.layout (length self.now.rows)
+            (image_bytes self.now.layout self.now.rows) self.now.rows }
     {
         let bytes = self.bits.to_bytes(self.alloc, self.layout.rule());
         Ok(Reply::Image {
@@ -175,7 +181,8 @@ fn with_row(
     requires within { at ≤ length bits.now }
     requires count { length layout.now.fields ≡ length values.now }
     requires room { length bits.now + row_width layout.now.fields ≤ MAX_BITS }
-    ensures { IfOk result (λ new. new ≡ take at bits.now ++ (numbers_bits layout.now.rule layout.now.fields values.now ++ drop at bits.now)) }
+    ensures { IfOk result (λ new. new ≡ take at bits.now
+        ++ (numbers_bits layout.now.rule layout.now.fields values.now ++ drop at bits.now)) }
 {
     let mut new = PackedBits::new(alloc);
     new.push_range(bits, 0, at)?;

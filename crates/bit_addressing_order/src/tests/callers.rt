@@ -1,5 +1,5 @@
-//! What a user of the crate proves from its contracts alone: one bit of a word read and written, under
-//! any register and lawful order.
+//! What a user of the crate proves from its contracts alone: one bit of a word read and written,
+//! under any register and lawful order.
 
 ghost use Rattle.std.specs.Prelude.{◌≡◌, ℕ, ◌+◌, ◌<◌, ◌≤◌, slice_set, slice_index_or, true, false};
 ghost use Rattle.bit_addressing_order.specs.Bits.{digit_at, with_digit, bits_in_order};

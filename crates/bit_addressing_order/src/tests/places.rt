@@ -173,6 +173,7 @@ fn calls_of_register<R: BitRegister>(
     assert_eq!(rt; (R::BITS, R::INDX, R::MASK), sizes);
     assert_eq!(rt; R::NAME, name);
     assert_eq!(rt; R::type_name(), name);
+    assert!(rt; R::from_value(u128::MAX - 1).equals(R::ONE.not()));
     assert!(rt; R::ZERO.not().equals(R::ALL));
     assert!(rt; R::ONE.shl(R::MASK).shr(R::MASK).equals(R::ONE));
     assert!(rt; R::ONE.shl(3).or(R::ONE).value() == 9);

@@ -151,7 +151,10 @@ impl Plain {
 
 /// The digit of a number below 16.
 fn hexadecimal(number: u8) -> u8 {
-    b"0123456789abcdef".get(usize::from(number)).copied().unwrap_or(b'?')
+    b"0123456789abcdef"
+        .get(usize::from(number))
+        .copied()
+        .unwrap_or(b'?')
 }
 
 /// A number halved so many times, and rounded down each time.
@@ -163,7 +166,7 @@ fn halved(number: i128, times: u32) -> i128 {
     rest
 }
 
-/// Whether a field has digits enough for a number: without them nothing is left of it but its sign, if it may have one.
+/// Whether a field has digits enough for a number: without them nothing is left of it but a sign, where it has one.
 fn is_in_range(field: &PlainField, number: i128) -> bool {
     if field.signed {
         let rest = halved(number, field.bits.saturating_sub(1));
@@ -215,9 +218,9 @@ fn is_name(word: &[u8]) -> bool {
     };
     word.len() <= 16
         && first.is_ascii_lowercase()
-        && word
-            .iter()
-            .all(|byte| byte.is_ascii_lowercase() || byte.is_ascii_digit() || *byte == b'_')
+        && word.iter().all(|byte| byte.is_ascii_lowercase()
+            || byte.is_ascii_digit()
+            || *byte == b'_')
 }
 
 /// The number that digits spell, if they are digits. Thirty digits at most keep it exact.

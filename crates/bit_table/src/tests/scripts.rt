@@ -125,7 +125,8 @@ impl Thrower {
             11 => doubled(limit, 31),
             _ => {
                 let any = self.roll(1 << 31) as i128;
-                least.wrapping_add(any.wrapping_mul(any).wrapping_mul(11).wrapping_rem_euclid(doubled(1, kind.bits).max(1)))
+                let spread = any.wrapping_mul(any).wrapping_mul(11);
+                least.wrapping_add(spread.wrapping_rem_euclid(doubled(1, kind.bits).max(1)))
             }
         }
     }
@@ -208,7 +209,13 @@ fn the_plain_program_agrees(rt: HostRuntime) -> Result<(), Fail> {
         b"\n0\n".as_slice(),
         b"\n9 ".as_slice(),
     ] {
-        assert!(rt; answers.as_slice().windows(found.len()).any(|part| part == found), "{found:?}");
+        assert!(rt;
+            answers
+                .as_slice()
+                .windows(found.len())
+                .any(|part| part == found),
+            "{found:?}"
+        );
     }
     Ok(())
 }

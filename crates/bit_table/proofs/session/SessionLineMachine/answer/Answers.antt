@@ -1,6 +1,5 @@
-use Rattle.std.proofs.Common.{◌≡◌, ℕ, List, Some, None, true, false, sym, ap, ◌∙◌, refl, rules}
-use Rattle.bit_table.specs.Tables.{start}
-use Rattle.bit_table.specs.Scripts.{has_word, state_of, answers}
+use Rattle.std.proofs.Common.{◌≡◌, None, sym, ap, refl, rules}
+use Rattle.bit_table.specs.Scripts.{state_of}
 use Rattle.bit_table.proofs.AnswerLemmas.{if_and_on_ok}
 use Rattle.bit_table.proofs.SessionLemmas.{answers-blank, answers-begun, answers-carried}
 use Rattle.bit_table.proofs.session.SessionLineMachine.answer.Goals as goal
@@ -13,11 +12,15 @@ pub returns-in-Some : goal.returns-in-Some
 returns-in-Some c =
     let state = ap state_of c.in-Some.is in
     if_and_on_ok c.carry_out.result _ _ _
-    (λ text e h rest. rw state (answers-carried c.in-Some.table _ c.args.line.now text.items (sym c.if-not-has_word.ensures) e h rest))
+    (λ text e h rest. rw state
+    (answers-carried c.in-Some.table _ c.args.line.now text.items (sym c.if-not-has_word.ensures) e h rest))
     c.carry_out.ensures.text c.carry_out.ensures.state
 
 pub returns : goal.returns
 returns c =
     let none : c.args.self.now.table ≡ None = search rules in
     let state = ap state_of none in
-    λ rest. rw state (answers-begun _ c.args.line.now c.in_ok-table.text.items (sym c.if-not-has_word.ensures) c.in_ok-table.ensures.text c.in_ok-table.ensures.state rest)
+    let some = sym c.if-not-has_word.ensures in
+    let begun = c.in_ok-table.ensures in
+    λ rest. rw state
+    (answers-begun _ c.args.line.now c.in_ok-table.text.items some begun.text begun.state rest)

@@ -1,4 +1,4 @@
-use Rattle.std.proofs.Common.{◌≡◌, ◌*◌, ◌≤◌, false, Some, None, sym, ap, ◌∙◌, length, arith, rules, refl, subst}
+use Rattle.std.proofs.Common.{◌≡◌, ◌*◌, false, Some, None, sym, ◌∙◌, length, arith, rules, refl}
 use Rattle.bit_table_layout.specs.declared.layout.TheConstants.{MAX_BITS}
 use Rattle.bit_table_layout.specs.Layouts.{row_width}
 use Rattle.bit_table_script.specs.declared.command.Command.TheVariants.{Insert}
@@ -11,7 +11,7 @@ pub returns-in-Some-clause-cause : goal.returns-in-Some-clause-cause
 returns-in-Some-clause-cause c =
     let t = c.self.inside in
     let e : cause_in c.args.self.now (Insert c.args.place c.args.values.now) ≡ Some c.in-Some.cause =
-      cause_in-table_from t.layout t.rows t.bits _ _ c.self.view_is ∙ sym (c.in-Some.ensures false) in
+    cause_in-table_from t.layout t.rows t.bits _ _ c.self.view_is ∙ sym (c.in-Some.ensures false) in
     rw e refl
 
 pub overflow_mul-at : goal.overflow_mul-at
@@ -25,8 +25,9 @@ pub with_row-bits-requires-clause-within : goal.with_row-bits-requires-clause-wi
 with_row-bits-requires-clause-within c =
     let t = c.self.inside in
     let a = is_accepted t.layout t.rows c.args.place c.args.values.now (sym (c.in_default.ensures false)) in
-    rw c.row_bits.ensures.bits
-    (rows_le c.args.place t.rows (row_width t.layout.fields) (length t.bits) a.place (omega (arith, c.self.invariant.1)))
+    let within = rows_le c.args.place t.rows (row_width t.layout.fields) (length t.bits) a.place
+    (omega (arith, c.self.invariant.1)) in
+    rw c.row_bits.ensures.bits within
 
 pub with_row-bits-requires-clause-count : goal.with_row-bits-requires-clause-count
 with_row-bits-requires-clause-count c =
@@ -44,27 +45,32 @@ pub returns-in_err-self-inside-clause-cause : goal.returns-in_err-self-inside-cl
 returns-in_err-self-inside-clause-cause c =
     let t = c.self.inside in
     let e : cause_in c.args.self.now (Insert c.args.place c.args.values.now) ≡ None =
-      cause_in-table_from t.layout t.rows t.bits _ _ c.self.view_is ∙ sym (c.in_default.ensures false) in
+    cause_in-table_from t.layout t.rows t.bits _ _ c.self.view_is ∙ sym (c.in_default.ensures false) in
     rw e (search rules)
 
 pub invariant_of-self : goal.invariant_of-self
 invariant_of-self c =
     let t = c.self.inside in
     let a = is_accepted t.layout t.rows c.args.place c.args.values.now (sym (c.in_default.ensures false)) in
-    let made : c.in_ok-self-inside.field-0 ≡ with_row t.layout t.bits (c.args.place * c.row_bits.result) c.args.values.now = search rules in
-    (c.self.invariant.0, length-edited t.layout t.rows c.args.place t.bits _ c.args.values.now c.self.invariant.1 a (rw c.row_bits.ensures.bits at made), a.room)
+    let at = c.args.place * c.row_bits.result in
+    let made : c.in_ok-self-inside.field-0 ≡ with_row t.layout t.bits at c.args.values.now = search rules in
+    let placed = rw c.row_bits.ensures.bits at made in
+    let fits = length-edited t.layout t.rows c.args.place t.bits _ c.args.values.now c.self.invariant.1 a placed in
+    (c.self.invariant.0, fits, a.room)
 
 pub returns-clause-cause : goal.returns-clause-cause
 returns-clause-cause c =
     let t = c.self.inside in
     let e : cause_in c.args.self.now (Insert c.args.place c.args.values.now) ≡ None =
-      cause_in-table_from t.layout t.rows t.bits _ _ c.self.view_is ∙ sym (c.in_default.ensures false) in
+    cause_in-table_from t.layout t.rows t.bits _ _ c.self.view_is ∙ sym (c.in_default.ensures false) in
     rw e (search rules)
 
 pub returns-clause-ok : goal.returns-clause-ok
 returns-clause-ok c =
     let t = c.self.inside in
     let a = is_accepted t.layout t.rows c.args.place c.args.values.now (sym (c.in_default.ensures false)) in
-    let made : c.in_ok-self-inside.field-0 ≡ with_row t.layout t.bits (c.args.place * c.row_bits.result) c.args.values.now = search rules in
-    edited t.layout t.rows c.args.place t.bits _ c.args.values.now _ c.self.invariant.0 c.self.invariant.1 c.self.view_is a
+    let at = c.args.place * c.row_bits.result in
+    let made : c.in_ok-self-inside.field-0 ≡ with_row t.layout t.bits at c.args.values.now = search rules in
+    let fits = c.self.invariant.1 in
+    edited t.layout t.rows c.args.place t.bits _ c.args.values.now _ c.self.invariant.0 fits c.self.view_is a
     (rw c.row_bits.ensures.bits at made)

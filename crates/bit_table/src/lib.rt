@@ -8,9 +8,11 @@ mod table;
 #[cfg(test)]
 mod tests;
 
-pub use bit_table_layout::{Field, Layout, LayoutError, MAX_BITS, Rule, image};
+pub use bit_table_layout::{
+    Field, Layout, LayoutError, MAX_BITS, Rule, Words, image, is_number, is_separator, number_up_to,
+};
 pub use bit_table_script::{
-    Cause, Command, Fault, ImageBytes, Input, Output, Reply, RunError, Values,
+    Cause, Command, Fault, ImageBytes, Input, LineMachine, Output, Reply, RunError, Values, drive,
 };
 pub use runner::run;
 pub use table::Table;

@@ -1,0 +1,4 @@
+pub mod Changes
+pub mod Gathers
+pub mod Sweeps
+pub mod WayLemmas

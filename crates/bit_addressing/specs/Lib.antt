@@ -1,0 +1,4 @@
+pub mod MoveSteps
+pub mod Moves
+pub mod Sweep
+pub mod Ways

@@ -1,0 +1,22 @@
+//! Words as one list of bits, whole: the items of the two crates below, a sweep over words that counts
+//! itself, and moves of bits by it.
+#![tactic(auto)]
+
+mod moves;
+mod sweep;
+#[cfg(test)]
+mod tests;
+
+pub use bit_addressing_memory::{
+    BitPtr, BitPtrRange, BitSpan, BitSpanError, Dangling, Domain, DomainMut, DomainWords,
+    EmptyRange, MAX_BITS, PartialElement, PartialElementMut, copy_between, copy_within, read_bit,
+    read_entry, replace_entry, swap_between, swap_entries, swap_within, write_bit, write_entry,
+};
+pub use bit_addressing_order::{
+    AllOrNone, BitEnd, BitIdx, BitIdxError, BitMask, BitOrder, BitPos, BitRegister, BitSel,
+    EndRange, IndexRange, Limits, LocalBits, Lsb0, Msb0, OrderCandidate, OrderFault, Positions,
+    SelectorRange, WordFault, disjoint_masks, mask_from_at, mem, select_from_at, verify,
+    verify_for_type,
+};
+pub use moves::move_in;
+pub use sweep::{Sweep, Way, way_for};

@@ -1,0 +1,10 @@
+pub mod CopyLemmas
+pub mod EntryLemmas
+pub mod MemoryLemmas
+pub mod PlaceLemmas
+pub mod PointerLemmas
+pub mod CutLemmas
+pub mod PartialLemmas
+pub mod SpanLemmas
+pub mod StoredLemmas
+pub mod PartsLemmas

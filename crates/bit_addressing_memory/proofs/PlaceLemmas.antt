@@ -1,0 +1,42 @@
+-- The word of a place that lies below the end of so many words.
+use Rattle.std.proofs.Common.{◌≡◌, ℕ, ◌+◌, ◌-◌, ◌*◌, ◌/◌, ◌%◌, ◌<◌, ◌≤◌, inl, inr, arith}
+use Rattle.std.proofs.Math.Nat.{mul-le-mul_right}
+use Rattle.std.proofs.lemmas.Bool.{cases_lt}
+use Rattle.std.proofs.lemmas.Nat.{div-add-mod'}
+
+-- a place before the end of n words of b bits lies in one of them
+pub word_within : (b j i n : ℕ) → j * b + i < n * b → j < n
+word_within b j i n h = elim (cases_lt j n) [
+  | inl low ↦ low
+  | inr high ↦
+      let past : n * b ≤ j * b = mul-le-mul_right b high in
+      absurd (omega arith)
+]
+
+-- the whole words of a step onward stay before that end
+pub word_after : (b size j i by n : ℕ) → size ≡ b → j * b + i + by < n * b → j + by / size < n
+word_after b size j i by n e h =
+    let parts : by / size * b + by % size ≡ by = rw (← e) (div-add-mod' by size) in
+    word_within b (j + by / size) (i + by % size) n (omega arith)
+
+-- and so does the next word, where the rest passes the edge
+pub word_after_next : (b size j i by n : ℕ) → size ≡ b → j * b + i + by < n * b → size ≤ i + by % size
+    → j + by / size + 1 < n
+word_after_next b size j i by n e h past =
+    let parts : by / size * b + by % size ≡ by = rw (← e) (div-add-mod' by size) in
+    let rest : ℕ = i + by % size - b in
+    word_within b (j + by / size + 1) rest n (omega arith)
+
+-- there the place is the old one and the step
+pub place_after_next : (b size j i by : ℕ) → size ≡ b → size ≤ i + by % size
+    → (j + by / size + 1) * b + (i + by % size - size) ≡ j * b + i + by
+place_after_next b size j i by e past =
+    let parts : by / size * b + by % size ≡ by = rw (← e) (div-add-mod' by size) in
+    omega arith
+
+-- a place in an earlier word comes before
+pub place_order : (b v i w j : ℕ) → i < b → v < w → v * b + i ≤ w * b + j
+place_order b v i w j low before =
+    let next : v + 1 ≤ w = omega arith in
+    let past : (v + 1) * b ≤ w * b = mul-le-mul_right b next in
+    omega arith

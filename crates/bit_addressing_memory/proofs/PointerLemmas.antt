@@ -1,0 +1,113 @@
+-- Word numbers and places over the whole numbers.
+use Rattle.std.proofs.Common.{◌≡◌, ℕ, zero, suc, ◌+◌, ◌-◌, ◌*◌, ◌^◌, ◌<◌, ◌≤◌, sym, ap, ◌∙◌, arith}
+use Rattle.std.proofs.Math.Nat.{mul-le-mul}
+use Rattle.std.proofs.Math.IntN.{ℤ, pos, negsuc, ◌+ℤ◌, ◌-ℤ◌, ◌*ℤ◌, neg_ℤ, pred_ℤ, +ℤ-suc_ℤ, +ℤ-pred_ℤ, +ℤ_idr, suc_ℤ-*ℤ, pred_ℤ-*ℤ, negsuc-*ℤ-pos}
+use Rattle.std.proofs.lemmas.Int.{ints, fits_signed_from_abs, fits_signed_mul, unsigned_abs-mul, to_z-of_z}
+use Rattle.std.specs.Int.{w64, w128}
+use lib.Signed.{◌≤ℤ◌}
+use mir.Val.{to_z, of_z}
+use Rattle.std.specs.Int.RustNames.{FitsSigned, unsigned_abs}
+use Rattle.bit_addressing_order.specs.Index.{IsOffset}
+use Rattle.bit_addressing_memory.proofs.PlaceLemmas.{word_within}
+use Rattle.bit_addressing_memory.specs.Pointer.{StaysIn}
+use Rattle.bit_addressing_memory.specs.PointerRange.{stays_here}
+
+-- words times bits, of a sum of word numbers
+pub times_sum : (w v : ℤ) (b : ℕ) → (w +ℤ v) *ℤ pos b ≡ (w *ℤ pos b) +ℤ (v *ℤ pos b)
+times_sum w (pos zero) b =
+    let none : pos 0 *ℤ pos b ≡ pos 0 = omega (arith, ints) in
+    ap (λ x. x *ℤ pos b) (+ℤ_idr w) ∙ omega (arith, ints)
+times_sum w (pos (suc n)) b =
+    let had = times_sum w (pos n) b in
+    let more = suc_ℤ-*ℤ (pos n) (pos b) in
+    ap (λ x. x *ℤ pos b) (+ℤ-suc_ℤ w (pos n)) ∙ suc_ℤ-*ℤ (w +ℤ pos n) (pos b) ∙ omega (arith, ints)
+times_sum w (negsuc zero) b =
+    let more = pred_ℤ-*ℤ (pos 0) (pos b) in
+    ap (λ x. x *ℤ pos b) (+ℤ-pred_ℤ w (pos 0) ∙ ap pred_ℤ (+ℤ_idr w)) ∙ pred_ℤ-*ℤ w (pos b) ∙ omega (arith, ints)
+times_sum w (negsuc (suc n)) b =
+    let had = times_sum w (negsuc n) b in
+    let more = pred_ℤ-*ℤ (negsuc n) (pos b) in
+    ap (λ x. x *ℤ pos b) (+ℤ-pred_ℤ w (negsuc n)) ∙ pred_ℤ-*ℤ (w +ℤ negsuc n) (pos b) ∙ omega (arith, ints)
+
+-- and of a difference
+pub times_difference : (w v : ℤ) (b : ℕ) → (w -ℤ v) *ℤ pos b ≡ (w *ℤ pos b) -ℤ (v *ℤ pos b)
+times_difference w v b =
+    let whole = times_sum (w -ℤ v) v b in
+    let back : (w -ℤ v) +ℤ v ≡ w = omega (arith, ints) in
+    let of_w : (w *ℤ pos b) ≡ ((w -ℤ v) *ℤ pos b) +ℤ (v *ℤ pos b) = ap (λ x. x *ℤ pos b) (sym back) ∙ whole in
+    omega (arith, ints)
+
+-- a number below 0 times bits
+pub times_negated : (n b : ℕ) → neg_ℤ (pos n) *ℤ pos b ≡ neg_ℤ (pos (n * b))
+times_negated zero b = omega (arith, ints)
+times_negated (suc n) b = negsuc-*ℤ-pos n b
+
+-- a place that stays in is in a word whose number fits
+pub fits_word : (b : ℕ) (w : ℤ) (j : ℕ) → j < b → StaysIn b ((w *ℤ pos b) +ℤ pos j) → FitsSigned w64 w
+fits_word b (pos n) j low stays =
+    let small : n < 2 ^ 63 = word_within b n j (2 ^ 63) (omega (arith, ints, stays.upto)) in
+    fits_signed_from_abs w64 (pos n) small
+fits_word b (negsuc n) j low stays =
+    let small : suc n < 2 ^ 63 + 1 = word_within b (suc n) 0 (2 ^ 63 + 1) (omega (arith, ints, stays.from)) in
+    let within : n < 2 ^ 63 = omega arith in
+    omega (arith, ints)
+
+-- a bit's place, its word so many words on, where its index is as many bits on
+pub moved_place : (b : ℕ) (w words by : ℤ) (i j : ℕ) → IsOffset b i by words j
+    → ((w +ℤ words) *ℤ pos b) +ℤ pos j ≡ ((w *ℤ pos b) +ℤ pos i) +ℤ by
+moved_place b w words by i j is =
+    let sum = times_sum w words b in
+    let place = is.place in
+    omega (arith, ints)
+
+-- and its word's number fits where the place stays in
+pub moved_fits : (b : ℕ) (w words by : ℤ) (i j : ℕ) → IsOffset b i by words j
+    → StaysIn b (((w *ℤ pos b) +ℤ pos i) +ℤ by) → FitsSigned w64 (w +ℤ words)
+moved_fits b w words by i j is stays =
+    let stays' : StaysIn b (((w +ℤ words) *ℤ pos b) +ℤ pos j) = rw (moved_place b w words by i j is) stays in
+    fits_word b (w +ℤ words) j is.within stays'
+
+-- so many bits back, counted on from the mirrored index
+pub mirrored : (b i count m x : ℕ) → i < b → x < b → m * b + x ≡ (b - 1 - i) + count
+    → IsOffset b i (neg_ℤ (pos count)) (neg_ℤ (pos m)) (b - 1 - x)
+mirrored b i count m x low small e =
+    let times = times_negated m b in
+    record { place = omega (arith, ints); within = omega arith }
+
+-- two numbers that are passed on fit together where their sum does
+pub passed_fits : (w v : ℤ) → FitsSigned w64 w → FitsSigned w64 v → FitsSigned w64 (w +ℤ v)
+    → FitsSigned w64 (to_z w64 (of_z w64 w) +ℤ to_z w64 (of_z w64 v))
+passed_fits w v fit_w fit_v fits = rw (to_z-of_z w64 w fit_w, to_z-of_z w64 v fit_v) fits
+
+-- two word numbers lie less than 2 ^ 65 apart
+pub apart_small : (w v : ℤ) → FitsSigned w64 w → FitsSigned w64 v → unsigned_abs (w -ℤ v) ≤ 2 ^ 65
+apart_small w v fit_w fit_v = omega (arith, ints)
+
+times_fits : (d : ℤ) (b : ℕ) → b ≤ 128 → unsigned_abs d ≤ 2 ^ 65 → FitsSigned w128 (d *ℤ pos b)
+times_fits d b few small = fits_signed_mul w128 d (pos b) (2 ^ 65) 128 small few (omega arith)
+
+-- a number of words times bits, as code computes it
+pub between_value : (x d : ℤ) (b n : ℕ) → x ≡ d → n ≡ b → b ≤ 128 → unsigned_abs d ≤ 2 ^ 65
+    → to_z w128 (of_z w128 (x *ℤ to_z w128 n)) ≡ d *ℤ pos b
+between_value x d b n e f few small =
+    let size : to_z w128 n ≡ pos b = omega (arith, ints) in
+    rw (e, size) (to_z-of_z w128 (d *ℤ pos b) (times_fits d b few small))
+
+-- and how large it is at most
+pub between_small : (x d : ℤ) (b n : ℕ) → x ≡ d → n ≡ b → b ≤ 128 → unsigned_abs d ≤ 2 ^ 65
+    → unsigned_abs (to_z w128 (of_z w128 (x *ℤ to_z w128 n))) ≤ 2 ^ 72
+between_small x d b n e f few small =
+    let most : unsigned_abs d * b ≤ 2 ^ 65 * 128 = mul-le-mul small few in
+    rw (between_value x d b n e f few small) (rw (unsigned_abs-mul d (pos b)) (omega arith))
+
+-- a range from one pointer up to a later one, d bits on, stays in
+pub range_fits : (b : ℕ) (w e d : ℤ) (i j : ℕ) → FitsSigned w64 w → i < b → FitsSigned w64 e → j < b
+    → d ≡ ((e *ℤ pos b) +ℤ pos j) -ℤ ((w *ℤ pos b) +ℤ pos i) → pos 0 ≤ℤ d → FitsSigned w64 d
+    → FitsSigned w64 (to_z w64 (of_z w64 w)) × (i < b) × (unsigned_abs (to_z w128 (of_z w128 d)) < 2 ^ 63)
+    × StaysIn b (((to_z w64 (of_z w64 w) *ℤ pos b) +ℤ pos i) +ℤ pos (unsigned_abs (to_z w128 (of_z w128 d))))
+range_fits b w e d i j fit_w low fit_e small is some fit_d =
+    let wide : FitsSigned w128 d = omega (arith, ints) in
+    let end : ((w *ℤ pos b) +ℤ pos i) +ℤ pos (unsigned_abs d) ≡ (e *ℤ pos b) +ℤ pos j = omega (arith, ints) in
+    let stays : StaysIn b (((w *ℤ pos b) +ℤ pos i) +ℤ pos (unsigned_abs d)) = rw end (stays_here b e j small fit_e) in
+    let few : unsigned_abs d < 2 ^ 63 = omega (arith, ints) in
+    rw (to_z-of_z w64 w fit_w, to_z-of_z w128 d wide) (fit_w, low, few, stays)

@@ -1,0 +1,12 @@
+pub mod Memory
+pub mod Place
+pub mod Pointer
+pub mod PointerRange
+pub mod Domain
+pub mod Partial
+pub mod Shown
+pub mod Span
+pub mod Words
+pub mod Written
+pub mod Lent
+pub mod Parts

@@ -1,0 +1,20 @@
+-- A part of one word: what reading it and writing it is.
+--
+-- The mask of a part: `part_mask`. A word masked: `IsMasked`. A word written in a part: `IsStored`.
+use Rattle.std.specs.Prelude.{ℕ, ◌<◌, ◌≤◌, ◌≡◌, Bool, false, Option, Some}
+
+-- the mask of the indices from one up to before another
+abbrev pub part_mask : (Option ℕ → Option ℕ → ℕ) → ℕ → ℕ → ℕ
+part_mask mask from upto = mask (Some from) (Some upto)
+
+-- the result has the digits of a word at the indices from `from` up to before `upto`, and each other reads as zero
+pub record IsMasked {R : Type 0} (b : ℕ) (digit : R → ℕ → Bool) (word result : R) (from upto : ℕ) : Type 0 where
+  pub inside : (i : ℕ) → from ≤ i → i < upto → i < b → digit result i ≡ digit word i
+  pub below : (i : ℕ) → i < from → i < b → digit result i ≡ false
+  pub above : (i : ℕ) → upto ≤ i → i < b → digit result i ≡ false
+
+-- the result has these digits at the indices from `from` up to before `upto`, and each other digit is the word's
+pub record IsStored {R : Type 0} (b : ℕ) (digit : R → ℕ → Bool) (word result : R) (from upto : ℕ) (now : ℕ → Bool) : Type 0 where
+  pub inside : (i : ℕ) → from ≤ i → i < upto → i < b → digit result i ≡ now i
+  pub below : (i : ℕ) → i < from → i < b → digit result i ≡ digit word i
+  pub above : (i : ℕ) → upto ≤ i → i < b → digit result i ≡ digit word i

@@ -1,8 +1,11 @@
 //! Words as one list of bits, whole: the items of the two crates below, a sweep over words that counts
-//! itself, and moves of bits by it.
+//! itself, moves of bits by it, and a runner of commands over spans of one memory.
 #![tactic(auto)]
 
+mod carry;
+mod command;
 mod moves;
+mod runner;
 mod sweep;
 #[cfg(test)]
 mod tests;
@@ -18,5 +21,7 @@ pub use bit_addressing_order::{
     SelectorRange, WordFault, disjoint_masks, mask_from_at, mem, select_from_at, verify,
     verify_for_type,
 };
+pub use command::{SpanCommand, SpanReply};
 pub use moves::move_in;
+pub use runner::{all_fit, disjoint, order_of_spans_is_free, run};
 pub use sweep::{Sweep, Way, way_for};

@@ -1,7 +1,7 @@
 -- The parts of a span, a word each: where they lie, and a word of a memory read and written in its part.
 --
 -- `part_start`, `part_order`: where a part lies. `reads_part`, `stores_part`: one word read, and written back.
-use Rattle.std.proofs.Common.{◌≡◌, ℕ, zero, suc, ◌+◌, ◌-◌, ◌*◌, ◌/◌, ◌%◌, ◌<◌, ◌≤◌, Bool, List, length, get_or, set, min, sym, ap, ◌∙◌, inl, inr, arith, length-set}
+use Rattle.std.proofs.Common.{◌≡◌, ℕ, zero, suc, ◌+◌, ◌-◌, ◌*◌, ◌/◌, ◌%◌, ◌<◌, ◌≤◌, Bool, List, length, get_or, set, min, true, false, not, sym, ap, ◌∙◌, inl, inr, arith, length-set}
 use Rattle.std.proofs.Math.Nat.{mul-le-mul_right}
 use Rattle.std.proofs.lemmas.Bool.{cases_eq}
 use Rattle.std.proofs.lemmas.Nat.{div-mul-add, mod-mul-add, div-add-mod', mod_below}
@@ -84,3 +84,33 @@ stores_as b digit before after place n x y is same = record {
   above = is.above;
   words = is.words;
 }
+
+-- a word without digits stored in a part
+pub stores_none : {R : Type 0} (b : ℕ) (digit : R → ℕ → Bool) (before after : List R) (place n from : ℕ) (value : R)
+    → StoresPart b digit before after place n (λ i. digit value (from + i)) → ((i : ℕ) → i < b → digit value i ≡ false)
+    → from + n ≤ b → StoresPart b digit before after place n (λ _. false)
+stores_none b digit before after place n from value is none within =
+    stores_as b digit before after place n (λ i. digit value (from + i)) (λ _. false) is
+    (λ i small. none (from + i) (omega arith))
+
+-- a word with each digit stored in a part
+pub stores_each : {R : Type 0} (b : ℕ) (digit : R → ℕ → Bool) (before after : List R) (place n from : ℕ) (value : R)
+    → StoresPart b digit before after place n (λ i. digit value (from + i)) → ((i : ℕ) → i < b → digit value i ≡ true)
+    → from + n ≤ b → StoresPart b digit before after place n (λ _. true)
+stores_each b digit before after place n from value is each within =
+    stores_as b digit before after place n (λ i. digit value (from + i)) (λ _. true) is
+    (λ i small. each (from + i) (omega arith))
+
+-- the word j flipped and stored in a part of itself
+pub stores_flipped : {R : Type 0} (b : ℕ) (digit : R → ℕ → Bool) (before after : List R) (place n from j : ℕ)
+    (x value : R) → StoresPart b digit before after place n (λ i. digit value (from + i))
+    → ((i : ℕ) → i < b → digit value i ≡ not (digit x i)) → x ≡ get_or before j x → j < length before
+    → from + n ≤ b → place ≡ j * b + from
+    → StoresPart b digit before after place n (λ i. not (entry b digit before (place + i)))
+stores_flipped b digit before after place n from j x value is turned e inside within at =
+    stores_as b digit before after place n (λ i. digit value (from + i)) (λ i. not (entry b digit before (place + i))) is
+    (λ i small.
+    let low : from + i < b = omega arith in
+    let here : j * b + (from + i) ≡ place + i = omega arith in
+    turned (from + i) low
+    ∙ ap not (entry_read b digit before j (from + i) x low inside e ∙ ap (entry b digit before) here))

@@ -1,5 +1,5 @@
 -- Word numbers and places over the whole numbers.
-use Rattle.std.proofs.Common.{◌≡◌, ℕ, zero, suc, ◌+◌, ◌-◌, ◌*◌, ◌^◌, ◌<◌, ◌≤◌, sym, ap, ◌∙◌, arith}
+use Rattle.std.proofs.Common.{◌≡◌, ℕ, zero, suc, ◌+◌, ◌-◌, ◌*◌, ◌^◌, ◌<◌, ◌≤◌, ◌∷◌, ◌++◌, [], length, sym, ap, ◌∙◌, arith}
 use Rattle.std.proofs.Math.Nat.{mul-le-mul}
 use Rattle.std.proofs.Math.IntN.{ℤ, pos, negsuc, ◌+ℤ◌, ◌-ℤ◌, ◌*ℤ◌, neg_ℤ, pred_ℤ, +ℤ-suc_ℤ, +ℤ-pred_ℤ, +ℤ_idr, suc_ℤ-*ℤ, pred_ℤ-*ℤ, negsuc-*ℤ-pos}
 use Rattle.std.proofs.lemmas.Int.{ints, fits_signed_from_abs, fits_signed_mul, unsigned_abs-mul, to_z-of_z}
@@ -9,8 +9,8 @@ use mir.Val.{to_z, of_z}
 use Rattle.std.specs.Int.RustNames.{FitsSigned, unsigned_abs}
 use Rattle.bit_addressing_order.specs.Index.{IsOffset}
 use Rattle.bit_addressing_memory.proofs.PlaceLemmas.{word_within}
-use Rattle.bit_addressing_memory.specs.Pointer.{StaysIn}
-use Rattle.bit_addressing_memory.specs.PointerRange.{stays_here}
+use Rattle.bit_addressing_memory.specs.Pointer.{Pointer, StaysIn, whole_place}
+use Rattle.bit_addressing_memory.specs.PointerRange.{PointerRange, IsRange, bits_between, pointers-none, length-pointers, pointers_of, pointers-first, pointers-last, stays_here}
 
 -- words times bits, of a sum of word numbers
 pub times_sum : (w v : ℤ) (b : ℕ) → (w +ℤ v) *ℤ pos b ≡ (w *ℤ pos b) +ℤ (v *ℤ pos b)
@@ -100,14 +100,87 @@ between_small x d b n e f few small =
     let most : unsigned_abs d * b ≤ 2 ^ 65 * 128 = mul-le-mul small few in
     rw (between_value x d b n e f few small) (rw (unsigned_abs-mul d (pos b)) (omega arith))
 
--- a range from one pointer up to a later one, d bits on, stays in
-pub range_fits : (b : ℕ) (w e d : ℤ) (i j : ℕ) → FitsSigned w64 w → i < b → FitsSigned w64 e → j < b
-    → d ≡ ((e *ℤ pos b) +ℤ pos j) -ℤ ((w *ℤ pos b) +ℤ pos i) → pos 0 ≤ℤ d → FitsSigned w64 d
-    → FitsSigned w64 (to_z w64 (of_z w64 w)) × (i < b) × (unsigned_abs (to_z w128 (of_z w128 d)) < 2 ^ 63)
-    × StaysIn b (((to_z w64 (of_z w64 w) *ℤ pos b) +ℤ pos i) +ℤ pos (unsigned_abs (to_z w128 (of_z w128 d))))
-range_fits b w e d i j fit_w low fit_e small is some fit_d =
-    let wide : FitsSigned w128 d = omega (arith, ints) in
-    let end : ((w *ℤ pos b) +ℤ pos i) +ℤ pos (unsigned_abs d) ≡ (e *ℤ pos b) +ℤ pos j = omega (arith, ints) in
-    let stays : StaysIn b (((w *ℤ pos b) +ℤ pos i) +ℤ pos (unsigned_abs d)) = rw end (stays_here b e j small fit_e) in
-    let few : unsigned_abs d < 2 ^ 63 = omega (arith, ints) in
-    rw (to_z-of_z w64 w fit_w, to_z-of_z w128 d wide) (fit_w, low, few, stays)
+-- where a range has a bit, the places one on from its first pointer and one back from its end stay in
+pub first_stays : (b : ℕ) (s e : Pointer) → IsRange b s e → 0 < bits_between b s e → StaysIn b (whole_place b s +ℤ pos 1)
+first_stays b s e is some =
+    let here = stays_here b s.word s.bit is.bit is.word in
+    let end = stays_here b e.word e.bit is.end_bit is.end_word in
+    record { from = omega (arith, ints, here.from, is.order); upto = omega (arith, ints, end.upto, is.order) }
+
+pub last_stays : (b : ℕ) (s e : Pointer) → IsRange b s e → 0 < bits_between b s e → StaysIn b (whole_place b e -ℤ pos 1)
+last_stays b s e is some =
+    let here = stays_here b s.word s.bit is.bit is.word in
+    let end = stays_here b e.word e.bit is.end_bit is.end_word in
+    record { from = omega (arith, ints, here.from, is.order); upto = omega (arith, ints, end.upto, is.order) }
+
+-- without its first bit it is a range
+pub without_first : (b : ℕ) (s e n : Pointer) → IsRange b s e → 0 < bits_between b s e
+    → whole_place b n ≡ whole_place b s +ℤ pos 1 → n.bit < b → IsRange b n e
+without_first b s e n is some place low = record {
+  word = fits_word b n.word n.bit low (rw place (first_stays b s e is some));
+  bit = low;
+  end_word = is.end_word;
+  end_bit = is.end_bit;
+  order = omega (arith, ints, is.order);
+  few = omega (arith, ints, is.order, is.few);
+}
+
+-- and without its last
+pub without_last : (b : ℕ) (s e l : Pointer) → IsRange b s e → 0 < bits_between b s e
+    → whole_place b l ≡ whole_place b e -ℤ pos 1 → l.bit < b → IsRange b s l
+without_last b s e l is some place low = record {
+  word = is.word;
+  bit = is.bit;
+  end_word = fits_word b l.word l.bit low (rw place (last_stays b s e is some));
+  end_bit = low;
+  order = omega (arith, ints, is.order);
+  few = omega (arith, ints, is.order, is.few);
+}
+
+-- it gives its first pointer, and then the others
+pub gives_first : (b : ℕ) (range : PointerRange) (s e n p : Pointer) → IsRange b s e
+    → record { start = s; len = bits_between b s e } ≡ range → 0 < range.len → p ≡ s
+    → whole_place b n ≡ whole_place b s +ℤ pos 1
+    → pointers_of b range ≡ p ∷ pointers_of b (record { start = n; len = bits_between b n e })
+gives_first b range s e n p is seen some same place =
+    let len : bits_between b s e ≡ range.len = ap (λ (r : PointerRange). r.len) seen in
+    let less : bits_between b s e ≡ bits_between b n e + 1 = omega (arith, ints, is.order) in
+    rw (← seen, same) (pointers-first b s.word s.bit (whole_place b n) (bits_between b s e) (bits_between b n e) is.bit less place)
+
+-- and its last after the others
+pub gives_last : (b : ℕ) (range : PointerRange) (s e l p : Pointer) → IsRange b s e
+    → record { start = s; len = bits_between b s e } ≡ range → 0 < range.len → p ≡ l
+    → whole_place b l ≡ whole_place b e -ℤ pos 1 → l.bit < b
+    → pointers_of b range ≡ pointers_of b (record { start = s; len = bits_between b s l }) ++ p ∷ []
+gives_last b range s e l p is seen some same place low =
+    let len : bits_between b s e ≡ range.len = ap (λ (r : PointerRange). r.len) seen in
+    let less : bits_between b s e ≡ bits_between b s l + 1 = omega (arith, ints, is.order) in
+    let there : whole_place b l ≡ whole_place b s +ℤ pos (bits_between b s l) = omega (arith, ints, is.order) in
+    rw (← seen, same) (pointers-last b (whole_place b s) (bits_between b s e) (bits_between b s l) l.word l.bit low less there)
+
+-- so there are fewer each time
+pub fewer_first : (b : ℕ) (range : PointerRange) (s e n : Pointer) → IsRange b s e
+    → record { start = s; len = bits_between b s e } ≡ range → 0 < range.len
+    → whole_place b n ≡ whole_place b s +ℤ pos 1
+    → length (pointers_of b (record { start = n; len = bits_between b n e })) < length (pointers_of b range)
+fewer_first b range s e n is seen some place =
+    let len : bits_between b s e ≡ range.len = ap (λ (r : PointerRange). r.len) seen in
+    let left = length-pointers b (whole_place b n) (bits_between b n e) in
+    let had = length-pointers b (whole_place b range.start) range.len in
+    let less : bits_between b n e < range.len = omega (arith, ints, is.order) in
+    omega arith
+
+pub fewer_last : (b : ℕ) (range : PointerRange) (s e l : Pointer) → IsRange b s e
+    → record { start = s; len = bits_between b s e } ≡ range → 0 < range.len
+    → whole_place b l ≡ whole_place b e -ℤ pos 1
+    → length (pointers_of b (record { start = s; len = bits_between b s l })) < length (pointers_of b range)
+fewer_last b range s e l is seen some place =
+    let len : bits_between b s e ≡ range.len = ap (λ (r : PointerRange). r.len) seen in
+    let left = length-pointers b (whole_place b s) (bits_between b s l) in
+    let had = length-pointers b (whole_place b range.start) range.len in
+    let less : bits_between b s l < range.len = omega (arith, ints, is.order) in
+    omega arith
+
+pub ruleset steps_from_front = (pointers-none, first_stays, without_first, gives_first, fewer_first)
+
+pub ruleset steps_from_back = (pointers-none, last_stays, without_last, gives_last, fewer_last)

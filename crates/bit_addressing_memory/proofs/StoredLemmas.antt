@@ -24,16 +24,14 @@ digit_stored b n v m f kept taken r p fits is_f is_kept is_taken is_r small =
 
 -- `(word & !mask) | (value & mask)` is the word with the digits of the value in the part
 pub stored_digits : {R : Type 0} (b : ℕ) (number : R → ℕ) (at select : ℕ → ℕ) (mask : Option ℕ → Option ℕ → ℕ)
-    (word value result kept taken : R) (m f from upto : ℕ) → IsLawful b at select mask
-    → from < b → from ≤ upto → upto ≤ b → m < 2 ^ b → m ≡ part_mask mask from upto → f ≡ 2 ^ b - 1 - m
-    → number kept ≡ bit_and (number word) f → number taken ≡ bit_and (number value) m
-    → number result ≡ bit_or (number kept) (number taken)
+    (word value result : R) (m from upto : ℕ) → IsLawful b at select mask
+    → from < b → from ≤ upto → upto ≤ b → m < 2 ^ b → m ≡ part_mask mask from upto
+    → number result ≡ bit_or (bit_and (number word) (2 ^ b - 1 - m)) (bit_and (number value) m)
     → IsStored b (indexed number at) word result from upto (indexed number at value)
-stored_digits b number at select mask word value result kept taken m f from upto law index order within fits is_m
-    is_f is_kept is_taken is =
+stored_digits b number at select mask word value result m from upto law index order within fits is_m is =
     let digit = λ (i : ℕ) (small : i < b).
-    digit_stored b (number word) (number value) m f (number kept) (number taken) (number result) (at i) fits is_f
-    is_kept is_taken is (law.in_range i small) in
+    digit_stored b (number word) (number value) m (2 ^ b - 1 - m) (bit_and (number word) (2 ^ b - 1 - m))
+    (bit_and (number value) m) (number result) (at i) fits refl refl refl is (law.in_range i small) in
     let out = λ (i : ℕ) (small : i < b) (outside : from ≤ i → i < upto → ⊥).
     let none : bit_at m (at i) ≡ 0 =
     ap (λ k. bit_at k (at i)) is_m ∙ part_outside b at select mask from upto i law index order within small outside in
@@ -81,6 +79,27 @@ digit_flipped b number at w z i e fits small =
     either zero h = refl
     either (suc zero) h = refl
     either (suc (suc d)) h = absurd (omega arith)
+
+-- a word without digits stored in a part
+pub stored_none : {R : Type 0} (b : ℕ) (digit : R → ℕ → Bool) (word value result : R) (from upto : ℕ)
+    → IsStored b digit word result from upto (digit value) → ((i : ℕ) → i < b → digit value i ≡ false)
+    → IsStored b digit word result from upto (λ _. false)
+stored_none b digit word value result from upto is none =
+    stored_as b digit word result from upto (digit value) (λ _. false) is none
+
+-- a word with each digit stored in a part
+pub stored_each : {R : Type 0} (b : ℕ) (digit : R → ℕ → Bool) (word value result : R) (from upto : ℕ)
+    → IsStored b digit word result from upto (digit value) → ((i : ℕ) → i < b → digit value i ≡ true)
+    → IsStored b digit word result from upto (λ _. true)
+stored_each b digit word value result from upto is each =
+    stored_as b digit word result from upto (digit value) (λ _. true) is each
+
+-- a word flipped and stored in a part of itself
+pub stored_flipped : {R : Type 0} (b : ℕ) (digit : R → ℕ → Bool) (word value result : R) (from upto : ℕ)
+    → IsStored b digit word result from upto (digit value) → ((i : ℕ) → i < b → digit value i ≡ not (digit word i))
+    → IsStored b digit word result from upto (λ i. not (digit word i))
+stored_flipped b digit word value result from upto is turned =
+    stored_as b digit word result from upto (digit value) (λ i. not (digit word i)) is turned
 
 -- a value stored, and the word then masked, is the value masked
 pub stored_then_masked : {R : Type 0} (b : ℕ) (digit : R → ℕ → Bool) (word value after result : R)

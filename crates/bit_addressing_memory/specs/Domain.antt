@@ -1,7 +1,8 @@
 -- What a domain shows: its bits and its masked words, in order, and how it is cut.
-use Rattle.std.specs.Prelude.{ℕ, ◌<◌, ◌≡◌, Bool, List, [], ◌++◌, Option, Some, None, IfSome, map}
+use Rattle.std.specs.Prelude.{ℕ, ◌+◌, ◌*◌, ◌<◌, ◌≡◌, Bool, List, [], ◌++◌, Option, Some, None, IfSome, map}
 use Rattle.std.specs.Borrow.{Bor}
-use Rattle.bit_addressing_memory.specs.Memory.{memory}
+use Rattle.bit_addressing_memory.specs.Memory.{memory, piece}
+use Rattle.bit_addressing_memory.specs.Span.{Extent}
 use Rattle.bit_addressing_memory.specs.Shown.{partial_bits, partial_numbers, partial_head, partial_tail}
 use Rattle.bit_addressing_memory.specs.declared.partial.PartialElement.{PartialElement}
 use Rattle.bit_addressing_memory.specs.declared.domain.Domain.{Domain}
@@ -64,3 +65,9 @@ abbrev pub domain_region : {R O : Type 0} {g : _} → Domain R O g
     → Option (Option (PartialElement R O g) × Bor (List R) × Option (PartialElement R O g))
 domain_region (Enclave p) = None
 domain_region (Region head body tail) = Some (head, body, tail)
+
+-- the domain gives the bits of the span in these words, cut at the borders of words
+pub record IsCutOf {R O : Type 0} {g : _} (b : ℕ) (digit : R → ℕ → Bool) (words : List R) (span : Extent) (d : Domain R O g)
+    : Type 0 where
+  pub bits : domain_bits b digit d ≡ piece (memory b digit words) (span.word * b + span.head) span.len
+  pub cut : IsCut b d

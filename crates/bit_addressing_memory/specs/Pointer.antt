@@ -32,7 +32,3 @@ memory_place b p = unsigned_abs p.word * b + p.bit
 pub record LiesIn (b : ℕ) (p : Pointer) (n words : ℕ) : Type 0 where
   pub from : pos 0 ≤ℤ p.word
   pub upto : memory_place b p + n ≤ words * b
-
--- the place n bits on from a pointer, which is the end of a range, stays in or is the first one past
-abbrev pub StaysUpTo : ℕ → ℤ → ℕ → ℕ → Type 0
-StaysUpTo b word bit n = StaysIn b (((word *ℤ pos b) +ℤ pos bit) +ℤ pos n)

@@ -1,12 +1,13 @@
 -- Ranges of pointers, and the pointers that they give.
 use Rattle.std.proofs.Common.{◌≡◌, ℕ, zero, suc, ◌+◌, ◌-◌, ◌*◌, ◌/◌, ◌%◌, ◌^◌, ◌<◌, ◌≤◌, List, [], ◌∷◌, ◌++◌, length, refl, sym, ap, ◌∙◌, arith}
-use Rattle.std.proofs.Math.IntN.{ℤ, pos, negsuc, ◌+ℤ◌, ◌*ℤ◌, negsuc-*ℤ-pos}
+use Rattle.std.proofs.Math.IntN.{ℤ, pos, negsuc, ◌+ℤ◌, ◌-ℤ◌, ◌*ℤ◌, negsuc-*ℤ-pos}
 use Rattle.std.proofs.Math.Nat.{mul-le-mul_right}
 use Rattle.std.proofs.lemmas.Int.{ints}
 use Rattle.std.proofs.lemmas.Nat.{div-mul-add, mod-mul-add}
+use lib.Signed.{◌≤ℤ◌}
 use Rattle.std.specs.Int.{w64}
-use Rattle.std.specs.Int.RustNames.{FitsSigned}
-use Rattle.bit_addressing_memory.specs.Pointer.{Pointer, StaysIn, StaysUpTo, whole_place}
+use Rattle.std.specs.Int.RustNames.{FitsSigned, unsigned_abs}
+use Rattle.bit_addressing_memory.specs.Pointer.{Pointer, StaysIn, whole_place}
 
 -- what a range is seen as: its first pointer, and how many bits it covers
 pub record PointerRange : Type 0 where
@@ -17,6 +18,23 @@ pub record PointerRange : Type 0 where
 abbrev pub pointer_at : ℕ → ℤ → Pointer
 pointer_at b (pos n) = record { word = pos (n / b); bit = n % b }
 pointer_at b (negsuc n) = record { word = negsuc (n / b); bit = b - 1 - n % b }
+
+-- how many bits the second pointer lies on from the first, which is not past it
+abbrev pub bits_between : ℕ → Pointer → Pointer → ℕ
+bits_between b from to = unsigned_abs (whole_place b to -ℤ whole_place b from)
+
+-- the pointers from the first one up to before the second are a range, whose bits an `isize` counts
+pub record IsRange (b : ℕ) (from to : Pointer) : Type 0 where
+  pub word : FitsSigned w64 from.word
+  pub bit : from.bit < b
+  pub end_word : FitsSigned w64 to.word
+  pub end_bit : to.bit < b
+  pub order : whole_place b from ≤ℤ whole_place b to
+  pub few : bits_between b from to < 2 ^ 63
+
+-- the pointer before which a range ends
+abbrev pub end_of : ℕ → PointerRange → Pointer
+end_of b range = pointer_at b (whole_place b range.start +ℤ pos range.len)
 
 -- the pointers to the n bits from place z on
 unfoldable pub pointers : ℕ → ℤ → ℕ → List Pointer
@@ -37,6 +55,18 @@ pointer_at_place b (negsuc n) i low =
     let rest : b - 1 - i < b = omega arith in
     let mirrored : b - 1 - (b - 1 - i) ≡ i = omega arith in
     rw (back, div-mul-add n b (b - 1 - i) rest, mod-mul-add n b (b - 1 - i) rest, mirrored) refl
+
+-- a range between two pointers ends before the second
+pub end_is : (b : ℕ) (from to : Pointer) → to.bit < b → whole_place b from ≤ℤ whole_place b to
+    → end_of b (record { start = from; len = bits_between b from to }) ≡ to
+end_is b from to low order =
+    let place : whole_place b from +ℤ pos (bits_between b from to) ≡ whole_place b to = omega (arith, ints) in
+    ap (pointer_at b) place ∙ pointer_at_place b to.word to.bit low
+
+-- as a range sees it
+pub end_seen : (b : ℕ) (from to : Pointer) (range : PointerRange) → IsRange b from to
+    → record { start = from; len = bits_between b from to } ≡ range → to ≡ end_of b range
+end_seen b from to range is seen = sym (end_is b from to is.end_bit is.order) ∙ ap (end_of b) seen
 
 -- none are left of no bits
 pub pointers-none : (b : ℕ) (z : ℤ) (n : ℕ) → n ≡ 0 → pointers b z n ≡ []
@@ -90,13 +120,4 @@ stays_here b (negsuc n) i low fits =
     let times = negsuc-*ℤ-pos n b in
     record { from = omega (arith, ints); upto = omega (arith, ints) }
 
--- and so does each place up to the end of a range
-pub stays_between : (b : ℕ) (w : ℤ) (i n m : ℕ) → i < b → FitsSigned w64 w → StaysUpTo b w i n → m ≤ n
-    → StaysIn b (((w *ℤ pos b) +ℤ pos i) +ℤ pos m)
-stays_between b w i n m low fits end le =
-    let here = stays_here b w i low fits in
-    let first = here.from in
-    let last = end.upto in
-    record { from = omega (arith, ints, here.from); upto = omega (arith, ints, end.upto) }
-
-pub ruleset ends_of_pointers = (pointers-none, pointers-first, pointers-last, length-pointers, stays_between)
+pub ruleset ends_of_pointers = (pointers-none, length-pointers)

@@ -13,7 +13,6 @@ use bit_addressing_order::{BitEnd, BitIdx, BitOrder, BitRegister, Limits};
 impl<R: BitRegister, O: BitOrder<R>> BitSpan<R, O> {
     /// The span's bits in these words, cut at the borders of words: each bit once, in order, and no
     /// other. The span fits.
-    #[tactic(auto, using(crate::proofs::CutLemmas::span_bits))]
     pub fn domain<'a>(self, words: &'a [R]) -> Domain<'a, R, O>
         requires { self.word + touched R.BITS self.head self.len ≤ length words.now }
         ensures bits { domain_bits R.BITS (indexed R.number O.position) result
@@ -23,16 +22,36 @@ impl<R: BitRegister, O: BitOrder<R>> BitSpan<R, O> {
         ensures words { length (domain_numbers R.number O.masked result) ≡ touched R.BITS self.head self.len }
     {
         let (word, head, len) = self.raw_parts();
-        let rest = words_from(words, word);
-        if len == 0 {
-            return Domain::Region {
-                head: None,
-                body: &rest[..0],
-                tail: None,
-            };
-        }
-        cut_words::<R, O>(rest, head, len)
+        cut_from::<R, O>(words, word, head, len)
     }
+}
+
+// Some bits of a memory from an index of a word on, cut at the borders of words.
+#[tactic(auto, using(crate::proofs::CutLemmas::span_bits))]
+pub(crate) fn cut_from<'a, R: BitRegister, O: BitOrder<R>>(
+    words: &'a [R],
+    word: usize,
+    head: BitIdx<R>,
+    len: usize,
+) -> Domain<'a, R, O>
+    requires index { head < R.BITS }
+    requires fits { word + touched R.BITS head len ≤ length words.now }
+    requires short { len ≤ MAX_BITS }
+    ensures bits { domain_bits R.BITS (indexed R.number O.position) result
+        ≡ piece (memory R.BITS (indexed R.number O.position) words.now) (word * R.BITS + head) len }
+    ensures enclave { IsEnclave result ↔ (0 < len) × (0 < head) × (head + len < R.BITS) }
+    ensures cut { IsCut R.BITS result }
+    ensures words { length (domain_numbers R.number O.masked result) ≡ touched R.BITS head len }
+{
+    let rest = words_from(words, word);
+    if len == 0 {
+        return Domain::Region {
+            head: None,
+            body: &rest[..0],
+            tail: None,
+        };
+    }
+    cut_words::<R, O>(rest, head, len)
 }
 
 // Some bits of a memory from an index of its first word on, cut at the borders of words.

@@ -1,11 +1,15 @@
 //! A span of a memory, read and written by words.
 
 ghost use Rattle.std.specs.Prelude.{◌≡◌, ℕ, ◌+◌, ◌-◌, ◌*◌, ◌<◌, ◌≤◌, ◌↔◌, ◌^◌, not, true, false, length, slice_index_or, min, IsTrue};
-ghost use Rattle.bit_addressing_memory.specs.Memory.{indexed, touched, entry};
+ghost use Rattle.bit_addressing_memory.specs.Domain.{IsCutOf, domain_numbers};
+ghost use Rattle.bit_addressing_memory.specs.Memory.{entry, indexed, touched};
+ghost use Rattle.bit_addressing_memory.specs.declared.span.TheConstants.{MAX_BITS};
 ghost use Rattle.bit_addressing_memory.specs.Parts.{ReadsPart, StoresPart, part_from, part_upto, part_place, part_count};
 
+use crate::cut::cut_from;
+use crate::domain::Domain;
 use crate::span::{BitSpan, words_touched};
-use crate::stored::{load_in, store_in};
+use crate::stored::{each_digit, flipped, load_in, no_digits, store_in};
 use bit_addressing_order::{BitEnd, BitIdx, BitOrder, BitRegister};
 use std::marker::PhantomData;
 
@@ -22,8 +26,27 @@ pub struct DomainMut<'a, R: BitRegister, O> {
     order: PhantomData<O>,
 
     ghost index: { head < R.BITS },
-    ghost short: { len ≤ 2305843009213693951 },
+    ghost short: { len ≤ MAX_BITS },
     ghost fits: { word + touched R.BITS head len ≤ length words.now },
+}
+
+/// No word, and a span without bits.
+impl<'a, R: BitRegister, O: BitOrder<R>> Default for DomainMut<'a, R, O> {
+    ghost use Rattle.std.specs.Prelude.{[]};
+    ghost use Rattle.bit_addressing_memory.specs.Lent.{lent_words, lent_span};
+    ghost use Rattle.bit_addressing_memory.specs.Span.{extent};
+
+    ghost is_default = { λ domain. (lent_words domain ≡ []) × (lent_span domain ≡ extent 0 0 0) };
+
+    fn default() -> Self {
+        DomainMut {
+            words: Default::default(),
+            word: 0,
+            head: 0,
+            len: 0,
+            order: PhantomData,
+        }
+    }
 }
 
 impl<R: BitRegister, O: BitOrder<R>> BitSpan<R, O> {
@@ -50,6 +73,16 @@ impl<R: BitRegister, O: BitOrder<R>> BitSpan<R, O> {
 // Read.
 impl<'a, R: BitRegister, O: BitOrder<R>> DomainMut<'a, R, O> {
     ghost use Rattle.bit_addressing_memory.specs.Lent.{lent_words, lent_span};
+
+    /// The same bits to read alone, cut at the borders of words.
+    pub fn as_domain(&self) -> Domain<'_, R, O>
+        ensures cut { IsCutOf R.BITS (indexed R.number O.position) (lent_words self.now) (lent_span self.now) result }
+        ensures words { length (domain_numbers R.number O.masked result)
+            ≡ touched R.BITS (lent_span self.now).head (lent_span self.now).len }
+    {
+        let head = BitIdx::new_unchecked(self.head);
+        cut_from::<R, O>(self.words, self.word, head, self.len)
+    }
 
     /// How many words the span has.
     pub fn len(&self) -> usize
@@ -135,11 +168,12 @@ impl<'a, R: BitRegister, O: BitOrder<R>> DomainMut<'a, R, O> {
             (λ i. not (entry R.BITS (indexed R.number O.position) (lent_words self.old)
             (part_place R.BITS (lent_span self.old) k + i))) }
     {
-        let flipped = self.words[self.word + k].not();
-        self.store_value(k, flipped)
+        let turned = flipped::<R, O>(self.words[self.word + k]);
+        self.store_value(k, turned)
     }
 
     /// Makes each bit of the part of word `k` that is in the span 0. Answers the word masked, as it was.
+    #[tactic(auto, using(crate::proofs::PartsLemmas::stores_none))]
     pub fn clear(&mut self, k: usize) -> R
         requires { k < touched R.BITS (lent_span self.old).head (lent_span self.old).len }
         ensures same_reference { (lent_lender self.new).ghost_name ≡ (lent_lender self.old).ghost_name }
@@ -151,10 +185,11 @@ impl<'a, R: BitRegister, O: BitOrder<R>> DomainMut<'a, R, O> {
             (part_place R.BITS (lent_span self.old) k) (part_count R.BITS (lent_span self.old) k)
             (λ _. false) }
     {
-        self.store_value(k, R::ZERO)
+        self.store_value(k, no_digits::<R, O>())
     }
 
     /// Makes each bit of the part of word `k` that is in the span 1. Answers the word masked, as it was.
+    #[tactic(auto, using(crate::proofs::PartsLemmas::stores_each))]
     pub fn set(&mut self, k: usize) -> R
         requires { k < touched R.BITS (lent_span self.old).head (lent_span self.old).len }
         ensures same_reference { (lent_lender self.new).ghost_name ≡ (lent_lender self.old).ghost_name }
@@ -166,7 +201,7 @@ impl<'a, R: BitRegister, O: BitOrder<R>> DomainMut<'a, R, O> {
             (part_place R.BITS (lent_span self.old) k) (part_count R.BITS (lent_span self.old) k)
             (λ _. true) }
     {
-        self.store_value(k, R::ALL)
+        self.store_value(k, each_digit::<R, O>())
     }
 }
 

@@ -16,8 +16,6 @@ mod pointer_range;
 mod span;
 mod span_error;
 mod stored;
-#[cfg(test)]
-mod tests;
 mod words;
 
 pub use copies::{copy_between, copy_within, swap_between, swap_entries, swap_within};

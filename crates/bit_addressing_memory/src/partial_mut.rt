@@ -4,7 +4,7 @@ ghost use Rattle.std.specs.Prelude.{◌≡◌, ◌-◌, ◌<◌, ◌≤◌, Bool
 ghost use Rattle.bit_addressing_memory.specs.Memory.{indexed};
 ghost use Rattle.bit_addressing_memory.specs.Partial.{part_mask, IsMasked, IsStored};
 
-use crate::stored::{masked, stored};
+use crate::stored::{each_digit, flipped, masked, no_digits, stored};
 use bit_addressing_order::{BitEnd, BitIdx, BitMask, BitOrder, BitRegister};
 use std::marker::PhantomData;
 
@@ -120,6 +120,7 @@ impl<'a, R: BitRegister, O: BitOrder<R>> PartialElementMut<'a, R, O> {
     }
 
     /// Flips each bit of the part. Answers the word masked, as it was.
+    #[tactic(auto, using(crate::proofs::StoredLemmas::stored_flipped))]
     pub fn invert(&mut self) -> R
         ensures same_reference { (written_lender self.new).ghost_name ≡ (written_lender self.old).ghost_name }
         ensures head { written_head self.new ≡ written_head self.old }
@@ -130,11 +131,12 @@ impl<'a, R: BitRegister, O: BitOrder<R>> PartialElementMut<'a, R, O> {
             (written_head self.old) (written_tail self.old)
             (λ i. not (indexed R.number O.position (written_word self.old) i)) }
     {
-        let flipped = self.word.not();
-        self.store_value(flipped)
+        let turned = flipped::<R, O>(*self.word);
+        self.store_value(turned)
     }
 
     /// Makes each bit of the part 0. Answers the word masked, as it was.
+    #[tactic(auto, using(crate::proofs::StoredLemmas::stored_none))]
     pub fn clear(&mut self) -> R
         ensures same_reference { (written_lender self.new).ghost_name ≡ (written_lender self.old).ghost_name }
         ensures head { written_head self.new ≡ written_head self.old }
@@ -144,10 +146,11 @@ impl<'a, R: BitRegister, O: BitOrder<R>> PartialElementMut<'a, R, O> {
         ensures now { IsStored R.BITS (indexed R.number O.position) (written_word self.old) (written_word self.new)
             (written_head self.old) (written_tail self.old) (λ _. false) }
     {
-        self.store_value(R::ZERO)
+        self.store_value(no_digits::<R, O>())
     }
 
     /// Makes each bit of the part 1. Answers the word masked, as it was.
+    #[tactic(auto, using(crate::proofs::StoredLemmas::stored_each))]
     pub fn set(&mut self) -> R
         ensures same_reference { (written_lender self.new).ghost_name ≡ (written_lender self.old).ghost_name }
         ensures head { written_head self.new ≡ written_head self.old }
@@ -157,6 +160,6 @@ impl<'a, R: BitRegister, O: BitOrder<R>> PartialElementMut<'a, R, O> {
         ensures now { IsStored R.BITS (indexed R.number O.position) (written_word self.old) (written_word self.new)
             (written_head self.old) (written_tail self.old) (λ _. true) }
     {
-        self.store_value(R::ALL)
+        self.store_value(each_digit::<R, O>())
     }
 }

@@ -97,7 +97,7 @@ impl<R: BitRegister, O: BitOrder<R>> BitPtr<R, O> {
         ensures word { result.word ≡ pos 0 }
         ensures bit { result.bit ≡ 0 }
     {
-        BitPtr::DANGLING
+        BitPtr::new(0, BitIdx::MIN)
     }
 
     /// The pointer to the first bit of a memory, which stays as it is.
@@ -115,7 +115,7 @@ impl<R: BitRegister, O: BitOrder<R>> BitPtr<R, O> {
         ensures bit { result.bit ≡ 0 }
         ensures same { words.new ≡ words.old }
     {
-        BitPtr::from_slice(words)
+        BitPtr::from_mut_slice(words)
     }
 }
 
@@ -155,6 +155,38 @@ impl<R: BitRegister, O: BitOrder<R>> BitPtr<R, O> {
         ensures bit { result.1 ≡ self.bit }
     {
         self.raw_parts()
+    }
+}
+
+// Copy from behind a reference: a pointer generic in its order is not `Copy`.
+impl<R: BitRegister, O: BitOrder<R>> BitPtr<R, O> {
+    // The same pointer.
+    pub(crate) fn copied(&self) -> BitPtr<R, O>
+        ensures value { result ≡ self.now }
+
+        // What the type says.
+        ensures word_fits { FitsSigned w64 result.word }
+        ensures bit_within { result.bit < R.BITS }
+    {
+        BitPtr::new(self.word, self.bit)
+    }
+
+    // The pointer to the next bit, whose word's number fits.
+    pub(crate) fn one_on(&self) -> BitPtr<R, O>
+        requires stays { StaysIn R.BITS (whole_place R.BITS self.now +ℤ pos 1) }
+        ensures place { whole_place R.BITS result ≡ whole_place R.BITS self.now +ℤ pos 1 }
+        ensures bit { result.bit < R.BITS }
+    {
+        self.copied().add(1)
+    }
+
+    // The pointer to the bit before, whose word's number fits.
+    pub(crate) fn one_back(&self) -> BitPtr<R, O>
+        requires stays { StaysIn R.BITS (whole_place R.BITS self.now -ℤ pos 1) }
+        ensures place { whole_place R.BITS result ≡ whole_place R.BITS self.now -ℤ pos 1 }
+        ensures bit { result.bit < R.BITS }
+    {
+        self.copied().sub(1)
     }
 }
 

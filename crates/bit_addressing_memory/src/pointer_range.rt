@@ -1,16 +1,17 @@
 //! Ranges of pointers: from one bit up to before another.
 
-ghost use Rattle.std.specs.Prelude.{◌≡◌, ◌+◌, ◌<◌, ◌↔◌, ⊤, pos, IsTrue, ◌+ℤ◌, ◌-ℤ◌, ◌≤ℤ◌, ◌<ℤ◌, FitsSigned};
+ghost use Rattle.std.specs.Prelude.{◌≡◌, ◌^◌, ◌<◌, ◌↔◌, pos, IsTrue, IfSome, ◌+ℤ◌, ◌-ℤ◌, ◌≤ℤ◌, ◌<ℤ◌, FitsSigned};
 ghost use Rattle.std.specs.Int.{w64};
-ghost use Rattle.std.specs.Iterator.{YieldsFirst, YieldsLast, item_count};
+ghost use Rattle.std.specs.Iterator.{YieldsFirst, YieldsLast, UpTo, item_count};
+ghost use Rattle.std.specs.Iterator.SizeHint.{IsWithinCount};
 ghost use Rattle.bit_addressing_memory.specs.Pointer.{whole_place};
 ghost use Rattle.bit_addressing_memory.specs.PointerRange.{pointers_of};
 
-use crate::pointer::{BitPtr, distance};
-use bit_addressing_order::{BitIdx, BitOrder, BitRegister, Limits};
+use crate::pointer::{BitPtr, Dangling, distance};
+use bit_addressing_order::{BitOrder, BitRegister};
 use std::iter::FusedIterator;
-use std::marker::{Model, PhantomData};
-use std::ops::Range;
+use std::marker::Model;
+use std::ops::{Bound, Range, RangeBounds};
 
 /// The pointers from one up to before another, ascending. A contract sees the first, and how many there
 /// are.
@@ -19,35 +20,24 @@ use std::ops::Range;
 #[derive(Drop)]
 #[derive_where(Clone, PartialEq, Eq, Hash)]
 pub struct BitPtrRange<R: BitRegister, O: BitOrder<R>> {
-    word: isize,
-    bit: BitIdx<R>,
-    len: usize,
-    #[derive_where(skip)]
-    order: PhantomData<O>,
+    start: BitPtr<R, O>,
+    end: BitPtr<R, O>,
 }
 
 impl<R: BitRegister, O: BitOrder<R>> Model for BitPtrRange<R, O> {
-    ghost use Rattle.std.specs.Prelude.{◌<◌, ◌^◌, pos, ◌+ℤ◌, FitsSigned};
-    ghost use Rattle.std.specs.Int.{w64};
-    ghost use Rattle.bit_addressing_memory.specs.Pointer.{StaysUpTo};
-    ghost use Rattle.bit_addressing_memory.specs.PointerRange.{PointerRange};
+    ghost use Rattle.std.proofs.Common.{ap};
+    ghost use Rattle.bit_addressing_memory.specs.PointerRange.{PointerRange, IsRange, bits_between, end_of, end_is};
 
     ghost Value = { PointerRange };
 
-    ghost view = { λ range. record {
-      start = record { word = range.word; bit = range.bit };
-      len = range.len;
-    } };
+    ghost view = { λ range. record { start = range.start; len = bits_between R.BITS range.start range.end } };
 
-    ghost invariant = { λ range. FitsSigned w64 range.word × (range.bit < R.BITS) × (range.len < 2 ^ 63)
-        × StaysUpTo R.BITS range.word range.bit range.len };
+    ghost invariant = { λ range. IsRange R.BITS range.start range.end };
 
-    ghost inverse = { λ value. record {
-      word = value.start.word;
-      bit = value.start.bit;
-      len = value.len;
-      order = record {};
-    } };
+    ghost inverse = { λ value. record { start = value.start; end = end_of R.BITS value } };
+
+    ghost inverse_ok = { λ range h. ap (λ end. record { start = range.start; end = end })
+        (end_is R.BITS range.start range.end h.end_bit h.order) };
 }
 
 /// The range that has no pointer and begins nowhere in particular.
@@ -66,15 +56,15 @@ impl<R: BitRegister, O: BitOrder<R>> EmptyRange for BitPtrRange<R, O> {
     ghost EMPTY = { record { start = record { word = pos 0; bit = 0 }; len = 0 } };
 
     const EMPTY: Self = BitPtrRange {
-        word: 0,
-        bit: BitIdx::MIN,
-        len: 0,
-        order: PhantomData,
+        start: BitPtr::DANGLING,
+        end: BitPtr::DANGLING,
     };
 }
 
 impl<R: BitRegister, O: BitOrder<R>> Default for BitPtrRange<R, O> {
-    ghost is_default = { λ range. range.len ≡ 0 };
+    ghost use Rattle.std.specs.Prelude.{◌≡◌, pos};
+
+    ghost is_default = { λ range. range ≡ record { start = record { word = pos 0; bit = 0 }; len = 0 } };
 
     fn default() -> Self {
         BitPtrRange::EMPTY
@@ -94,10 +84,8 @@ impl<R: BitRegister, O: BitOrder<R>> BitPtrRange<R, O> {
         let (word, bit) = range.start.raw_parts();
         let (end_word, end_bit) = range.end.raw_parts();
         BitPtrRange {
-            word,
-            bit,
-            len: distance::<R>(word, bit, end_word, end_bit) as usize,
-            order: PhantomData,
+            start: BitPtr::new(word, bit),
+            end: BitPtr::new(end_word, end_bit),
         }
     }
 
@@ -111,26 +99,19 @@ impl<R: BitRegister, O: BitOrder<R>> BitPtrRange<R, O> {
     }
 
     /// Whether a pointer is one of the range's.
-    pub fn contains(&self, pointer: BitPtr<R, O>) -> bool
-        ensures { IsTrue result ↔ ((whole_place R.BITS self.now.start ≤ℤ whole_place R.BITS pointer)
-            × (whole_place R.BITS pointer <ℤ (whole_place R.BITS self.now.start +ℤ pos self.now.len))) }
+    pub fn contains(&self, pointer: &BitPtr<R, O>) -> bool
+        ensures { IsTrue result ↔ ((whole_place R.BITS self.now.start ≤ℤ whole_place R.BITS pointer.now)
+            × (whole_place R.BITS pointer.now <ℤ (whole_place R.BITS self.now.start +ℤ pos self.now.len))) }
     {
-        let (word, bit) = pointer.raw_parts();
-        let on = distance::<R>(self.word, self.bit, word, bit);
-        if on < 0 {
-            return false;
-        }
-        if on < self.len as i128 {
-            return true;
-        }
-        false
+        let on = bits_to(self.start(), pointer.copied());
+        on >= 0 && on < self.bits_left() as i128
     }
 
     /// The pointer that the range begins with.
     pub fn start(&self) -> BitPtr<R, O>
         ensures { result ≡ self.now.start }
     {
-        BitPtr::new(self.word, self.bit)
+        self.start.copied()
     }
 
     /// The pointer before which it ends.
@@ -138,18 +119,26 @@ impl<R: BitRegister, O: BitOrder<R>> BitPtrRange<R, O> {
         ensures place { whole_place R.BITS result ≡ whole_place R.BITS self.now.start +ℤ pos self.now.len }
         ensures bit { result.bit < R.BITS }
     {
-        BitPtr::new(self.word, self.bit).add(self.len)
+        self.end.copied()
     }
 
     /// Whether it has no pointer.
     pub fn is_empty(&self) -> bool
         ensures { IsTrue result ↔ (self.now.len ≡ 0) }
     {
-        self.len == 0
+        self.bits_left() == 0
+    }
+
+    // How many pointers it has.
+    fn bits_left(&self) -> usize
+        ensures value { result ≡ self.now.len }
+        ensures small { result < 2 ^ 63 }
+    {
+        bits_to(self.start.copied(), self.end.copied()) as usize
     }
 }
 
-#[tactic(auto, using(crate::specs::PointerRange::ends_of_pointers))]
+#[tactic(auto, using(crate::proofs::PointerLemmas::steps_from_front, crate::specs::PointerRange::ends_of_pointers))]
 impl<R: BitRegister, O: BitOrder<R>> Iterator for BitPtrRange<R, O> {
     type Item = BitPtr<R, O>;
 
@@ -158,41 +147,72 @@ impl<R: BitRegister, O: BitOrder<R>> Iterator for BitPtrRange<R, O> {
     ghost remaining = { item_count (pointers_of R.BITS) };
 
     fn next(&mut self) -> Option<BitPtr<R, O>> {
-        if self.len == 0 {
+        if self.bits_left() == 0 {
             return None;
         }
-        let first = BitPtr::new(self.word, self.bit);
-        let (word, bit) = BitPtr::<R, O>::new(self.word, self.bit).add(1).raw_parts();
-        self.word = word;
-        self.bit = bit;
-        self.len -= 1;
+        let first = self.start.copied();
+        self.start = self.start.one_on();
         Some(first)
     }
 
-    fn size_hint(&self) -> (usize, Option<usize>) {
+    fn size_hint(&self) -> (usize, Option<usize>)
+        ensures lower { IsWithinCount result.0 (item_count (pointers_of R.BITS) self.now) }
+        ensures upper { IfSome result.1 (UpTo (item_count (pointers_of R.BITS) self.now)) }
+        ensures exact { result ≡ (self.now.len, Some self.now.len) }
+    {
         let len = self.len();
         (len, Some(len))
     }
 }
 
-#[tactic(auto, using(crate::specs::PointerRange::ends_of_pointers))]
+#[tactic(auto, using(crate::proofs::PointerLemmas::steps_from_back))]
 impl<R: BitRegister, O: BitOrder<R>> DoubleEndedIterator for BitPtrRange<R, O> {
     ghost next_back_gives = { YieldsLast (pointers_of R.BITS) };
 
     fn next_back(&mut self) -> Option<BitPtr<R, O>> {
-        if self.len == 0 {
+        if self.bits_left() == 0 {
             return None;
         }
-        self.len -= 1;
-        Some(BitPtr::new(self.word, self.bit).add(self.len))
+        self.end = self.end.one_back();
+        Some(self.end.copied())
     }
 }
 
 #[tactic(auto, using(crate::specs::PointerRange::ends_of_pointers))]
 impl<R: BitRegister, O: BitOrder<R>> ExactSizeIterator for BitPtrRange<R, O> {
     fn len(&self) -> usize {
-        self.len
+        self.bits_left()
     }
 }
 
 impl<R: BitRegister, O: BitOrder<R>> FusedIterator for BitPtrRange<R, O> {}
+
+#[tactic(auto, using(crate::specs::PointerRange::end_seen))]
+impl<R: BitRegister, O: BitOrder<R>> RangeBounds<BitPtr<R, O>> for BitPtrRange<R, O> {
+    ghost use Rattle.std.specs.Prelude.{⊤};
+    ghost use Rattle.std.specs.declared.ops.Bound.TheVariants.{Included, Excluded};
+    ghost use Rattle.bit_addressing_memory.specs.PointerRange.{end_of};
+
+    ghost has_bounds = { λ _. ⊤ };
+
+    ghost start_bound = { λ range. Included range.start };
+
+    ghost end_bound = { λ range. Excluded (end_of R.BITS range) };
+
+    fn start_bound(&self) -> Bound<&BitPtr<R, O>> {
+        Bound::Included(&self.start)
+    }
+
+    fn end_bound(&self) -> Bound<&BitPtr<R, O>> {
+        Bound::Excluded(&self.end)
+    }
+}
+
+// How many bits on from one pointer another lies.
+fn bits_to<R: BitRegister, O: BitOrder<R>>(from: BitPtr<R, O>, to: BitPtr<R, O>) -> i128
+    ensures { result ≡ whole_place R.BITS to -ℤ whole_place R.BITS from }
+{
+    let (word, bit) = from.raw_parts();
+    let (to_word, to_bit) = to.raw_parts();
+    distance::<R>(word, bit, to_word, to_bit)
+}

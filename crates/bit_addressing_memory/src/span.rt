@@ -25,12 +25,13 @@ pub struct BitSpan<R: BitRegister, O: BitOrder<R>> {
 
 impl<R: BitRegister, O: BitOrder<R>> Model for BitSpan<R, O> {
     ghost use Rattle.bit_addressing_memory.specs.Span.{Extent, extent, IsExtent};
+    ghost use Rattle.bit_addressing_memory.specs.declared.span.TheConstants.{MAX_BITS};
 
     ghost Value = { Extent };
 
     ghost view = { λ span. extent span.word span.head span.len };
 
-    ghost invariant = { λ span. IsExtent 2305843009213693951 R.BITS (extent span.word span.head span.len) };
+    ghost invariant = { λ span. IsExtent MAX_BITS R.BITS (extent span.word span.head span.len) };
 
     ghost inverse = { λ s. record { word = s.word; head = s.head; len = s.len; order = record {} } };
 }

@@ -1,6 +1,6 @@
 //! A word read and written in a part of it.
 
-ghost use Rattle.std.specs.Prelude.{◌≡◌, ◌+◌, ◌-◌, ◌*◌, ◌<◌, ◌≤◌, bit_and, length};
+ghost use Rattle.std.specs.Prelude.{◌≡◌, ℕ, ◌+◌, ◌-◌, ◌*◌, ◌^◌, ◌<◌, ◌≤◌, true, false, not, bit_and, bit_or, length};
 ghost use Rattle.bit_addressing_memory.specs.Memory.{indexed};
 ghost use Rattle.bit_addressing_memory.specs.Partial.{part_mask, IsMasked, IsStored};
 ghost use Rattle.bit_addressing_memory.specs.Parts.{ReadsPart, StoresPart};
@@ -29,6 +29,14 @@ pub(crate) fn stored<R: BitRegister, O: BitOrder<R>>(
         (indexed R.number O.position value) }
 {
     let mask = O::mask(Some(head), Some(tail)).into_inner();
+    mixed(word, value, mask)
+}
+
+// The digits of `value` where a mask has ones, and those of `word` where it has none.
+fn mixed<R: BitRegister>(word: R, value: R, mask: R) -> R
+    ensures { R.number result ≡ bit_or (bit_and (R.number word) (2 ^ R.BITS - 1 - R.number mask))
+        (bit_and (R.number value) (R.number mask)) }
+{
     let kept = word.and(mask.not());
     kept.or(value.and(mask))
 }
@@ -64,4 +72,25 @@ pub(crate) fn store_in<R: BitRegister, O: BitOrder<R>>(
     let word = words[at];
     words[at] = stored::<R, O>(word, value, head, tail);
     masked::<R, O>(word, head, tail)
+}
+
+// The word with no digit at any index.
+pub(crate) fn no_digits<R: BitRegister, O: BitOrder<R>>() -> R
+    ensures { (i : ℕ) → i < R.BITS → indexed R.number O.position result i ≡ false }
+{
+    R::ZERO
+}
+
+// The word with a digit at each index.
+pub(crate) fn each_digit<R: BitRegister, O: BitOrder<R>>() -> R
+    ensures { (i : ℕ) → i < R.BITS → indexed R.number O.position result i ≡ true }
+{
+    R::ALL
+}
+
+// The word with the digit at each index flipped.
+pub(crate) fn flipped<R: BitRegister, O: BitOrder<R>>(word: R) -> R
+    ensures { (i : ℕ) → i < R.BITS → indexed R.number O.position result i ≡ not (indexed R.number O.position word i) }
+{
+    word.not()
 }

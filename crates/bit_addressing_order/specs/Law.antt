@@ -42,10 +42,6 @@ selectors_from at i = 2 ^ at i
 abbrev pub masks_from : ℕ → (ℕ → ℕ) → Option ℕ → Option ℕ → ℕ
 masks_from bits at from upto = mask_from at (lower from) (upper bits upto - lower from)
 
--- a register has 8, 16, 32, 64 or 128 bits
-abbrev pub IsRegisterSize : ℕ → Type 0
-IsRegisterSize bits = (indx : ℕ) × (3 ≤ indx) × (indx ≤ 7) × (bits ≡ 2 ^ indx)
-
 -- a first bound that is there is an index
 abbrev pub IsIndexBound : ℕ → Option ℕ → Type 0
 IsIndexBound bits None = Unit {0}

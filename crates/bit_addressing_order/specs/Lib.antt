@@ -5,7 +5,6 @@ pub mod Law
 pub mod Masks
 pub mod OrderLaws
 pub mod Ranges
-pub mod Registers
 pub mod Text
 pub mod Verify
 pub mod VerifyLemmas

@@ -10,7 +10,8 @@ use Rattle.std.proofs.lemmas.Nat.{xor_lt, mul-mod, div-add-mod'}
 use Rattle.std.proofs.lemmas.Bool.{cases_lt, cases_eq, cases_order}
 use Rattle.std.specs.Int.{bit_at}
 use Rattle.std.proofs.lemmas.Nat.Bits.{bit_at_mask_inside, bit_at_mask_below, bit_at_mask_above, bit_at-pow_same, bit_at-pow_other, bit_at-lt, bit_at_or, bit_at_and, bit_at_xor, bit_at-zero, same_from_bits}
-use Rattle.bit_addressing_order.specs.Law.{lower, upper, mask_from, selectors_from, masks_from, IsRegisterSize, IsIndexBound, IsMaskOf, IsLawful}
+use Rattle.bit_addressing_register.specs.Registers.{IsRegisterSize}
+use Rattle.bit_addressing_order.specs.Law.{lower, upper, mask_from, selectors_from, masks_from, IsIndexBound, IsMaskOf, IsLawful}
 
 -- ---- masks made index by index
 

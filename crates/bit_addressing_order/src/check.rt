@@ -9,7 +9,7 @@ use crate::end::BitEnd;
 use crate::fault::OrderFault;
 use crate::index::BitIdx;
 use crate::order::{OrderCandidate, mask_of_indices};
-use crate::register::BitRegister;
+use bit_addressing_register::BitRegister;
 
 /// Whether the candidate is lawful at words of this register: `Ok` exactly where it is, else the
 /// first law that it breaks.

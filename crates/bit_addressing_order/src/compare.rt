@@ -8,8 +8,8 @@ ghost use Rattle.std.specs.Hash as fed;
 ghost use Rattle.std.specs.Ordering.{nat_cmp, on, as_partial_cmp};
 
 use crate::mask::BitMask;
-use crate::register::BitRegister;
 use crate::selector::BitSel;
+use bit_addressing_register::BitRegister;
 use std::cmp::Ordering;
 use std::hash::{Hash, Hasher};
 
@@ -57,7 +57,8 @@ impl<R: BitRegister> Hash for BitSel<R> {
     ghost respects_eq = { Prim.search (hashing, rules) };
 
     fn hash<H: Hasher>(&self, state: &mut H) {
-        self.into_inner().value().hash(state);
+        let selected = self.into_inner().value();
+        selected.hash(state);
     }
 }
 
@@ -105,6 +106,7 @@ impl<R: BitRegister> Hash for BitMask<R> {
     ghost respects_eq = { Prim.search (hashing, rules) };
 
     fn hash<H: Hasher>(&self, state: &mut H) {
-        self.into_inner().value().hash(state);
+        let positions = self.into_inner().value();
+        positions.hash(state);
     }
 }

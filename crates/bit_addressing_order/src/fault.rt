@@ -2,7 +2,7 @@
 
 use crate::end::BitEnd;
 use crate::index::BitIdx;
-use crate::register::BitRegister;
+use bit_addressing_register::BitRegister;
 use thiserror::Error;
 
 /// The first law that a candidate breaks at words of one register.

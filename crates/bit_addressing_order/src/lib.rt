@@ -1,5 +1,4 @@
-//! Storage words as registers, checked places inside a word, and bit orders with laws that each
-//! order proves.
+//! Checked places inside a word, and bit orders with laws that each order proves. It shows the registers too.
 #![tactic(auto)]
 
 mod check;
@@ -9,18 +8,14 @@ mod fault;
 mod index;
 mod limits;
 mod mask;
-pub mod mem;
 mod order;
 mod position;
 mod ranges;
-mod register;
 mod selector;
-#[cfg(test)]
-mod tests;
 mod text;
-mod widths;
 mod words;
 
+pub use bit_addressing_register::{BitRegister, mem};
 pub use check::verify_for_type;
 pub use end::BitEnd;
 pub use fault::{OrderFault, WordFault};
@@ -33,6 +28,5 @@ pub use order::{
 };
 pub use position::BitPos;
 pub use ranges::{EndRange, IndexRange, SelectorRange};
-pub use register::BitRegister;
 pub use selector::BitSel;
 pub use words::verify;

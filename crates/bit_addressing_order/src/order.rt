@@ -7,8 +7,8 @@ use crate::end::BitEnd;
 use crate::index::BitIdx;
 use crate::mask::BitMask;
 use crate::position::BitPos;
-use crate::register::BitRegister;
 use crate::selector::BitSel;
+use bit_addressing_register::BitRegister;
 
 /// The position of each index, with no law: the part of an order that `select_from_at` and
 /// `mask_from_at` work from.
@@ -103,8 +103,8 @@ pub type LocalBits = Lsb0;
 impl<R: BitRegister> Positions<R> for Lsb0 {
     ghost position = { λ i. i };
 
-    fn position_of(index: u8) -> u8 {
-        index
+    fn position_of(bits_below: u8) -> u8 {
+        bits_below
     }
 }
 
@@ -225,5 +225,7 @@ pub fn disjoint_masks<R: BitRegister, O: BitOrder<R>>(
     ensures second { R.number result.1 ≡ O.masked later_from later_upto }
     ensures disjoint { bit_and (R.number result.0) (R.number result.1) ≡ 0 }
 {
-    (O::mask(from, upto), O::mask(later_from, later_upto))
+    let first = O::mask(from, upto);
+    let later = O::mask(later_from, later_upto);
+    (first, later)
 }

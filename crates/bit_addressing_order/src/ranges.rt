@@ -8,8 +8,8 @@ ghost use Rattle.std.specs.Iterator.SizeHint.{IsWithinCount};
 use crate::end::BitEnd;
 use crate::index::BitIdx;
 use crate::position::BitPos;
-use crate::register::BitRegister;
 use crate::selector::BitSel;
+use bit_addressing_register::BitRegister;
 use std::alloc::AllocError;
 use std::iter::FusedIterator;
 use std::marker::{Model, PhantomData};
@@ -81,8 +81,8 @@ impl<R: BitRegister> Iterator for IndexRange<R> {
         ensures upper { IfSome result.1 (UpTo (at_most (length self.now))) }
         ensures exact { result ≡ (length self.now, Some (length self.now)) }
     {
-        let len = self.len();
-        (len, Some(len))
+        let indices = self.len();
+        (indices, Some(indices))
     }
 }
 
@@ -180,8 +180,8 @@ impl<R: BitRegister> Iterator for EndRange<R> {
         ensures upper { IfSome result.1 (UpTo (at_most (length self.now))) }
         ensures exact { result ≡ (length self.now, Some (length self.now)) }
     {
-        let len = self.len();
-        (len, Some(len))
+        let ends = self.len();
+        (ends, Some(ends))
     }
 }
 
@@ -264,8 +264,8 @@ impl<R: BitRegister> Iterator for SelectorRange<R> {
         ensures upper { IfSome result.1 (UpTo (at_most (length self.now))) }
         ensures exact { result ≡ (length self.now, Some (length self.now)) }
     {
-        let len = self.len();
-        (len, Some(len))
+        let selectors = self.len();
+        (selectors, Some(selectors))
     }
 }
 

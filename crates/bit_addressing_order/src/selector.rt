@@ -7,7 +7,7 @@ ghost use Rattle.bit_addressing_order.specs.Law.{IsSelector};
 use crate::mask::BitMask;
 use crate::position::BitPos;
 use crate::ranges::SelectorRange;
-use crate::register::BitRegister;
+use bit_addressing_register::BitRegister;
 use std::alloc::AllocError;
 use std::marker::Model;
 
@@ -51,7 +51,7 @@ impl<R: BitRegister> BitSel<R> {
         for position in 0..R::BITS {
             let selector = BitPos::new_unchecked(position).select();
             if word.equals(selector.into_inner()) {
-                return Some(BitSel { word });
+                return Some(BitSel::new_unchecked(word));
             }
         }
         None

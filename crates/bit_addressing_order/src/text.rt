@@ -1,6 +1,6 @@
 //! The texts of places, selectors and masks: binary digits with leading zeros.
 
-ghost use Rattle.std.specs.Prelude.{◌≡◌, ◌+◌, ◌<◌, ◌≤◌, [], ◌∷◌, Some, codes};
+ghost use Rattle.std.specs.Prelude.{◌≡◌, ◌+◌, ◌<◌, ◌≤◌, [], ◌∷◌, ◌++◌, Some, codes};
 ghost use Rattle.std.specs.Fmt.{WritesOnOk, decimal};
 ghost use Rattle.std.specs.Int.{bit_at};
 ghost use Rattle.bit_addressing_order.specs.Index.{index_error_text};
@@ -10,10 +10,11 @@ use crate::end::BitEnd;
 use crate::index::{BitIdx, BitIdxError};
 use crate::mask::BitMask;
 use crate::position::BitPos;
-use crate::register::BitRegister;
 use crate::selector::BitSel;
+use bit_addressing_register::BitRegister;
 use std::error::Error;
 use std::fmt;
+use std::marker::PhantomData;
 
 /// `index 8 is not below 8 of u8`: the number, `BITS` and `NAME`.
 impl<R: BitRegister> fmt::Display for BitIdxError<R> {
@@ -21,9 +22,22 @@ impl<R: BitRegister> fmt::Display for BitIdxError<R> {
 
     fn fmt<W: fmt::Write>(&self, f: &mut fmt::Formatter<W>) -> fmt::Result {
         let index = self.into_inner();
+        let bound = Bound::<R>(PhantomData);
+        write!(f, "index {index} is not below {bound}")
+    }
+}
+
+// What an index has to be below: `8 of u8`.
+#[derive(Drop)]
+struct Bound<R: BitRegister>(PhantomData<R>);
+
+impl<R: BitRegister> fmt::Display for Bound<R> {
+    ghost output = { λ _. Some (decimal R.BITS ++ (codes " of " ++ R.name)) };
+
+    fn fmt<W: fmt::Write>(&self, f: &mut fmt::Formatter<W>) -> fmt::Result {
         let bits = R::BITS;
         let name = R::type_name();
-        write!(f, "index {index} is not below {bits} of {name}")
+        write!(f, "{bits} of {name}")
     }
 }
 
@@ -51,7 +65,9 @@ impl<R: BitRegister> fmt::Display for BitIdx<R> {
 
 /// `INDX` binary digits.
 impl<R: BitRegister> fmt::Binary for BitIdx<R> {
-    fn fmt<W: fmt::Write>(&self, f: &mut fmt::Formatter<W>) -> fmt::Result {
+    fn fmt<W: fmt::Write>(&self, f: &mut fmt::Formatter<W>) -> fmt::Result
+        ensures { WritesOnOk W.write_str_gives f.old result (binary_text R.INDX self.now) f.new }
+    {
         fmt::Display::fmt(self, f)
     }
 }
@@ -77,7 +93,9 @@ impl<R: BitRegister> fmt::Display for BitEnd<R> {
 
 /// `INDX + 1` binary digits.
 impl<R: BitRegister> fmt::Binary for BitEnd<R> {
-    fn fmt<W: fmt::Write>(&self, f: &mut fmt::Formatter<W>) -> fmt::Result {
+    fn fmt<W: fmt::Write>(&self, f: &mut fmt::Formatter<W>) -> fmt::Result
+        ensures { WritesOnOk W.write_str_gives f.old result (binary_text (R.INDX + 1) self.now) f.new }
+    {
         fmt::Display::fmt(self, f)
     }
 }
@@ -103,7 +121,9 @@ impl<R: BitRegister> fmt::Display for BitPos<R> {
 
 /// `INDX` binary digits.
 impl<R: BitRegister> fmt::Binary for BitPos<R> {
-    fn fmt<W: fmt::Write>(&self, f: &mut fmt::Formatter<W>) -> fmt::Result {
+    fn fmt<W: fmt::Write>(&self, f: &mut fmt::Formatter<W>) -> fmt::Result
+        ensures { WritesOnOk W.write_str_gives f.old result (binary_text R.INDX self.now) f.new }
+    {
         fmt::Display::fmt(self, f)
     }
 }
@@ -129,8 +149,10 @@ impl<R: BitRegister> fmt::Display for BitSel<R> {
 
 /// `BITS` binary digits.
 impl<R: BitRegister> fmt::Binary for BitSel<R> {
-    fn fmt<W: fmt::Write>(&self, f: &mut fmt::Formatter<W>) -> fmt::Result {
-        fmt::Display::fmt(self, f)
+    fn fmt<W: fmt::Write>(&self, f: &mut fmt::Formatter<W>) -> fmt::Result
+        ensures { WritesOnOk W.write_str_gives f.old result (binary_text R.BITS (R.number self.now)) f.new }
+    {
+        fmt::Binary::fmt(&self.mask(), f)
     }
 }
 
@@ -155,7 +177,9 @@ impl<R: BitRegister> fmt::Display for BitMask<R> {
 
 /// `BITS` binary digits.
 impl<R: BitRegister> fmt::Binary for BitMask<R> {
-    fn fmt<W: fmt::Write>(&self, f: &mut fmt::Formatter<W>) -> fmt::Result {
+    fn fmt<W: fmt::Write>(&self, f: &mut fmt::Formatter<W>) -> fmt::Result
+        ensures { WritesOnOk W.write_str_gives f.old result (binary_text R.BITS (R.number self.now)) f.new }
+    {
         fmt::Display::fmt(self, f)
     }
 }

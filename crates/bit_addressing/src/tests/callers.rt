@@ -1,10 +1,14 @@
-//! What a user of the crate proves from its contracts alone: bits moved inside the caller's own words.
+//! What a user of the crate proves from its contracts alone: bits moved inside the caller's own words,
+//! and commands at two spans.
 
-ghost use Rattle.std.specs.Prelude.{◌≡◌, ◌+◌, ◌*◌, ◌^◌, ◌<◌, ◌≤◌, [], ◌∷◌, length, slice_set};
-ghost use Rattle.bit_addressing_memory.specs.Memory.{indexed, memory, piece, touched, with_piece};
+ghost use Rattle.std.specs.Prelude.{◌≡◌, ◌+◌, ◌*◌, ◌^◌, ◌<◌, ◌≤◌, [], ◌∷◌, true, length, slice_index_or, slice_set};
+ghost use Rattle.bit_addressing_memory.specs.Memory.{entry, indexed, memory, piece, touched, with_piece};
 ghost use Rattle.bit_addressing.specs.Moves.{Moves, changed};
+ghost use Rattle.bit_addressing.specs.Runs.{AllFit, AreDisjoint, span_at, span_place};
 
-use crate::{BitOrder, BitRegister, Sweep, Way, move_in, way_for};
+use crate::{
+    BitOrder, BitRegister, BitSpan, SpanCommand, SpanReply, Sweep, Way, move_in, run, way_for,
+};
 
 /// Moves bits inside a slice and tells the writes. The sweep is made, used and gone in here, and the
 /// slice is known afterwards with no proof file.
@@ -70,4 +74,26 @@ pub fn put_ends<R: BitRegister>(words: &mut [R], first: R, second: R) -> (u64, u
     sweep.put(1, second);
     sweep.put(0, first);
     (sweep.reads(), sweep.writes())
+}
+
+/// Sets the first bit of one span and then reads that of another, which may stand in the same word. The bit that
+/// was set is known, and so is the reply: what the other span had.
+pub fn set_and_read<R: BitRegister, O: BitOrder<R>>(
+    memory: &mut [R],
+    spans: &[BitSpan<R, O>],
+    commands: &[(usize, SpanCommand<R>)],
+    replies: &mut [SpanReply<R>],
+)
+    requires disjoint { AreDisjoint R.BITS spans.now }
+    requires fit { AllFit R.BITS spans.now (length memory.old) }
+    requires two { length spans.now ≡ 2 }
+    requires heads { ((span_at spans.now 0).head < R.BITS) × ((span_at spans.now 1).head < R.BITS) }
+    requires bits { (0 < (span_at spans.now 0).len) × (0 < (span_at spans.now 1).len) }
+    requires commands { commands.now ≡ (0, SpanCommand.Replace 0 true) ∷ (1, SpanCommand.Read 0) ∷ [] }
+    requires places { length replies.old ≡ 2 }
+    ensures set { entry R.BITS (indexed R.number O.position) memory.new (span_place R.BITS (span_at spans.now 0)) ≡ true }
+    ensures read { slice_index_or replies.new 1 SpanReply.Refused
+        ≡ SpanReply.Bit (entry R.BITS (indexed R.number O.position) memory.old (span_place R.BITS (span_at spans.now 1))) }
+{
+    run(memory, spans, commands, replies);
 }

@@ -1,0 +1,109 @@
+//! Commands at disjoint spans of one memory.
+
+ghost use Rattle.std.specs.Prelude.{◌≡◌, ℕ, ◌+◌, ◌<◌, ◌≤◌, ◌↔◌, IsTrue, length};
+ghost use Rattle.bit_addressing_memory.specs.Memory.{indexed};
+ghost use Rattle.bit_addressing.specs.Runs.{AllFit, AreDisjoint, CarriesOut, IsInside, IsOutside, OrderOfSpansIsFree, Runs, span_at, span_place};
+
+use crate::carry::carry_out;
+use crate::command::{SpanCommand, SpanReply};
+use bit_addressing_memory::BitSpan;
+use bit_addressing_order::{BitOrder, BitRegister};
+
+/// Whether no bit is one of two spans'. Spans may share a word, and a span without bits shares none.
+pub fn disjoint<R: BitRegister, O: BitOrder<R>>(spans: &[BitSpan<R, O>]) -> bool
+    ensures { IsTrue result ↔ AreDisjoint R.BITS spans.now }
+{
+    for later in 0..spans.len() {
+        for earlier in 0..later {
+            if !are_apart(span_of(spans, earlier), span_of(spans, later)) {
+                return false;
+            }
+        }
+    }
+    true
+}
+
+/// Whether each word of each span is one of the first `words`.
+pub fn all_fit<R: BitRegister, O: BitOrder<R>>(spans: &[BitSpan<R, O>], words: usize) -> bool
+    ensures { IsTrue result ↔ AllFit R.BITS spans.now words }
+{
+    for k in 0..spans.len() {
+        if !span_of(spans, k).fits(words) {
+            return false;
+        }
+    }
+    true
+}
+
+/// Carries out commands, each at the span of its number, one after another.
+///
+/// A reply has what its command found. A command whose span or whose own numbers are out of range is refused,
+/// and changes nothing. No memory is taken.
+pub fn run<R: BitRegister, O: BitOrder<R>>(
+    memory: &mut [R],
+    spans: &[BitSpan<R, O>],
+    commands: &[(usize, SpanCommand<R>)],
+    replies: &mut [SpanReply<R>],
+)
+    requires disjoint { AreDisjoint R.BITS spans.now }
+    requires fit { AllFit R.BITS spans.now (length memory.old) }
+    requires places { length replies.old ≡ length commands.now }
+    ensures run { Runs R.BITS (indexed R.number O.position) memory.old memory.new spans.now commands.now replies.new }
+{
+    for k in 0..commands.len() {
+        let (number, command) = commands[k];
+        replies[k] = carry_out_at(memory, spans, number, command);
+    }
+}
+
+/// Two lists of commands that keep each span's own commands in their order give each span the same replies and
+/// end in the same memory: a law, which the contract states.
+pub fn order_of_spans_is_free<R: BitRegister, O: BitOrder<R>>()
+    ensures { OrderOfSpansIsFree R.BITS (indexed R.number O.position) }
+{}
+
+// Carries one command out at the span of a number, where there is one.
+fn carry_out_at<R: BitRegister, O: BitOrder<R>>(
+    memory: &mut [R],
+    spans: &[BitSpan<R, O>],
+    number: usize,
+    command: SpanCommand<R>,
+) -> SpanReply<R>
+    requires fit { AllFit R.BITS spans.now (length memory.old) }
+    ensures carried { number < length spans.now
+        → CarriesOut R.BITS (indexed R.number O.position) memory.old memory.new (span_at spans.now number) command result }
+    ensures refused { length spans.now ≤ number → result ≡ SpanReply.Refused }
+    ensures same { length spans.now ≤ number → memory.new ≡ memory.old }
+{
+    if number >= spans.len() {
+        return SpanReply::Refused;
+    }
+    carry_out(memory, span_of(spans, number), command)
+}
+
+// The span of a number, and one without bits where there is none. A span whose order is not known to be `Copy` is
+// not read by an index.
+fn span_of<R: BitRegister, O: BitOrder<R>>(spans: &[BitSpan<R, O>], number: usize) -> BitSpan<R, O>
+    ensures { result ≡ span_at spans.now number }
+{
+    spans.get(number).copied().unwrap_or_default()
+}
+
+// Whether no bit is in both spans.
+fn are_apart<R: BitRegister, O: BitOrder<R>>(one: BitSpan<R, O>, other: BitSpan<R, O>) -> bool
+    ensures { IsTrue result ↔ ((p : ℕ) → IsInside R.BITS one p → IsOutside R.BITS other p) }
+{
+    let (one_start, one_end) = places(one);
+    let (other_start, other_end) = places(other);
+    one_start.max(other_start) >= one_end.min(other_end)
+}
+
+// The place of a span's first bit and the place where it ends, which `usize` may not count.
+fn places<R: BitRegister, O: BitOrder<R>>(span: BitSpan<R, O>) -> (u128, u128)
+    ensures start { result.0 ≡ span_place R.BITS span }
+    ensures end { result.1 ≡ span_place R.BITS span + span.len }
+{
+    let (word, head, len) = span.raw_parts();
+    let start = word as u128 * R::BITS as u128 + head.into_inner() as u128;
+    (start, start + len as u128)
+}

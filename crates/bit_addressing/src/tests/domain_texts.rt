@@ -1,6 +1,6 @@
 //! The number texts of domains, worked out by hand.
 
-use crate::{BitIdx, BitOrder, BitRegister, BitSpan, Domain, Lsb0, Msb0};
+use crate::{BitIdx, BitSpan, Domain, DomainMut, Lsb0, Msb0};
 use std::alloc::Global;
 use std::fmt;
 use std::process::Abort;
@@ -8,46 +8,46 @@ use std::test::Fail;
 
 // What a domain writes in one of its four forms: the holes of a format string take integers alone.
 #[derive(Drop)]
-struct InBinary<'a, R: BitRegister, O>(Domain<'a, R, O>);
+struct InBinary<'a, T>(&'a T);
 
-impl<'a, R: BitRegister, O: BitOrder<R>> fmt::Display for InBinary<'a, R, O> {
+impl<'a, T: fmt::Binary> fmt::Display for InBinary<'a, T> {
     fn fmt<W: fmt::Write>(&self, f: &mut fmt::Formatter<W>) -> fmt::Result {
-        fmt::Binary::fmt(&self.0, f)
+        fmt::Binary::fmt(self.0, f)
     }
 }
 
 #[derive(Drop)]
-struct InOctal<'a, R: BitRegister, O>(Domain<'a, R, O>);
+struct InOctal<'a, T>(&'a T);
 
-impl<'a, R: BitRegister, O: BitOrder<R>> fmt::Display for InOctal<'a, R, O> {
+impl<'a, T: fmt::Octal> fmt::Display for InOctal<'a, T> {
     fn fmt<W: fmt::Write>(&self, f: &mut fmt::Formatter<W>) -> fmt::Result {
-        fmt::Octal::fmt(&self.0, f)
+        fmt::Octal::fmt(self.0, f)
     }
 }
 
 #[derive(Drop)]
-struct InLowerHex<'a, R: BitRegister, O>(Domain<'a, R, O>);
+struct InLowerHex<'a, T>(&'a T);
 
-impl<'a, R: BitRegister, O: BitOrder<R>> fmt::Display for InLowerHex<'a, R, O> {
+impl<'a, T: fmt::LowerHex> fmt::Display for InLowerHex<'a, T> {
     fn fmt<W: fmt::Write>(&self, f: &mut fmt::Formatter<W>) -> fmt::Result {
-        fmt::LowerHex::fmt(&self.0, f)
+        fmt::LowerHex::fmt(self.0, f)
     }
 }
 
 #[derive(Drop)]
-struct InUpperHex<'a, R: BitRegister, O>(Domain<'a, R, O>);
+struct InUpperHex<'a, T>(&'a T);
 
-impl<'a, R: BitRegister, O: BitOrder<R>> fmt::Display for InUpperHex<'a, R, O> {
+impl<'a, T: fmt::UpperHex> fmt::Display for InUpperHex<'a, T> {
     fn fmt<W: fmt::Write>(&self, f: &mut fmt::Formatter<W>) -> fmt::Result {
-        fmt::UpperHex::fmt(&self.0, f)
+        fmt::UpperHex::fmt(self.0, f)
     }
 }
 
 // The four texts of a domain.
-fn check_texts<'a, R: BitRegister, O: BitOrder<R>>(
+fn check_texts<T: fmt::Binary + fmt::Octal + fmt::LowerHex + fmt::UpperHex>(
     rt: &impl Abort,
     alloc: Global,
-    domain: Domain<'a, R, O>,
+    domain: &T,
     binary: &str,
     octal: &str,
     lower: &str,
@@ -73,7 +73,7 @@ fn regions_are_written(rt: HostRuntime) -> Result<(), Fail> {
     check_texts(
         &rt,
         rt.alloc(),
-        span.domain(&memory),
+        &span.domain(&memory),
         "[10000, 10101011, 11001101, 1110]",
         "[20, 253, 315, 16]",
         "[10, ab, cd, e]",
@@ -85,7 +85,7 @@ fn regions_are_written(rt: HostRuntime) -> Result<(), Fail> {
     check_texts(
         &rt,
         rt.alloc(),
-        span.domain(&memory),
+        &span.domain(&memory),
         "[1111, 10101011, 11001101, 1010000]",
         "[17, 253, 315, 120]",
         "[f, ab, cd, 50]",
@@ -97,7 +97,7 @@ fn regions_are_written(rt: HostRuntime) -> Result<(), Fail> {
     check_texts(
         &rt,
         rt.alloc(),
-        span.domain(&memory),
+        &span.domain(&memory),
         "[10101011, 11001101]",
         "[253, 315]",
         "[ab, cd]",
@@ -109,7 +109,7 @@ fn regions_are_written(rt: HostRuntime) -> Result<(), Fail> {
     check_texts(
         &rt,
         rt.alloc(),
-        span.domain(&memory),
+        &span.domain(&memory),
         "[101]",
         "[5]",
         "[5]",
@@ -126,7 +126,7 @@ fn enclaves_and_no_bits_are_written(rt: HostRuntime) -> Result<(), Fail> {
     check_texts(
         &rt,
         rt.alloc(),
-        span.domain(&memory),
+        &span.domain(&memory),
         "[1110101000]",
         "[1650]",
         "[3a8]",
@@ -138,7 +138,7 @@ fn enclaves_and_no_bits_are_written(rt: HostRuntime) -> Result<(), Fail> {
     check_texts(
         &rt,
         rt.alloc(),
-        span.domain(&memory),
+        &span.domain(&memory),
         "[]",
         "[]",
         "[]",
@@ -147,7 +147,7 @@ fn enclaves_and_no_bits_are_written(rt: HostRuntime) -> Result<(), Fail> {
     check_texts(
         &rt,
         rt.alloc(),
-        Domain::<u8, Lsb0>::default(),
+        &Domain::<u8, Lsb0>::default(),
         "[]",
         "[]",
         "[]",
@@ -160,7 +160,7 @@ fn enclaves_and_no_bits_are_written(rt: HostRuntime) -> Result<(), Fail> {
     check_texts(
         &rt,
         rt.alloc(),
-        span.domain(&zeros),
+        &span.domain(&zeros),
         "[0, 0]",
         "[0, 0]",
         "[0, 0]",
@@ -176,10 +176,31 @@ fn widest_words_are_written(rt: HostRuntime) -> Result<(), Fail> {
     check_texts(
         &rt,
         rt.alloc(),
-        span.domain(&memory),
+        &span.domain(&memory),
         "[1111111111111111111111111111111111111111111111111111111111111111, 10000]",
         "[1777777777777777777777, 20]",
         "[ffffffffffffffff, 10]",
         "[FFFFFFFFFFFFFFFF, 10]",
     )
+}
+
+#[test]
+fn writable_domains_are_written(rt: HostRuntime) -> Result<(), Fail> {
+    let mut memory = [0x1fu8, 0xab, 0xcd, 0x5e];
+    let span = BitSpan::<u8, Lsb0>::new(0, BitIdx::new(4)?, 24)?;
+    assert!(rt; span.fits(4));
+    let mut domain = span.domain_mut(&mut memory);
+    domain.store_value(1, 0xb7);
+    check_texts(
+        &rt,
+        rt.alloc(),
+        &domain,
+        "[10000, 10110111, 11001101, 1110]",
+        "[20, 267, 315, 16]",
+        "[10, b7, cd, e]",
+        "[10, B7, CD, E]",
+    )?;
+    let domain: DomainMut<u8, Msb0> = Default::default();
+    assert_eq!(rt; domain.len(), 0);
+    check_texts(&rt, rt.alloc(), &domain, "[]", "[]", "[]", "[]")
 }

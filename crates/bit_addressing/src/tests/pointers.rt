@@ -1,6 +1,6 @@
 //! Pointers moved and ranges of pointers, against places counted from word -100 on.
 
-ghost use Rattle.std.specs.Prelude.{◌<◌, ◌≤◌, pos, ◌+ℤ◌, ◌-ℤ◌, ◌*ℤ◌};
+ghost use Rattle.std.specs.Prelude.{◌≡◌, ◌<◌, ◌≤◌, pos, ◌+ℤ◌, ◌-ℤ◌, ◌*ℤ◌};
 ghost use Rattle.bit_addressing_memory.specs.Pointer.{StaysIn};
 
 use super::orders::FifthStep;
@@ -15,15 +15,25 @@ fn lies_at<R: BitRegister, O: BitOrder<R>>(pointer: BitPtr<R, O>, place: u32) ->
     word == (place / bits) as isize - 100 && bit.into_inner() as u32 == place % bits
 }
 
-// Whether a pointer is moved to a place, and tells the distance back.
+// The distance back from where a pointer was moved to is what it was moved by.
 #[tactic(auto, using(std::proofs::lemmas::Int::ints))]
+fn moved_distance<R: BitRegister, O: BitOrder<R>>(word: isize, index: u8, by: isize) -> isize
+    requires index { index < R.BITS }
+    requires stays { StaysIn R.BITS (((word *ℤ pos R.BITS) +ℤ pos index) +ℤ by) }
+    ensures { result ≡ by }
+{
+    let bit = BitIdx::<R>::new_unchecked(index);
+    let far = BitPtr::<R, O>::new(word, bit).offset(by);
+    far.offset_from(BitPtr::new(word, bit))
+}
+
+// Whether a pointer is moved to a place, and tells the distance back.
 fn moves<R: BitRegister, O: BitOrder<R>>(word: isize, index: u8, by: isize, to: u32) -> bool
     requires index { index < R.BITS }
     requires stays { StaysIn R.BITS (((word *ℤ pos R.BITS) +ℤ pos index) +ℤ by) }
 {
     let bit = BitIdx::<R>::new_unchecked(index);
-    let far = BitPtr::<R, O>::new(word, bit).offset(by);
-    if far.offset_from(BitPtr::new(word, bit)) != by {
+    if moved_distance::<R, O>(word, index, by) != by {
         return false;
     }
     lies_at(BitPtr::<R, O>::new(word, bit).offset(by), to)

@@ -1,4 +1,4 @@
-use Rattle.std.proofs.Common.{◌<◌, ◌≡◌, sym, ap, arith}
+use Rattle.std.proofs.Common.{◌≡◌, sym, ap, arith}
 use Rattle.bit_addressing_memory.specs.PointerRange.{PointerRange, bits_between}
 use Rattle.bit_addressing_memory.proofs.PointerLemmas.{without_first, gives_first}
 use Rattle.bit_addressing_memory.proofs.pointer_range.BitPtrRangeIterator.next.Goals as goal

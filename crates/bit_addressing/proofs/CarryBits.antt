@@ -1,13 +1,15 @@
 -- What the commands at one bit, or at a stretch of bits, do to a span's list.
 --
 -- One bit: `carried_read`, `carried_replace`. Two: `carried_swap`. Many: `carried_copy`, `copy_out`, `copies_none`.
-use Rattle.std.proofs.Common.{◌≡◌, ◌≢◌, ℕ, ◌+◌, ◌-◌, ◌<◌, ◌≤◌, Bool, false, List, length, get_or, leb, set, ◌&&◌, ◌⊎◌, refl, sym, ap, ◌∙◌, inl, inr, arith}
+use Rattle.std.proofs.Common.{◌≡◌, ◌≢◌, ℕ, ◌+◌, ◌-◌, ◌<◌, ◌≤◌, Bool, false, List, length, get_or, leb, set, ◌&&◌}
+use Rattle.std.proofs.Common.{◌⊎◌, refl, sym, ap, ◌∙◌, inl, inr, arith}
 use Rattle.std.proofs.lemmas.Bool.{cases_eq, cases_lt}
 use Rattle.std.proofs.lemmas.Bool.Decides.{nat_tests}
 use Rattle.std.proofs.lemmas.List.{length-set, get_or-set_same, get_or-set_other}
 use Rattle.bit_addressing_memory.specs.Memory.{Copies, Swaps, Writes, entry, piece, touched}
 use Rattle.bit_addressing_memory.specs.Span.{Extent}
-use Rattle.bit_addressing_memory.proofs.MemoryLemmas.{get_or-piece, length-piece, length-with_piece, with_piece_below, with_piece_inside, with_piece_above}
+use Rattle.bit_addressing_memory.proofs.MemoryLemmas.{get_or-piece, length-piece, length-with_piece, with_piece_below, with_piece_inside}
+use Rattle.bit_addressing_memory.proofs.MemoryLemmas.{with_piece_above}
 use Rattle.bit_addressing.specs.Runs.{CarriesOut, IsOutside, span_bits, span_place}
 use Rattle.bit_addressing.specs.declared.command.SpanCommand.TheVariants.{Read, Replace, Swap, Copy}
 use Rattle.bit_addressing.specs.declared.command.SpanReply.TheVariants.{Bit, Done}

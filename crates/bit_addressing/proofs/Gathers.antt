@@ -2,7 +2,8 @@
 --
 -- `moved_bit_inside`, `moved_bit_below`, `moved_bit_above`: what the move leaves at a place.
 -- `gather_first`, `gather_next`, `gather_rest`: the word begun, with one more digit, and whole.
-use Rattle.std.proofs.Common.{◌≡◌, ℕ, ◌+◌, ◌-◌, ◌*◌, ◌<◌, ◌≤◌, min, Bool, List, Option, sym, ◌∙◌, inl, inr, arith, below_more}
+use Rattle.std.proofs.Common.{◌≡◌, ℕ, ◌+◌, ◌-◌, ◌*◌, ◌<◌, ◌≤◌, min, Bool, List, Option, sym, ◌∙◌, inl, inr, arith}
+use Rattle.std.proofs.Common.{below_more}
 use Rattle.std.proofs.lemmas.Bool.{cases_lt}
 use Rattle.std.proofs.lemmas.Bool.Decides.{nat_tests}
 use Rattle.bit_addressing_order.specs.Bits.{with_digit}

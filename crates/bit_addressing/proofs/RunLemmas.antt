@@ -2,7 +2,8 @@
 --
 -- One command more: `runs_none`, `runs_carried`, `runs_refused`. The law: `order_is_free`.
 -- Spans: `span_bits_same`, `span_entries` (their bits and the memory's entries).
-use Rattle.std.proofs.Common.{◌≡◌, ◌≢◌, ℕ, zero, suc, ◌+◌, ◌-◌, ◌*◌, ◌<◌, ◌≤◌, ◌==◌, ◌⊎◌, Bool, false, List, [], ◌∷◌, ◌++◌, length, get_or, refl, sym, ap, ◌∙◌, inl, inr, arith}
+use Rattle.std.proofs.Common.{◌≡◌, ◌≢◌, ℕ, zero, suc, ◌+◌, ◌-◌, ◌*◌, ◌<◌, ◌≤◌, ◌==◌, ◌⊎◌, Bool, false}
+use Rattle.std.proofs.Common.{List, [], ◌∷◌, ◌++◌, length, get_or, refl, sym, ap, ◌∙◌, inl, inr, arith}
 use Rattle.std.proofs.lemmas.Bool.{cases_eq, cases_lt, cases_Bool, eq-eqb, ne_eqb}
 use Rattle.std.proofs.lemmas.List.{ext_get_or, length-take, length-drop, map_push}
 use Rattle.std.proofs.lemmas.List.Elements.{All-push, All-nil}
@@ -13,7 +14,8 @@ use Rattle.bit_addressing.specs.declared.command.SpanCommand.{SpanCommand}
 use Rattle.bit_addressing.specs.declared.command.SpanReply.{SpanReply}
 use Rattle.bit_addressing.specs.declared.command.SpanReply.TheVariants.{Refused}
 use Rattle.bit_addressing.specs.Own.{own_after, own_answer, own_answers, own_list, seen}
-use Rattle.bit_addressing.specs.Runs.{AreDisjoint, CarriesOut, IsInside, IsOutside, OrderOfSpansIsFree, Runs, commands_of, replies_of, span_at, span_bits, span_place}
+use Rattle.bit_addressing.specs.Runs.{AreDisjoint, CarriesOut, IsInside, IsOutside, OrderOfSpansIsFree, Runs, commands_of, replies_of, span_at}
+use Rattle.bit_addressing.specs.Runs.{span_bits, span_place}
 
 -- ---- lists with one more at their end
 

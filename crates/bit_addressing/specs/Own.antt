@@ -3,7 +3,8 @@
 --
 -- Whether a command's numbers are in range: `lies_in`. What it does: `own_after`, many: `own_list`. What it answers:
 -- `own_answer`, many: `own_answers`. An answer's word is the list of its b digits, as `seen` gives those of a reply.
-use Rattle.std.specs.Prelude.{ℕ, ◌+◌, ◌-◌, ◌*◌, ◌/◌, ◌%◌, ◌==◌, ◌&&◌, Bool, true, false, not, List, [], ◌∷◌, length, map, if◌then◌else◌, nat_le, nat_lt, slice_index_or, slice_set}
+use Rattle.std.specs.Prelude.{ℕ, ◌+◌, ◌-◌, ◌*◌, ◌/◌, ◌%◌, ◌==◌, ◌&&◌, Bool, true, false, not, List, [], ◌∷◌}
+use Rattle.std.specs.Prelude.{length, map, if◌then◌else◌, nat_le, nat_lt, slice_index_or, slice_set}
 use Rattle.std.specs.List.{range_with_len}
 use Rattle.bit_addressing_memory.specs.Memory.{digits, piece, touched, with_piece}
 use Rattle.bit_addressing.specs.declared.command.SpanCommand.{SpanCommand}

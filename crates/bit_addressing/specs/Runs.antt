@@ -2,7 +2,8 @@
 --
 -- Where a span lies: `span_place`, `span_bits`, `IsInside`, `IsOutside`. What is asked: `AreDisjoint`, `AllFit`.
 -- One command: `CarriesOut`. Its commands and replies: `commands_of`, `replies_of`. A whole run: `Runs`.
-use Rattle.std.specs.Prelude.{ℕ, ◌+◌, ◌*◌, ◌<◌, ◌≤◌, ◌==◌, ◌≡◌, Bool, List, [], ◌∷◌, length, map, if◌then◌else◌, slice_index_or, All}
+use Rattle.std.specs.Prelude.{ℕ, ◌+◌, ◌*◌, ◌<◌, ◌≤◌, ◌==◌, ◌≡◌, Bool, List, [], ◌∷◌, length, map}
+use Rattle.std.specs.Prelude.{if◌then◌else◌, slice_index_or, All}
 use Rattle.bit_addressing_memory.specs.Memory.{entry, memory, piece, touched}
 use Rattle.bit_addressing_memory.specs.Span.{Extent, extent}
 use Rattle.bit_addressing.specs.declared.command.SpanCommand.{SpanCommand}

@@ -6,9 +6,12 @@
 -- Pieces: `length-piece`, `get_or-piece`, `piece_none`, `piece_join`, `piece_piece`.
 -- A list written over: `length-with_piece`, `with_piece_below`, `with_piece_inside`, `with_piece_above`.
 -- What a call leaves, as a list: `memory_written`, `memory_copied`.
-use Rattle.std.proofs.Common.{◌≡◌, ℕ, suc, ◌+◌, ◌-◌, ◌*◌, ◌/◌, ◌%◌, ◌<◌, ◌≤◌, Bool, false, List, [], ◌∷◌, ◌++◌, length, map, take, drop, get_or, set, refl, sym, ap, ◌∙◌, inl, inr, arith, rules, length-append, length-set, add-one, get_or-set_same, get_or-set_other}
+use Rattle.std.proofs.Common.{◌≡◌, ℕ, suc, ◌+◌, ◌-◌, ◌*◌, ◌/◌, ◌%◌, ◌<◌, ◌≤◌, Bool, false, List, [], ◌∷◌}
+use Rattle.std.proofs.Common.{◌++◌, length, map, take, drop, get_or, set, refl, sym, ap, ◌∙◌, inl, inr, arith, rules, length-append}
+use Rattle.std.proofs.Common.{length-set, add-one, get_or-set_same, get_or-set_other}
 use Rattle.std.proofs.lemmas.Bool.{cases_eq, cases_lt}
-use Rattle.std.proofs.lemmas.List.{append-nil, take-append-drop, length-take, length-take-le, length-drop, get_or_append_left, get_or-append_right, take_at, drop_at, drop-drop, drop_more, take_all, same_lists, ext_get_or, places}
+use Rattle.std.proofs.lemmas.List.{append-nil, take-append-drop, length-take, length-take-le, length-drop, get_or_append_left, get_or-append_right}
+use Rattle.std.proofs.lemmas.List.{take_at, drop_at, drop-drop, drop_more, take_all, same_lists, ext_get_or, places}
 use Rattle.std.proofs.lemmas.List.Concat.{flat_map-append}
 use Rattle.std.proofs.lemmas.List.FromFn.{length-map-range_with_len, get_or-map-range_with_len}
 use Rattle.std.proofs.lemmas.Nat.{div-mul-add, mod-mul-add, div-add-mod', mod_below}

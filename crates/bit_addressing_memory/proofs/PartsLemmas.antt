@@ -1,7 +1,8 @@
 -- The parts of a span, a word each: where they lie, and a word of a memory read and written in its part.
 --
 -- `part_start`, `part_order`: where a part lies. `reads_part`, `stores_part`: one word read, and written back.
-use Rattle.std.proofs.Common.{◌≡◌, ℕ, zero, suc, ◌+◌, ◌-◌, ◌*◌, ◌/◌, ◌%◌, ◌<◌, ◌≤◌, Bool, List, length, get_or, set, min, true, false, not, sym, ap, ◌∙◌, inl, inr, arith, length-set}
+use Rattle.std.proofs.Common.{◌≡◌, ℕ, zero, suc, ◌+◌, ◌-◌, ◌*◌, ◌/◌, ◌%◌, ◌<◌, ◌≤◌, Bool, List, length, get_or}
+use Rattle.std.proofs.Common.{set, min, true, false, not, sym, ap, ◌∙◌, inl, inr, arith, length-set}
 use Rattle.std.proofs.Math.Nat.{mul-le-mul_right}
 use Rattle.std.proofs.lemmas.Bool.{cases_eq}
 use Rattle.std.proofs.lemmas.Nat.{div-mul-add, mod-mul-add, div-add-mod', mod_below}

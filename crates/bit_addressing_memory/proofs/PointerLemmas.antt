@@ -1,7 +1,9 @@
 -- Word numbers and places over the whole numbers.
-use Rattle.std.proofs.Common.{◌≡◌, ℕ, zero, suc, ◌+◌, ◌-◌, ◌*◌, ◌^◌, ◌<◌, ◌≤◌, ◌∷◌, ◌++◌, [], length, sym, ap, ◌∙◌, arith}
+use Rattle.std.proofs.Common.{◌≡◌, ℕ, zero, suc, ◌+◌, ◌-◌, ◌*◌, ◌^◌, ◌<◌, ◌≤◌, ◌∷◌, ◌++◌, [], length, sym}
+use Rattle.std.proofs.Common.{ap, ◌∙◌, arith}
 use Rattle.std.proofs.Math.Nat.{mul-le-mul}
-use Rattle.std.proofs.Math.IntN.{ℤ, pos, negsuc, ◌+ℤ◌, ◌-ℤ◌, ◌*ℤ◌, neg_ℤ, pred_ℤ, +ℤ-suc_ℤ, +ℤ-pred_ℤ, +ℤ_idr, suc_ℤ-*ℤ, pred_ℤ-*ℤ, negsuc-*ℤ-pos}
+use Rattle.std.proofs.Math.IntN.{ℤ, pos, negsuc, ◌+ℤ◌, ◌-ℤ◌, ◌*ℤ◌, neg_ℤ, pred_ℤ, +ℤ-suc_ℤ, +ℤ-pred_ℤ, +ℤ_idr}
+use Rattle.std.proofs.Math.IntN.{suc_ℤ-*ℤ, pred_ℤ-*ℤ, negsuc-*ℤ-pos}
 use Rattle.std.proofs.lemmas.Int.{ints, fits_signed_from_abs, fits_signed_mul, unsigned_abs-mul, to_z-of_z}
 use Rattle.std.specs.Int.{w64, w128}
 use mir.Val.{to_z, of_z}
@@ -9,7 +11,8 @@ use Rattle.std.specs.Int.RustNames.{FitsSigned, unsigned_abs}
 use Rattle.bit_addressing_order.specs.Index.{IsOffset}
 use Rattle.bit_addressing_memory.proofs.PlaceLemmas.{word_within}
 use Rattle.bit_addressing_memory.specs.Pointer.{Pointer, StaysIn, whole_place}
-use Rattle.bit_addressing_memory.specs.PointerRange.{PointerRange, IsRange, bits_between, pointers-none, length-pointers, pointers_of, pointers-first, pointers-last, stays_here}
+use Rattle.bit_addressing_memory.specs.PointerRange.{PointerRange, IsRange, bits_between, pointers-none, length-pointers, pointers_of, pointers-first}
+use Rattle.bit_addressing_memory.specs.PointerRange.{pointers-last, stays_here}
 
 -- words times bits, of a sum of word numbers
 pub times_sum : (w v : ℤ) (b : ℕ) → (w +ℤ v) *ℤ pos b ≡ (w *ℤ pos b) +ℤ (v *ℤ pos b)

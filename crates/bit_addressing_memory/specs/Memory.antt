@@ -5,7 +5,8 @@
 --
 -- The digit of a word: `indexed`. One bit: `entry`. Lists: `digits`, `memory`, `piece`, `with_piece`.
 -- Counts: `touched`. What a call does: `Writes`, `Copies`, `Swaps`.
-use Rattle.std.specs.Prelude.{ℕ, zero, suc, ◌+◌, ◌-◌, ◌/◌, ◌%◌, ◌<◌, ◌≤◌, ◌≡◌, ◌≢◌, Bool, false, List, ◌++◌, length, map, take, drop, slice_index_or}
+use Rattle.std.specs.Prelude.{ℕ, zero, suc, ◌+◌, ◌-◌, ◌/◌, ◌%◌, ◌<◌, ◌≤◌, ◌≡◌, ◌≢◌, Bool, false, List}
+use Rattle.std.specs.Prelude.{◌++◌, length, map, take, drop, slice_index_or}
 use Rattle.std.specs.List.{flat_map, range_with_len}
 use Rattle.bit_addressing_order.specs.Bits.{digit_at}
 

@@ -1,10 +1,12 @@
 //! The texts of domains: the masked words as numbers in plain form, in brackets, separated by a comma and
 //! a space.
 
-ghost use Rattle.std.specs.Prelude.{◌≡◌, ◌^◌, ◌<◌, ◌≤◌, true, false, map, IfOk, IsOk};
+ghost use Rattle.std.specs.Prelude.{◌≡◌, ℕ, List, ◌^◌, ◌<◌, ◌≤◌, true, false, map, IfOk, IsOk};
 ghost use Rattle.std.specs.Fmt.{WritesOnOk, HasWritten, IsPlainFormatter, digits};
 ghost use Rattle.bit_addressing_memory.specs.Domain.{domain_numbers, option_numbers};
 ghost use Rattle.bit_addressing_memory.specs.Form.{form_text};
+ghost use Rattle.bit_addressing_memory.specs.Lent.{IsTextOf};
+ghost use Rattle.bit_addressing_memory.specs.Memory.{indexed};
 ghost use Rattle.bit_addressing_memory.specs.Texts.{between, joined_text, numbers_text, begun_after};
 
 use crate::domain::Domain;
@@ -58,28 +60,42 @@ impl<'a, R: BitRegister, O: BitOrder<R>> fmt::UpperHex for Domain<'a, R, O> {
     }
 }
 
-// A writable domain writes what `as_domain` does. No clause says so: the domain that it shows has no name there.
-
 impl<'a, R: BitRegister, O: BitOrder<R>> fmt::Binary for DomainMut<'a, R, O> {
-    fn fmt<W: fmt::Write>(&self, f: &mut fmt::Formatter<W>) -> fmt::Result {
+    fn fmt<W: fmt::Write>(&self, f: &mut fmt::Formatter<W>) -> fmt::Result
+        ensures { R.BITS ≤ 64 → (text : List ℕ)
+            × IsTextOf R.BITS (indexed R.number O.position) R.number O.masked (digits 2 false) self.now text
+            × WritesOnOk W.write_str_gives f.old result text f.new }
+    {
         write_domain(self.as_domain(), Form::Binary, f)
     }
 }
 
 impl<'a, R: BitRegister, O: BitOrder<R>> fmt::Octal for DomainMut<'a, R, O> {
-    fn fmt<W: fmt::Write>(&self, f: &mut fmt::Formatter<W>) -> fmt::Result {
+    fn fmt<W: fmt::Write>(&self, f: &mut fmt::Formatter<W>) -> fmt::Result
+        ensures { R.BITS ≤ 64 → (text : List ℕ)
+            × IsTextOf R.BITS (indexed R.number O.position) R.number O.masked (digits 8 false) self.now text
+            × WritesOnOk W.write_str_gives f.old result text f.new }
+    {
         write_domain(self.as_domain(), Form::Octal, f)
     }
 }
 
 impl<'a, R: BitRegister, O: BitOrder<R>> fmt::LowerHex for DomainMut<'a, R, O> {
-    fn fmt<W: fmt::Write>(&self, f: &mut fmt::Formatter<W>) -> fmt::Result {
+    fn fmt<W: fmt::Write>(&self, f: &mut fmt::Formatter<W>) -> fmt::Result
+        ensures { R.BITS ≤ 64 → (text : List ℕ)
+            × IsTextOf R.BITS (indexed R.number O.position) R.number O.masked (digits 16 false) self.now text
+            × WritesOnOk W.write_str_gives f.old result text f.new }
+    {
         write_domain(self.as_domain(), Form::LowerHex, f)
     }
 }
 
 impl<'a, R: BitRegister, O: BitOrder<R>> fmt::UpperHex for DomainMut<'a, R, O> {
-    fn fmt<W: fmt::Write>(&self, f: &mut fmt::Formatter<W>) -> fmt::Result {
+    fn fmt<W: fmt::Write>(&self, f: &mut fmt::Formatter<W>) -> fmt::Result
+        ensures { R.BITS ≤ 64 → (text : List ℕ)
+            × IsTextOf R.BITS (indexed R.number O.position) R.number O.masked (digits 16 true) self.now text
+            × WritesOnOk W.write_str_gives f.old result text f.new }
+    {
         write_domain(self.as_domain(), Form::UpperHex, f)
     }
 }

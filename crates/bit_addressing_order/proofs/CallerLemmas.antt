@@ -5,7 +5,8 @@
 -- A word as a list: `length-bits_in_order`, `get_or-bits_in_order`, `bits_in_order-with_digit`.
 -- What a list tells of its word: `index_of` (`at` is onto), `same_word`, `same_word_from_list`.
 -- A mask: `mask_has`.
-use Rattle.std.proofs.Common.{◌≡◌, ◌≢◌, ℕ, ◌-◌, ◌^◌, ◌<◌, ◌≤◌, ◌↔◌, Bool, true, false, ◌==◌, Option, length, get_or, set, bit_and, bit_or, bit_xor, refl, sym, ◌∙◌, ap, subst, inl, inr, arith}
+use Rattle.std.proofs.Common.{◌≡◌, ◌≢◌, ℕ, ◌-◌, ◌^◌, ◌<◌, ◌≤◌, ◌↔◌, Bool, true, false, ◌==◌, Option, length}
+use Rattle.std.proofs.Common.{get_or, set, bit_and, bit_or, bit_xor, refl, sym, ◌∙◌, ap, subst, inl, inr, arith}
 use Rattle.std.proofs.Common.{length-set, get_or-set_same, get_or-set_other}
 use Rattle.std.proofs.Math.Pow.{pow-lt}
 use Rattle.std.proofs.lemmas.Bool.{cases_eq, false≢true, eqb-true, eqb-false, eq-eqb, ne_eqb}

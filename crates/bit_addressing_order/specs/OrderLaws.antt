@@ -3,13 +3,15 @@
 -- For an order's author: `lawful_from_at` (selectors and masks made from the positions), `lawful_by_steps`
 -- (positions that go by an odd step).
 -- For the users of any order: `masks_apart`, `IsMaskOf-mask_from`.
-use Rattle.std.proofs.Common.{pow-suc, ◌≡◌, ℕ, zero, suc, ◌+◌, ◌-◌, ◌*◌, ◌/◌, ◌%◌, ◌^◌, ◌<◌, ◌≤◌, ◌↔◌, Option, bit_and, bit_or, bit_xor, refl, sym, ◌∙◌, ap, inl, inr, arith}
+use Rattle.std.proofs.Common.{pow-suc, ◌≡◌, ℕ, zero, suc, ◌+◌, ◌-◌, ◌*◌, ◌/◌, ◌%◌, ◌^◌, ◌<◌, ◌≤◌, ◌↔◌}
+use Rattle.std.proofs.Common.{Option, bit_and, bit_or, bit_xor, refl, sym, ◌∙◌, ap, inl, inr, arith}
 use Rattle.std.proofs.Math.Pow.{pow_mono}
 use Rattle.std.proofs.Math.Nat.{mul_assoc, mul_comm, mul-sub, mul-mod_left, mul-le-mul_left, suc-mul}
 use Rattle.std.proofs.lemmas.Nat.{xor_lt, mul-mod, div-add-mod'}
 use Rattle.std.proofs.lemmas.Bool.{cases_lt, cases_eq, cases_order}
 use Rattle.std.specs.Int.{bit_at}
-use Rattle.std.proofs.lemmas.Nat.Bits.{bit_at_mask_inside, bit_at_mask_below, bit_at_mask_above, bit_at-pow_same, bit_at-pow_other, bit_at-lt, bit_at_or, bit_at_and, bit_at_xor, bit_at-zero, same_from_bits}
+use Rattle.std.proofs.lemmas.Nat.Bits.{bit_at_mask_inside, bit_at_mask_below, bit_at_mask_above, bit_at-pow_same, bit_at-pow_other, bit_at-lt}
+use Rattle.std.proofs.lemmas.Nat.Bits.{bit_at_or, bit_at_and, bit_at_xor, bit_at-zero, same_from_bits}
 use Rattle.bit_addressing_register.specs.Registers.{IsRegisterSize}
 use Rattle.bit_addressing_order.specs.Law.{lower, upper, mask_from, selectors_from, masks_from, IsIndexBound, IsMaskOf, IsLawful}
 

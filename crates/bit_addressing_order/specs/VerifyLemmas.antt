@@ -1,5 +1,6 @@
 -- What the steps of `verify_for_type` show.
-use Rattle.std.proofs.Common.{◌≡◌, ℕ, suc, ◌+◌, ◌-◌, ◌^◌, ◌<◌, ◌≤◌, ◌↔◌, inl, inr, Option, Some, None, bit_and, bit_or, sym, ◌∙◌, ap, subst, arith}
+use Rattle.std.proofs.Common.{◌≡◌, ℕ, suc, ◌+◌, ◌-◌, ◌^◌, ◌<◌, ◌≤◌, ◌↔◌, inl, inr, Option, Some, None, bit_and}
+use Rattle.std.proofs.Common.{bit_or, sym, ◌∙◌, ap, subst, arith}
 use Rattle.std.specs.Int.{bit_at}
 use Rattle.std.proofs.lemmas.Nat.Bits.{bit_at-lt, same_from_bits}
 use Rattle.bit_addressing_order.specs.Law.{IsIndexBound, lower, upper, mask_from, IsMaskOf, IsLawful}
@@ -7,7 +8,8 @@ use Rattle.std.proofs.lemmas.Bool.{cases_lt, cases_eq, cases_order}
 use borrow.Author.Count.{below_more}
 use Rattle.bit_addressing_order.specs.declared.fault.OrderFault.{OrderFault}
 use Rattle.bit_addressing_order.specs.declared.fault.OrderFault.TheVariants.{Selector, Repeated, Mask}
-use Rattle.bit_addressing_order.specs.Verify.{IsGoodIndex, AreGoodIndices, IsGoodMask, IsGoodRow, AreGoodRows, AreGoodEnds, AreGoodStarts, IsFirstFault}
+use Rattle.bit_addressing_order.specs.Verify.{IsGoodIndex, AreGoodIndices, IsGoodMask, IsGoodRow, AreGoodRows, AreGoodEnds, AreGoodStarts}
+use Rattle.bit_addressing_order.specs.Verify.{IsFirstFault}
 use Rattle.bit_addressing_order.specs.VerifySteps.{AreWithin, IsIndexFault, IsRowFault, IsPairFault, IsEndFault, IsStartFault}
 use Rattle.bit_addressing_order.specs.Digits.{and_selector}
 use Rattle.bit_addressing_order.specs.OrderLaws.{IsMaskOf-mask_from, mask_from_is}
@@ -119,14 +121,16 @@ module _ {R : Type 0} (bits : ℕ) (at select : ℕ → ℕ) (mask : Option ℕ 
   first_of_pair (Selector k) good h = absurd h
   first_of_pair (Repeated k) good h = absurd h
 
-  pub first_of_end : (e : OrderFault R) → AreGoodIndices at select bits → AreGoodRows bits at mask bits → IsEndFault bits at mask e → IsFirstFault bits at select mask e
+  pub first_of_end : (e : OrderFault R) → AreGoodIndices at select bits → AreGoodRows bits at mask bits
+      → IsEndFault bits at mask e → IsFirstFault bits at select mask e
   first_of_end (Mask None (Some u)) good rows h = (good, rows, h.0, h.1, h.2)
   first_of_end (Mask None None) good rows h = absurd h
   first_of_end (Mask (Some f) u) good rows h = absurd h
   first_of_end (Selector k) good rows h = absurd h
   first_of_end (Repeated k) good rows h = absurd h
 
-  pub first_of_start : (e : OrderFault R) → AreGoodIndices at select bits → AreGoodRows bits at mask bits → AreGoodEnds bits at mask (bits + 1) → IsStartFault bits at mask e → IsFirstFault bits at select mask e
+  pub first_of_start : (e : OrderFault R) → AreGoodIndices at select bits → AreGoodRows bits at mask bits
+      → AreGoodEnds bits at mask (bits + 1) → IsStartFault bits at mask e → IsFirstFault bits at select mask e
   first_of_start (Mask (Some f) None) good rows ends h = (good, rows, ends, h.0, h.1, h.2)
   first_of_start (Mask (Some f) (Some u)) good rows ends h = absurd h
   first_of_start (Mask None u) good rows ends h = absurd h

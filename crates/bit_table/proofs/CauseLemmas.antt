@@ -1,5 +1,6 @@
 -- What it says of an insertion that no cause refuses it.
-use Rattle.std.proofs.Common.{◌≡◌, ℕ, ◌+◌, ◌*◌, ◌≤◌, ◌==◌, not, nat_lt, [], ◌∷◌, Bool, true, false, ℤ, List, length, Option, None, sym, ap, ◌∙◌, arith, refl, subst, MatchOption}
+use Rattle.std.proofs.Common.{◌≡◌, ℕ, ◌+◌, ◌*◌, ◌≤◌, ◌==◌, not, nat_lt, [], ◌∷◌, Bool, true, false, ℤ, List, length}
+use Rattle.std.proofs.Common.{Option, None, sym, ap, ◌∙◌, arith, refl, subst, MatchOption}
 use Rattle.std.proofs.lemmas.Bool.Decides.{nat_tests}
 use Rattle.bit_table_layout.specs.declared.layout.TheConstants.{MAX_BITS}
 use Rattle.bit_table_layout.specs.Layouts.{LayoutShape, row_width}

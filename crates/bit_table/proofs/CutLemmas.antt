@@ -1,5 +1,6 @@
 -- A command that is kept cut off is refused, edits and answers as the one that its words spell.
-use Rattle.std.proofs.Common.{◌≡◌, ◌-◌, ◌*◌, ◌^◌, ◌<◌, ◌≤◌, length, map, Option, Some, None, Ok, Err, Result, MatchOption, IsOkUnless, arith, refl, subst}
+use Rattle.std.proofs.Common.{◌≡◌, ◌-◌, ◌*◌, ◌^◌, ◌<◌, ◌≤◌, length, map, Option, Some, None, Ok, Err, Result, MatchOption}
+use Rattle.std.proofs.Common.{IsOkUnless, arith, refl, subst}
 use Rattle.std.specs.Prelude.{option_map}
 use Rattle.bit_table_layout.specs.Layouts.{row_width}
 use Rattle.bit_table_layout.proofs.RowLemmas.{fields_lawful, some_row_bits}

@@ -1,5 +1,6 @@
 -- A table as its packed bits give it back.
-use Rattle.std.proofs.Common.{◌≡◌, ℕ, ◌+◌, ◌*◌, ◌≤◌, true, List, [], ◌∷◌, Bool, length, None, sym, ap, ◌∙◌, subst, arith, refl, ℤ, length-append}
+use Rattle.std.proofs.Common.{◌≡◌, ℕ, ◌+◌, ◌*◌, ◌≤◌, true, List, [], ◌∷◌, Bool, length, None, sym, ap, ◌∙◌, subst}
+use Rattle.std.proofs.Common.{arith, refl, ℤ, length-append}
 use Rattle.std.proofs.lemmas.List.Sums.{sum_by-cons}
 use Rattle.bit_table_layout.specs.declared.layout.Rule.{Rule}
 use Rattle.bit_table_layout.specs.declared.layout.TheConstants.{MAX_BITS}

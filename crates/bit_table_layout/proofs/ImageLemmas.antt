@@ -1,10 +1,14 @@
 -- The bytes of bits, and the numbers that an image tells.
-use Rattle.std.proofs.Common.{◌≡◌, ◌≢◌, inl, inr, ℕ, zero, suc, ◌+◌, ◌-◌, ◌*◌, ◌/◌, ◌%◌, ◌^◌, ◌<◌, ◌≤◌, min, ltb, Bool, true, false, cond, List, [], ◌∷◌, ◌++◌, length, get_or, take, drop, reverse, replicate, refl, sym, ap, ap₂, ◌∙◌, arith, length-append, length-take, length-drop, get_or-take, get_or-drop, ext_get_or, pow_mono, mul-le-mul_left, add-mul}
+use Rattle.std.proofs.Common.{◌≡◌, ◌≢◌, inl, inr, ℕ, zero, suc, ◌+◌, ◌-◌, ◌*◌, ◌/◌, ◌%◌, ◌^◌, ◌<◌}
+use Rattle.std.proofs.Common.{◌≤◌, min, ltb, Bool, true, false, cond, List, [], ◌∷◌, ◌++◌, length, get_or, take, drop, reverse}
+use Rattle.std.proofs.Common.{replicate, refl, sym, ap, ap₂, ◌∙◌, arith, length-append, length-take, length-drop, get_or-take, get_or-drop}
+use Rattle.std.proofs.Common.{ext_get_or, pow_mono, mul-le-mul_left, add-mul}
 use Rattle.std.specs.Prelude.{◌==◌, decimal}
 use Rattle.std.specs.List.{flat_map}
 use Rattle.std.specs.Fmt.{digits as digits_in_base, digits_onto, digit_glyph}
 use Rattle.std.proofs.lemmas.Bool.{cases_lt, cases_eq, cases_order, cond-true, cond-false, cond_both, eq-eqb, ne_eqb, lt-ltb}
-use Rattle.std.proofs.lemmas.List.{append_cancel_left, reverse-reverse, length-reverse, length-replicate, length-map, get_or_past, same_from_push, append_assoc, nil_from_length}
+use Rattle.std.proofs.lemmas.List.{append_cancel_left, reverse-reverse, length-reverse, length-replicate, length-map, get_or_past, same_from_push}
+use Rattle.std.proofs.lemmas.List.{append_assoc, nil_from_length}
 use Rattle.std.proofs.lemmas.List.FromFn.{length-map-range_with_len, get_or-map-range_with_len}
 use Rattle.hex.specs.Hex.{encode_lower, decode_of, IsBytes}
 use Rattle.hex.proofs.HexLemmas.{decode_of-encode_lower, decode_of-same}

@@ -1,5 +1,6 @@
 -- The fields that words spell, and the layouts that they make.
-use Rattle.std.proofs.Common.{◌≡◌, ℕ, ◌+◌, ◌<◌, not, ◌&&◌, ◌||◌, leb, Bool, true, false, List, [], ◌∷◌, Option, Some, None, arith, refl, sym, ap, ◌∙◌, subst}
+use Rattle.std.proofs.Common.{◌≡◌, ℕ, ◌+◌, ◌<◌, not, ◌&&◌, ◌||◌, leb, Bool, true, false, List, [], ◌∷◌, Option, Some}
+use Rattle.std.proofs.Common.{None, arith, refl, sym, ap, ◌∙◌, subst}
 use Rattle.std.specs.List.{list_all}
 use Rattle.std.specs.Option.{option_map, option_and_then, option_map_or}
 use Rattle.std.specs.Str.{bytes_eq}
@@ -8,7 +9,8 @@ use Rattle.std.proofs.lemmas.List.Sums.{sum_by-cons}
 use Rattle.bit_table_layout.specs.declared.layout.Rule.{Rule}
 use Rattle.bit_table_layout.specs.Words.{words}
 use Rattle.bit_table_layout.specs.Fields.{FieldShape, name_part, field_of}
-use Rattle.bit_table_layout.specs.Layouts.{row_width, has_name, names_differ, is_field, make_layout, fields_of, rule_of, layout_from, layout_in, layout_of}
+use Rattle.bit_table_layout.specs.Layouts.{row_width, has_name, names_differ, is_field, make_layout, fields_of, rule_of, layout_from, layout_in}
+use Rattle.bit_table_layout.specs.Layouts.{layout_of}
 use Rattle.bit_table_layout.specs.Steps.{names_word, fields_fit, words_fit}
 use Rattle.bit_table_layout.proofs.FieldLemmas.{IsFieldOf-from_Some}
 

@@ -1,5 +1,6 @@
 -- Words of digits, digit by digit.
-use Rattle.std.proofs.Common.{◌≡◌, ℕ, ◌+◌, ◌-◌, ◌*◌, ◌<◌, ◌≤◌, min, eqb, true, false, IsTrue, List, [], ◌∷◌, map, length, take, get_or, arith, inl, inr}
+use Rattle.std.proofs.Common.{◌≡◌, ℕ, ◌+◌, ◌-◌, ◌*◌, ◌<◌, ◌≤◌, min, eqb, true, false, IsTrue, List, [], ◌∷◌, map}
+use Rattle.std.proofs.Common.{length, take, get_or, arith, inl, inr}
 use Rattle.std.specs.List.{list_all}
 use Rattle.std.specs.Char.{is_ascii_digit, digit_value}
 use Rattle.std.proofs.lemmas.Bool.{cases_Bool, false≢true}

@@ -1,5 +1,6 @@
 -- The first place at which a test passes, as `position` answers it.
-use Rattle.std.proofs.Common.{◌≡◌, ℕ, suc, ◌+◌, ◌-◌, ◌<◌, ◌≤◌, not, ltb, cond, Bool, true, false, List, ◌∷◌, length, take, drop, Option, Some, None, arith, ap, ◌∙◌, inl, inr}
+use Rattle.std.proofs.Common.{◌≡◌, ℕ, suc, ◌+◌, ◌-◌, ◌<◌, ◌≤◌, not, ltb, cond, Bool, true, false, List, ◌∷◌, length}
+use Rattle.std.proofs.Common.{take, drop, Option, Some, None, arith, ap, ◌∙◌, inl, inr}
 use Rattle.std.specs.List.{position_or_len}
 use Rattle.std.specs.Option.{unwrap_or}
 use Rattle.std.proofs.lemmas.List.{length-drop, take_all}

@@ -1,5 +1,8 @@
 -- Numbers and rows as bits give them back.
-use Rattle.std.proofs.Common.{◌≡◌, ◌⊎◌, inl, inr, ℕ, suc, ◌+◌, ◌-◌, ◌*◌, ◌^◌, ◌<◌, ◌≤◌, Bool, true, false, ◌&&◌, List, [], ◌∷◌, ◌++◌, length, map, reverse, take, drop, ℤ, pos, negsuc, ◌-ℤ◌, refl, sym, ap, ap₂, ◌∙◌, arith, length-append, length-drop, length-take-le, take_at, drop_at, take-append-drop, le-leb, lt-ltb, ltb-true, leb-true}
+use Rattle.std.proofs.Common.{◌≡◌, ◌⊎◌, inl, inr, ℕ, suc, ◌+◌, ◌-◌, ◌*◌, ◌^◌, ◌<◌, ◌≤◌, Bool, true, false}
+use Rattle.std.proofs.Common.{◌&&◌, List, [], ◌∷◌, ◌++◌, length, map, reverse, take, drop, ℤ, pos, negsuc, ◌-ℤ◌, refl, sym, ap}
+use Rattle.std.proofs.Common.{ap₂, ◌∙◌, arith, length-append, length-drop, length-take-le, take_at, drop_at, take-append-drop, le-leb, lt-ltb}
+use Rattle.std.proofs.Common.{ltb-true, leb-true}
 use Rattle.std.specs.Prelude.{nat_le, int_le, int_lt}
 use Rattle.std.specs.List.{list_all, range_with_len}
 use Rattle.std.proofs.Math.Nat.{pow-suc}

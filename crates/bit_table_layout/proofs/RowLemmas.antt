@@ -1,5 +1,7 @@
 -- Rows as bits give them back.
-use Rattle.std.proofs.Common.{◌≡◌, ℕ, zero, suc, ◌+◌, ◌-◌, ◌*◌, ◌≤◌, Bool, true, ◌&&◌, List, [], ◌∷◌, ◌++◌, length, take, drop, ℤ, refl, sym, ap, ap₂, ◌∙◌, arith, length-append, length-drop, length-take-le, take_at, drop_at, take-append-drop, mul-le-mul_right, leb-true}
+use Rattle.std.proofs.Common.{◌≡◌, ℕ, zero, suc, ◌+◌, ◌-◌, ◌*◌, ◌≤◌, Bool, true, ◌&&◌, List, [], ◌∷◌, ◌++◌}
+use Rattle.std.proofs.Common.{length, take, drop, ℤ, refl, sym, ap, ap₂, ◌∙◌, arith, length-append, length-drop, length-take-le, take_at}
+use Rattle.std.proofs.Common.{drop_at, take-append-drop, mul-le-mul_right, leb-true}
 use Rattle.std.specs.Prelude.{nat_le}
 use Rattle.std.specs.List.{list_all}
 use Rattle.std.proofs.lemmas.Bool.{and_parts, and_from}

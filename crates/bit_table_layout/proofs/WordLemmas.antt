@@ -1,5 +1,6 @@
 -- The words of a line, from the front.
-use Rattle.std.proofs.Common.{◌≡◌, ℕ, suc, ◌+◌, ◌-◌, ◌<◌, ◌≤◌, not, Bool, true, false, List, [], ◌∷◌, length, take, drop, get_or, filter, Option, Some, None, arith, refl, sym, ap, ◌∙◌, inl, inr, subst}
+use Rattle.std.proofs.Common.{◌≡◌, ℕ, suc, ◌+◌, ◌-◌, ◌<◌, ◌≤◌, not, Bool, true, false, List, [], ◌∷◌, length, take}
+use Rattle.std.proofs.Common.{drop, get_or, filter, Option, Some, None, arith, refl, sym, ap, ◌∙◌, inl, inr, subst}
 use Rattle.std.specs.List.{slice_split, onto_first, position_or_len}
 use Rattle.std.specs.Option.{unwrap_or}
 use Rattle.std.proofs.lemmas.List.{length-take, drop_more, drop_all}
@@ -7,7 +8,8 @@ use Rattle.std.proofs.lemmas.List.Sums.{prefix_len-le-length, passes_at_first}
 use Rattle.std.proofs.lemmas.Bool.{cases_Bool, cond-true, not-true}
 use Rattle.std.proofs.lemmas.Bool.Decides.{nat_tests}
 use Rattle.std.proofs.lemmas.List.Splits.{slice_split-cons_yes, slice_split-cons_no}
-use Rattle.bit_table_layout.proofs.PlaceLemmas.{position-hit, position-miss, position_in, position_in-None, position_in-Some, position_in-unwrap, whole_rest}
+use Rattle.bit_table_layout.proofs.PlaceLemmas.{position-hit, position-miss, position_in, position_in-None, position_in-Some, position_in-unwrap}
+use Rattle.bit_table_layout.proofs.PlaceLemmas.{whole_rest}
 use Rattle.bit_table_layout.specs.Words.{is_separator, has_bytes, words}
 
 -- whether a byte belongs to a word

@@ -1,5 +1,6 @@
 -- Fields: their words, and the numbers that they take.
-use Rattle.std.specs.Prelude.{ℕ, ◌-◌, ◌^◌, ◌==◌, ◌&&◌, ◌||◌, not, nat_le, ℤ, pos, neg_ℤ, int_le, int_lt, Bool, List, [], ◌∷◌, length, slice_index, Option, Some, None, if◌then◌else◌}
+use Rattle.std.specs.Prelude.{ℕ, ◌-◌, ◌^◌, ◌==◌, ◌&&◌, ◌||◌, not, nat_le, ℤ, pos, neg_ℤ, int_le, int_lt, Bool, List, []}
+use Rattle.std.specs.Prelude.{◌∷◌, length, slice_index, Option, Some, None, if◌then◌else◌}
 use Rattle.std.specs.List.{list_all, before_first, after_first}
 use Rattle.std.specs.Char.{is_ascii_digit, is_ascii_lowercase}
 use Rattle.bit_table_layout.specs.Numerals.{is_number, number_of}

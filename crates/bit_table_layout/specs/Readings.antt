@@ -1,5 +1,6 @@
 -- Numbers and rows as bits give them back.
-use Rattle.std.specs.Prelude.{ℕ, zero, suc, ◌-◌, ◌^◌, ◌&&◌, nat_le, ℤ, pos, ◌-ℤ◌, Bool, List, [], ◌∷◌, take, drop, reverse, if◌then◌else◌}
+use Rattle.std.specs.Prelude.{ℕ, zero, suc, ◌-◌, ◌^◌, ◌&&◌, nat_le, ℤ, pos, ◌-ℤ◌, Bool, List, [], ◌∷◌, take, drop}
+use Rattle.std.specs.Prelude.{reverse, if◌then◌else◌}
 use Rattle.bit_table_layout.specs.declared.layout.Rule.{Rule}
 use Rattle.bit_table_layout.specs.declared.layout.Rule.TheVariants.{Low, High}
 use Rattle.bit_table_layout.specs.Digits.{binary}

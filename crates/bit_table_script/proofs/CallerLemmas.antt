@@ -1,5 +1,6 @@
 -- What cutting off leaves of a command: it changes neither what a field takes nor what is out of range.
-use Rattle.std.proofs.Common.{◌≡◌, ℕ, ◌-◌, ◌^◌, ◌<◌, ◌≤◌, ◌==◌, ◌&&◌, nat_lt, Bool, true, false, cond, ℤ, pos, neg_ℤ, List, [], ◌∷◌, length, map, codes, None, Some, option_and_then, refl, sym, ap, ◌∙◌, arith}
+use Rattle.std.proofs.Common.{◌≡◌, ℕ, ◌-◌, ◌^◌, ◌<◌, ◌≤◌, ◌==◌, ◌&&◌, nat_lt, Bool, true, false, cond, ℤ, pos}
+use Rattle.std.proofs.Common.{neg_ℤ, List, [], ◌∷◌, length, map, codes, None, Some, option_and_then, refl, sym, ap, ◌∙◌, arith}
 use Rattle.std.specs.Prelude.{int_lt, int_le, ◌<ℤ◌, ◌≤ℤ◌}
 use Rattle.std.specs.Int.{int_min, int_max}
 use Rattle.std.specs.List.{list_all}

@@ -1,5 +1,6 @@
 -- The command that words spell, read word by word.
-use Rattle.std.proofs.Common.{◌≡◌, ◌≢◌, ℕ, zero, suc, ◌-◌, ◌==◌, ◌&&◌, Bool, true, false, cond, ℤ, List, [], ◌∷◌, length, map, Option, None, Some, option_map, option_and_then, is_some, IsSome, codes, refl, sym, ap, ◌∙◌, arith}
+use Rattle.std.proofs.Common.{◌≡◌, ◌≢◌, ℕ, zero, suc, ◌-◌, ◌==◌, ◌&&◌, Bool, true, false, cond, ℤ, List, [], ◌∷◌}
+use Rattle.std.proofs.Common.{length, map, Option, None, Some, option_map, option_and_then, is_some, IsSome, codes, refl, sym, ap, ◌∙◌, arith}
 use Rattle.std.specs.Str.{bytes_eq}
 use Rattle.std.proofs.lemmas.Bool.Decides.{nat_tests}
 use Rattle.bit_table_layout.specs.Numerals.{is_number, number_of, number_in, whole_number_in}

@@ -1,5 +1,6 @@
 -- What the reader gave and what the writer took, as a run goes on and ends.
-use Rattle.std.proofs.Common.{◌≡◌, ℕ, ◌+◌, ◌<◌, ◌≤◌, List, [], ◌∷◌, ◌++◌, length, Option, None, Some, ap, ◌∙◌, append-nil, length-append, subst, arith, IfSome, inl, inr}
+use Rattle.std.proofs.Common.{◌≡◌, ℕ, ◌+◌, ◌<◌, ◌≤◌, List, [], ◌∷◌, ◌++◌, length, Option, None, Some, ap, ◌∙◌}
+use Rattle.std.proofs.Common.{append-nil, length-append, subst, arith, IfSome, inl, inr}
 use Rattle.std.specs.Io.KnownBytes.{Appends, Keeps, Consumes, IsAtEnd}
 use Rattle.std.proofs.KnownBytes.{Consumes-nil, Consumes-trans, Consumes-kept, Consumes-whole}
 use Rattle.bit_table_script.specs.Lines.{IsBeginning, lines, whole_lines}

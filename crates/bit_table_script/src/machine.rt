@@ -38,8 +38,10 @@ fn carry_out<M: LineMachine, W: Write>(
     output: &mut Output<W>,
 ) -> Result<(), RunError>
     requires { output_failed output.old ≡ false }
-    ensures answered { OnOk result (Appends (W.contents (output_writer output.old)) (W.contents (output_writer output.new)) (M.answers machine.old (line.now ∷ []))) }
-    ensures next { OnOk result ((rest : List (List ℕ)) → M.answers machine.old (line.now ∷ rest) ≡ M.answers machine.old (line.now ∷ []) ++ M.answers machine.new rest) }
+    ensures answered { OnOk result (Appends (W.contents (output_writer output.old)) (W.contents (output_writer output.new))
+        (M.answers machine.old (line.now ∷ []))) }
+    ensures next { OnOk result ((rest : List (List ℕ)) → M.answers machine.old (line.now ∷ rest)
+        ≡ M.answers machine.old (line.now ∷ []) ++ M.answers machine.new rest) }
     ensures read { IsErrOf result RunError.Read → ⊥ }
     ensures write { IsErrOf result RunError.Write →
         AppendsPart (W.contents (output_writer output.old)) (W.contents (output_writer output.new)) (M.answers machine.old (line.now ∷ [])) }

@@ -3,7 +3,8 @@
 ghost use Rattle.std.specs.Prelude.{◌≤◌};
 
 use super::orders::FifthStep;
-use super::plain_words::{Count, Plain, same, same_answer, same_count, span_of};
+use super::plain::Count;
+use super::plain_words::{Plain, same, same_answer, same_count, span_of};
 use crate::{BitOrder, BitRegister, DomainMut, Lsb0, Msb0};
 use std::process::Abort;
 use std::test::Fail;

@@ -4,7 +4,7 @@ ghost use Rattle.std.specs.Prelude.{◌≡◌, ◌+◌, ◌*◌, ◌^◌, ◌<�
 ghost use Rattle.bit_addressing_memory.specs.Pointer.{memory_place};
 
 use super::orders::FifthStep;
-use super::plain::{Way, fill, listed};
+use super::plain::{Count, fill, listed};
 use crate::{
     BitIdx, BitOrder, BitPtr, BitRegister, Lsb0, Msb0, copy_within, read_entry, replace_entry,
     swap_entries, swap_within, write_entry,
@@ -23,7 +23,7 @@ pub fn pointer_to<R: BitRegister, O: BitOrder<R>>(place: usize) -> BitPtr<R, O>
 
 // Whether one entry is read, written and replaced as in the list, and by a pointer too.
 fn acts_at<R: BitRegister, O: BitOrder<R>>(
-    way: Way,
+    count: Count,
     words: &mut [R],
     place: usize,
     bit: bool,
@@ -31,7 +31,7 @@ fn acts_at<R: BitRegister, O: BitOrder<R>>(
     requires within { place < length words.old * R.BITS }
     requires small { place < 256 }
 {
-    let before = listed(way, words);
+    let before = listed(count, words);
     let mut list = before;
     list[place] = bit;
     if read_entry::<R, O>(words, place) != before[place] {
@@ -41,28 +41,28 @@ fn acts_at<R: BitRegister, O: BitOrder<R>>(
         return false;
     }
     write_entry::<R, O>(words, place, bit);
-    if listed(way, words) != list {
+    if listed(count, words) != list {
         return false;
     }
     if replace_entry::<R, O>(words, place, before[place]) != bit {
         return false;
     }
-    if listed(way, words) != before {
+    if listed(count, words) != before {
         return false;
     }
     pointer_to::<R, O>(place).write(words, bit);
-    if listed(way, words) != list {
+    if listed(count, words) != list {
         return false;
     }
     if pointer_to::<R, O>(place).replace(words, before[place]) != bit {
         return false;
     }
-    listed(way, words) == before
+    listed(count, words) == before
 }
 
 // Whether two entries are exchanged as in the list, by places and by pointers.
 fn swaps_two<R: BitRegister, O: BitOrder<R>>(
-    way: Way,
+    count: Count,
     words: &mut [R],
     first: usize,
     second: usize,
@@ -72,21 +72,21 @@ fn swaps_two<R: BitRegister, O: BitOrder<R>>(
     requires first_small { first < 256 }
     requires second_small { second < 256 }
 {
-    let before = listed(way, words);
+    let before = listed(count, words);
     let mut list = before;
     list[first] = before[second];
     list[second] = before[first];
     swap_entries::<R, O>(words, first, second);
-    if listed(way, words) != list {
+    if listed(count, words) != list {
         return false;
     }
     pointer_to::<R, O>(first).swap_within(words, pointer_to(second));
-    listed(way, words) == before
+    listed(count, words) == before
 }
 
 // Whether a copy inside a memory is the copy inside its list, by places and by pointers.
 fn copies_inside<R: BitRegister, O: BitOrder<R>>(
-    way: Way,
+    count: Count,
     words: &mut [R],
     from: usize,
     to: usize,
@@ -97,13 +97,13 @@ fn copies_inside<R: BitRegister, O: BitOrder<R>>(
     requires from_small { from + len ≤ 256 }
     requires to_small { to + len ≤ 256 }
 {
-    let before = listed(way, words);
+    let before = listed(count, words);
     let mut list = before;
     for k in 0..len {
         list[to + k] = before[from + k];
     }
     copy_within::<R, O>(words, from, to, len);
-    if listed(way, words) != list {
+    if listed(count, words) != list {
         return false;
     }
     let before = list;
@@ -111,12 +111,12 @@ fn copies_inside<R: BitRegister, O: BitOrder<R>>(
         list[from + k] = before[to + k];
     }
     pointer_to::<R, O>(to).copy_within(words, pointer_to(from), len);
-    listed(way, words) == list
+    listed(count, words) == list
 }
 
 // Whether an exchange inside a memory is that of its list.
 fn swaps_inside<R: BitRegister, O: BitOrder<R>>(
-    way: Way,
+    count: Count,
     words: &mut [R],
     first: usize,
     second: usize,
@@ -126,39 +126,39 @@ fn swaps_inside<R: BitRegister, O: BitOrder<R>>(
     requires within { second + len ≤ length words.old * R.BITS }
     requires small { second + len ≤ 256 }
 {
-    let before = listed(way, words);
+    let before = listed(count, words);
     let mut list = before;
     for k in 0..len {
         list[first + k] = before[second + k];
         list[second + k] = before[first + k];
     }
     swap_within::<R, O>(words, first, second, len);
-    listed(way, words) == list
+    listed(count, words) == list
 }
 
 // Whether every entry and every stretch of 32 bits from a place on acts as in the list.
-fn acts_inside<R: BitRegister, O: BitOrder<R>>(way: Way, words: &mut [R], first: usize) -> bool
+fn acts_inside<R: BitRegister, O: BitOrder<R>>(count: Count, words: &mut [R], first: usize) -> bool
     requires room { first + 32 ≤ length words.old * R.BITS }
     requires small { first ≤ 128 }
 {
     for from in 0..25usize {
         fill(words, from);
-        if !acts_at::<R, O>(way, words, first + from, from % 2 == 0) {
+        if !acts_at::<R, O>(count, words, first + from, from % 2 == 0) {
             return false;
         }
         for to in 0..25usize {
-            if !swaps_two::<R, O>(way, words, first + from, first + to) {
+            if !swaps_two::<R, O>(count, words, first + from, first + to) {
                 return false;
             }
             for len in 0..25usize {
                 if from + len <= 32 && to + len <= 32 {
                     fill(words, 700 * from + 30 * to + len);
-                    if !copies_inside::<R, O>(way, words, first + from, first + to, len) {
+                    if !copies_inside::<R, O>(count, words, first + from, first + to, len) {
                         return false;
                     }
                 }
                 if from + len <= to && to + len <= 32 {
-                    if !swaps_inside::<R, O>(way, words, first + from, first + to, len) {
+                    if !swaps_inside::<R, O>(count, words, first + from, first + to, len) {
                         return false;
                     }
                 }
@@ -171,35 +171,35 @@ fn acts_inside<R: BitRegister, O: BitOrder<R>>(way: Way, words: &mut [R], first:
 #[test]
 fn bytes_from_the_lowest_digit_act_as_a_list(rt: HostRuntime) {
     let mut words = [0u8; 4];
-    assert!(rt; acts_inside::<u8, Lsb0>(Way::Up, &mut words, 0));
+    assert!(rt; acts_inside::<u8, Lsb0>(Count::Lowest, &mut words, 0));
 }
 
 #[test]
 fn bytes_from_the_highest_digit_act_as_a_list(rt: HostRuntime) {
     let mut words = [0u8; 4];
-    assert!(rt; acts_inside::<u8, Msb0>(Way::Down, &mut words, 0));
+    assert!(rt; acts_inside::<u8, Msb0>(Count::Highest, &mut words, 0));
 }
 
 #[test]
 fn bytes_by_steps_act_as_a_list(rt: HostRuntime) {
     let mut words = [0u8; 4];
-    assert!(rt; acts_inside::<u8, FifthStep>(Way::Steps, &mut words, 0));
+    assert!(rt; acts_inside::<u8, FifthStep>(Count::Fifths, &mut words, 0));
 }
 
 #[test]
 fn wide_words_from_the_lowest_digit_act_as_a_list(rt: HostRuntime) {
     let mut words = [0u64; 2];
-    assert!(rt; acts_inside::<u64, Lsb0>(Way::Up, &mut words, 48));
+    assert!(rt; acts_inside::<u64, Lsb0>(Count::Lowest, &mut words, 48));
 }
 
 #[test]
 fn wide_words_from_the_highest_digit_act_as_a_list(rt: HostRuntime) {
     let mut words = [0u64; 2];
-    assert!(rt; acts_inside::<u64, Msb0>(Way::Down, &mut words, 48));
+    assert!(rt; acts_inside::<u64, Msb0>(Count::Highest, &mut words, 48));
 }
 
 #[test]
 fn wide_words_by_steps_act_as_a_list(rt: HostRuntime) {
     let mut words = [0u64; 2];
-    assert!(rt; acts_inside::<u64, FifthStep>(Way::Steps, &mut words, 48));
+    assert!(rt; acts_inside::<u64, FifthStep>(Count::Fifths, &mut words, 48));
 }

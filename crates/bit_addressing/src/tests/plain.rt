@@ -4,35 +4,38 @@ ghost use Rattle.std.specs.Prelude.{◌<◌, ◌≤◌};
 
 use crate::BitRegister;
 
-/// The orders by name: from the lowest digit, from the highest, and by steps of five from digit 3.
+/// How the bits of a word are counted.
 #[derive(Clone, Copy)]
-pub enum Way {
-    Up,
-    Down,
-    Steps,
+pub enum Count {
+    /// From the lowest digit.
+    Lowest,
+    /// From the highest digit.
+    Highest,
+    /// By steps of five from the digit 3, round the word.
+    Fifths,
 }
 
-/// The digit that a way gives to an index of a word of `bits` digits.
-fn digit_of(way: Way, bits: usize, index: usize) -> usize
+/// The digit of an index of a word of `bits` digits.
+pub fn digit_of(count: Count, bits: usize, index: usize) -> usize
     requires index { index < bits }
     requires most { bits ≤ 128 }
-    ensures { result < 128 }
+    ensures { result < bits }
 {
-    match way {
-        Way::Up => index,
-        Way::Down => bits - 1 - index,
-        Way::Steps => (5 * index + 3) % bits,
+    match count {
+        Count::Lowest => index,
+        Count::Highest => bits - 1 - index,
+        Count::Fifths => (5 * index + 3) % bits,
     }
 }
 
 /// The bits of a memory of at most 256, and false past its end.
-pub fn listed<R: BitRegister>(way: Way, words: &[R]) -> [bool; 256] {
+pub fn listed<R: BitRegister>(count: Count, words: &[R]) -> [bool; 256] {
     let bits = R::BITS as usize;
     let mut list = [false; 256];
     for place in 0..256usize {
         let word = place / bits;
         if word < words.len() {
-            let digit = digit_of(way, bits, place % bits);
+            let digit = digit_of(count, bits, place % bits);
             list[place] = (words[word].value() >> digit) & 1 == 1;
         }
     }

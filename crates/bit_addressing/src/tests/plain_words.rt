@@ -3,20 +3,10 @@
 ghost use Rattle.std.specs.Prelude.{◌≡◌, ◌/◌, ◌%◌, ◌<◌, ◌≤◌, IfOk};
 ghost use Rattle.bit_addressing_memory.specs.Span.{extent};
 
+use super::plain::{Count, digit_of};
 use crate::{BitIdx, BitOrder, BitRegister, BitSpan};
 use std::process::Abort;
 use std::test::Fail;
-
-/// How the bits of a word are counted.
-#[derive(Clone, Copy)]
-pub enum Count {
-    /// From the lowest digit.
-    Lowest,
-    /// From the highest digit.
-    Highest,
-    /// By steps of five from the digit 3, round the word.
-    Fifths,
-}
 
 /// Four words of so many bits.
 #[derive(Clone, Copy)]
@@ -57,12 +47,7 @@ impl Plain {
     fn digit(self, index: usize) -> usize
         ensures { result < 64 }
     {
-        let i = index % self.bits;
-        match self.count {
-            Count::Lowest => i,
-            Count::Highest => self.bits - 1 - i,
-            Count::Fifths => (5 * i + 3) % self.bits,
-        }
+        digit_of(self.count, self.bits, index % self.bits)
     }
 
     /// The bit of a word's number at an index.

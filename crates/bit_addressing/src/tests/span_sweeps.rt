@@ -4,7 +4,8 @@ ghost use Rattle.std.specs.Prelude.{◌^◌, ◌<◌, ◌≤◌, length};
 ghost use Rattle.bit_addressing_memory.specs.Domain.{domain_numbers};
 
 use super::orders::FifthStep;
-use super::plain_words::{Count, Plain, same, same_answer, same_count, same_word, span_of};
+use super::plain::Count;
+use super::plain_words::{Plain, same, same_answer, same_count, same_word, span_of};
 use crate::{BitOrder, BitRegister, Domain, Lsb0, Msb0, PartialElement};
 use std::process::Abort;
 use std::test::Fail;

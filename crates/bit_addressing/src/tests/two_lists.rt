@@ -4,7 +4,7 @@ ghost use Rattle.std.specs.Prelude.{◌+◌, ◌*◌, ◌<◌, ◌≤◌, length
 
 use super::lists::pointer_to;
 use super::orders::FifthStep;
-use super::plain::{Way, fill, listed};
+use super::plain::{Count, fill, listed};
 use crate::{BitOrder, BitRegister, Lsb0, Msb0, copy_between, swap_between};
 
 // The five calls that copy between two memories.
@@ -44,7 +44,7 @@ fn copy_by<Q: BitRegister, P: BitOrder<Q>, R: BitRegister, O: BitOrder<R>>(
 // Whether a copy of a memory into another is the copy of the lists.
 fn copies<Q: BitRegister, P: BitOrder<Q>, R: BitRegister, O: BitOrder<R>>(
     call: Call,
-    ways: (Way, Way),
+    counts: (Count, Count),
     others: &[Q],
     from: usize,
     words: &mut [R],
@@ -56,18 +56,18 @@ fn copies<Q: BitRegister, P: BitOrder<Q>, R: BitRegister, O: BitOrder<R>>(
     requires from_small { from + len < 256 }
     requires to_small { to + len < 256 }
 {
-    let given = listed(ways.0, others);
-    let mut list = listed(ways.1, words);
+    let given = listed(counts.0, others);
+    let mut list = listed(counts.1, words);
     for k in 0..len {
         list[to + k] = given[from + k];
     }
     copy_by::<Q, P, R, O>(call, others, from, words, to, len);
-    listed(ways.1, words) == list
+    listed(counts.1, words) == list
 }
 
 // Whether an exchange between two memories is that of the lists, and that of one bit by pointers.
 fn swaps<Q: BitRegister, P: BitOrder<Q>, R: BitRegister, O: BitOrder<R>>(
-    ways: (Way, Way),
+    counts: (Count, Count),
     others: &mut [Q],
     from: usize,
     words: &mut [R],
@@ -79,8 +79,8 @@ fn swaps<Q: BitRegister, P: BitOrder<Q>, R: BitRegister, O: BitOrder<R>>(
     requires from_small { from + len < 256 }
     requires to_small { to + len < 256 }
 {
-    let its = listed(ways.0, others);
-    let own = listed(ways.1, words);
+    let its = listed(counts.0, others);
+    let own = listed(counts.1, words);
     let mut its_after = its;
     let mut own_after = own;
     for k in 0..len {
@@ -88,19 +88,19 @@ fn swaps<Q: BitRegister, P: BitOrder<Q>, R: BitRegister, O: BitOrder<R>>(
         own_after[to + k] = its[from + k];
     }
     swap_between::<R, O, Q, P>(words, to, others, from, len);
-    if listed(ways.0, others) != its_after || listed(ways.1, words) != own_after {
+    if listed(counts.0, others) != its_after || listed(counts.1, words) != own_after {
         return false;
     }
     let bit = its_after[from];
     its_after[from] = own_after[to];
     own_after[to] = bit;
     pointer_to::<R, O>(to).swap(words, pointer_to::<Q, P>(from), others);
-    listed(ways.0, others) == its_after && listed(ways.1, words) == own_after
+    listed(counts.0, others) == its_after && listed(counts.1, words) == own_after
 }
 
 // The sweep of both, over 32 bits of each memory.
 fn acts_between<Q: BitRegister, P: BitOrder<Q>, R: BitRegister, O: BitOrder<R>>(
-    ways: (Way, Way),
+    counts: (Count, Count),
     others: &mut [Q],
     words: &mut [R],
     first: usize,
@@ -123,10 +123,18 @@ fn acts_between<Q: BitRegister, P: BitOrder<Q>, R: BitRegister, O: BitOrder<R>>(
             for k in 0..5usize {
                 let to = (7 * from + 5 * len + 5 * k) % 25;
                 if from + len < 32 && to + len < 32 {
-                    if !copies::<Q, P, R, O>(calls[k], ways, others, from, words, first + to, len) {
+                    if !copies::<Q, P, R, O>(
+                        calls[k],
+                        counts,
+                        others,
+                        from,
+                        words,
+                        first + to,
+                        len,
+                    ) {
                         return false;
                     }
-                    if !swaps::<Q, P, R, O>(ways, others, from, words, first + to, len) {
+                    if !swaps::<Q, P, R, O>(counts, others, from, words, first + to, len) {
                         return false;
                     }
                     fill(words, 30 * to + len);
@@ -141,18 +149,18 @@ fn acts_between<Q: BitRegister, P: BitOrder<Q>, R: BitRegister, O: BitOrder<R>>(
 fn bytes_and_wide_words_act_as_two_lists(rt: HostRuntime) {
     let mut bytes = [0u8; 4];
     let mut wide = [0u64; 2];
-    let ways = (Way::Steps, Way::Up);
-    assert!(rt; acts_between::<u8, FifthStep, u64, Lsb0>(ways, &mut bytes, &mut wide, 48));
-    let ways = (Way::Up, Way::Down);
-    assert!(rt; acts_between::<u8, Lsb0, u64, Msb0>(ways, &mut bytes, &mut wide, 48));
-    let ways = (Way::Down, Way::Steps);
-    assert!(rt; acts_between::<u64, Msb0, u8, FifthStep>(ways, &mut wide, &mut bytes, 0));
+    let counts = (Count::Fifths, Count::Lowest);
+    assert!(rt; acts_between::<u8, FifthStep, u64, Lsb0>(counts, &mut bytes, &mut wide, 48));
+    let counts = (Count::Lowest, Count::Highest);
+    assert!(rt; acts_between::<u8, Lsb0, u64, Msb0>(counts, &mut bytes, &mut wide, 48));
+    let counts = (Count::Highest, Count::Fifths);
+    assert!(rt; acts_between::<u64, Msb0, u8, FifthStep>(counts, &mut wide, &mut bytes, 0));
 }
 
 #[test]
 fn bytes_act_as_two_lists(rt: HostRuntime) {
     let mut bytes = [0u8; 4];
     let mut others = [0u8; 4];
-    let ways = (Way::Down, Way::Up);
-    assert!(rt; acts_between::<u8, Msb0, u8, Lsb0>(ways, &mut bytes, &mut others, 0));
+    let counts = (Count::Highest, Count::Lowest);
+    assert!(rt; acts_between::<u8, Msb0, u8, Lsb0>(counts, &mut bytes, &mut others, 0));
 }

@@ -5,7 +5,8 @@ use Rattle.bit_addressing.specs.Runs.{span_place}
 use Rattle.bit_addressing.proofs.CarryBits.{carried_copy, copies_none, copy_out}
 use Rattle.bit_addressing.proofs.SpanBits.{lies_in_memory, place_fits, refused}
 use Rattle.bit_addressing.proofs.carry.copy.Goals as goal
-use Rattle.bit_addressing.proofs.carry.copy.Goals.{then-count-len-via-then-count-len, then-count-len-via-else-count-len+then-from-len, then-count-len-via-else-count-len+else-from-len+then-to-len}
+use Rattle.bit_addressing.proofs.carry.copy.Goals.{then-count-len-via-then-count-len, then-count-len-via-else-count-len+then-from-len}
+use Rattle.bit_addressing.proofs.carry.copy.Goals.{then-count-len-via-else-count-len+else-from-len+then-to-len}
 
 pub returns-then-count-len : goal.returns-then-count-len
 returns-then-count-len g c =

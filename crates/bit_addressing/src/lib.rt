@@ -7,8 +7,6 @@ mod command;
 mod moves;
 mod runner;
 mod sweep;
-#[cfg(test)]
-mod tests;
 
 pub use bit_addressing_memory::{
     BitPtr, BitPtrRange, BitSpan, BitSpanError, Dangling, Domain, DomainMut, DomainWords,

@@ -50,6 +50,12 @@ abbrev pub IsCut : {R O : Type 0} {g : _} → ℕ → Domain R O g → Type 0
 IsCut b (Enclave p) = (0 < partial_head p) × (partial_head p < partial_tail p) × (partial_tail p < b)
 IsCut b (Region head body tail) = IfSome head (IsHead b) × IfSome tail (IsTail b)
 
+-- the index in its first word at which the domain begins
+abbrev pub domain_start : {R O : Type 0} {g : _} → Domain R O g → ℕ
+domain_start (Enclave p) = partial_head p
+domain_start (Region None body tail) = 0
+domain_start (Region (Some p) body tail) = partial_head p
+
 -- the domain is a region without bits
 abbrev pub IsEmptyRegion : {R O : Type 0} {g : _} → Domain R O g → Type 0
 IsEmptyRegion (Enclave p) = ⊥
@@ -66,8 +72,10 @@ abbrev pub domain_region : {R O : Type 0} {g : _} → Domain R O g
 domain_region (Enclave p) = None
 domain_region (Region head body tail) = Some (head, body, tail)
 
--- the domain gives the bits of the span in these words, cut at the borders of words
+-- the domain gives the bits of the span in these words, cut at the borders of words: it begins at the span's index,
+-- so its bits lie in its parts where they lie in these words
 pub record IsCutOf {R O : Type 0} {g : _} (b : ℕ) (digit : R → ℕ → Bool) (words : List R) (span : Extent) (d : Domain R O g)
     : Type 0 where
   pub bits : domain_bits b digit d ≡ piece (memory b digit words) (span.word * b + span.head) span.len
+  pub start : 0 < span.len → domain_start d ≡ span.head
   pub cut : IsCut b d

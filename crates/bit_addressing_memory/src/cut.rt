@@ -2,7 +2,7 @@
 
 ghost use Rattle.std.specs.Prelude.{◌≡◌, ℕ, ◌+◌, ◌-◌, ◌*◌, ◌/◌, ◌%◌, ◌^◌, ◌<◌, ◌≤◌, ◌↔◌, length, take, drop, min, IfSome};
 ghost use Rattle.bit_addressing_memory.specs.Memory.{memory, piece, indexed, touched};
-ghost use Rattle.bit_addressing_memory.specs.Domain.{IsCut, IsEnclave, IsTail, domain_bits, domain_numbers, option_bits, option_numbers};
+ghost use Rattle.bit_addressing_memory.specs.Domain.{IsCut, IsEnclave, IsTail, domain_start, domain_bits, domain_numbers, option_bits, option_numbers};
 ghost use Rattle.bit_addressing_memory.specs.Shown.{partial_head, partial_tail, partial_bits, partial_numbers};
 
 use crate::domain::Domain;
@@ -17,6 +17,7 @@ impl<R: BitRegister, O: BitOrder<R>> BitSpan<R, O> {
         requires { self.word + touched R.BITS self.head self.len ≤ length words.now }
         ensures bits { domain_bits R.BITS (indexed R.number O.position) result
             ≡ piece (memory R.BITS (indexed R.number O.position) words.now) (self.word * R.BITS + self.head) self.len }
+        ensures start { 0 < self.len → domain_start result ≡ self.head }
         ensures enclave { IsEnclave result ↔ (0 < self.len) × (0 < self.head) × (self.head + self.len < R.BITS) }
         ensures cut { IsCut R.BITS result }
         ensures words { length (domain_numbers R.number O.masked result) ≡ touched R.BITS self.head self.len }
@@ -39,6 +40,7 @@ pub(crate) fn cut_from<'a, R: BitRegister, O: BitOrder<R>>(
     requires short { len ≤ MAX_BITS }
     ensures bits { domain_bits R.BITS (indexed R.number O.position) result
         ≡ piece (memory R.BITS (indexed R.number O.position) words.now) (word * R.BITS + head) len }
+    ensures start { 0 < len → domain_start result ≡ head }
     ensures enclave { IsEnclave result ↔ (0 < len) × (0 < head) × (head + len < R.BITS) }
     ensures cut { IsCut R.BITS result }
     ensures words { length (domain_numbers R.number O.masked result) ≡ touched R.BITS head len }
@@ -65,6 +67,7 @@ fn cut_words<'a, R: BitRegister, O: BitOrder<R>>(
     requires short { len ≤ MAX_BITS }
     ensures bits { domain_bits R.BITS (indexed R.number O.position) result
         ≡ piece (memory R.BITS (indexed R.number O.position) words.now) head len }
+    ensures start { 0 < len → domain_start result ≡ head }
     ensures enclave { IsEnclave result ↔ (0 < len) × (0 < head) × (head + len < R.BITS) }
     ensures cut { IsCut R.BITS result }
     ensures words { length (domain_numbers R.number O.masked result) ≡ touched R.BITS head len }

@@ -1,7 +1,7 @@
 //! A span of a memory, read and written by words.
 
 ghost use Rattle.std.specs.Prelude.{◌≡◌, ℕ, ◌+◌, ◌-◌, ◌*◌, ◌<◌, ◌≤◌, ◌↔◌, ◌^◌, not, true, false, length, slice_index_or, min, IsTrue};
-ghost use Rattle.bit_addressing_memory.specs.Domain.{IsCutOf, domain_numbers};
+ghost use Rattle.bit_addressing_memory.specs.Domain.{IsCutOf, IsEnclave, domain_numbers};
 ghost use Rattle.bit_addressing_memory.specs.Memory.{entry, indexed, touched};
 ghost use Rattle.bit_addressing_memory.specs.declared.span.TheConstants.{MAX_BITS};
 ghost use Rattle.bit_addressing_memory.specs.Parts.{ReadsPart, StoresPart, part_from, part_upto, part_place, part_count};
@@ -79,6 +79,8 @@ impl<'a, R: BitRegister, O: BitOrder<R>> DomainMut<'a, R, O> {
         ensures cut { IsCutOf R.BITS (indexed R.number O.position) (lent_words self.now) (lent_span self.now) result }
         ensures words { length (domain_numbers R.number O.masked result)
             ≡ touched R.BITS (lent_span self.now).head (lent_span self.now).len }
+        ensures enclave { IsEnclave result ↔ (0 < (lent_span self.now).len) × (0 < (lent_span self.now).head)
+            × ((lent_span self.now).head + (lent_span self.now).len < R.BITS) }
     {
         let head = BitIdx::new_unchecked(self.head);
         cut_from::<R, O>(self.words, self.word, head, self.len)

@@ -5,8 +5,6 @@ mod packed;
 mod runner;
 mod session;
 mod table;
-#[cfg(test)]
-mod tests;
 
 pub use bit_table_layout::{
     Field, Layout, LayoutError, MAX_BITS, Rule, Words, image, is_number, is_separator, number_up_to,

@@ -6,8 +6,6 @@ mod field_word;
 pub mod image;
 mod layout;
 mod numerals;
-#[cfg(test)]
-mod tests;
 mod words;
 
 pub use field::Field;

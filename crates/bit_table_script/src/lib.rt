@@ -6,8 +6,6 @@ mod command;
 mod machine;
 mod reply;
 mod streams;
-#[cfg(test)]
-mod tests;
 
 pub use cause::{Cause, Fault, RunError};
 pub use command::{Command, Values};

@@ -1,0 +1,210 @@
+//! Rows of entries, copies and pointers, and an order of a user's own against plain lists of bits.
+
+ghost use Rattle.std.specs.Prelude.{◌+◌, ◌≤◌, ◌<◌};
+
+use crate::orders::FifthStep;
+use bit_addressing::{
+    BitIdx, BitPtr, BitPtrRange, Dangling, EmptyRange, Limits, Lsb0, Msb0, copy_between,
+    copy_within, read_entry, replace_entry, swap_between, swap_within, write_entry,
+};
+
+#[test]
+fn entries_are_read_and_replaced(rt: HostRuntime) {
+    let mut words = [0x12u8, 0x34, 0x56];
+    assert!(rt; read_entry::<u8, Lsb0>(&words, 1));
+    assert!(rt; !read_entry::<u8, Msb0>(&words, 1));
+    assert!(rt; read_entry::<u8, Msb0>(&words, 10));
+    assert!(rt; !replace_entry::<u8, Lsb0>(&mut words, 8, true));
+    assert_eq!(rt; words, [0x12, 0x35, 0x56]);
+    assert!(rt; replace_entry::<u8, Msb0>(&mut words, 17, false));
+    assert_eq!(rt; words, [0x12, 0x35, 0x16]);
+}
+
+#[test]
+fn bits_are_copied_over_an_overlap(rt: HostRuntime) {
+    // from, to, the words after 16 bits
+    let rows = [
+        (4, 0, [0x41u8, 0x63, 0x56]),
+        (4, 8, [0x12, 0x41, 0x63]),
+        (4, 5, [0x32, 0x68, 0x4c]),
+    ];
+    for (from, to, after) in rows {
+        let mut words = [0x12u8, 0x34, 0x56];
+        if from <= 8 && to <= 8 {
+            copy_within::<u8, Lsb0>(&mut words, from, to, 16);
+        }
+        assert_eq!(rt; words, after, "{from} to {to}");
+    }
+    let mut words = [0x12u8, 0x34, 0x56];
+    copy_within::<u8, Msb0>(&mut words, 4, 0, 16);
+    assert_eq!(rt; words, [0x23, 0x45, 0x56]);
+}
+
+#[test]
+fn bits_go_between_memories(rt: HostRuntime) {
+    let from = [0x12u8, 0x34];
+    let mut words = [0u64];
+    copy_between::<u8, Msb0, u64, Lsb0>(&from, 0, &mut words, 4, 16);
+    assert_eq!(rt; words, [0x2c480]);
+    let mut others = [0xffu8];
+    swap_between::<u64, Lsb0, u8, Lsb0>(&mut words, 8, &mut others, 0, 8);
+    assert_eq!(rt; words, [0x2ff80]);
+    assert_eq!(rt; others, [0xc4]);
+    swap_within::<u8, Lsb0>(&mut others, 0, 4, 4);
+    assert_eq!(rt; others, [0x4c]);
+}
+
+// The list of bits of four bytes, each byte by its order's positions.
+fn listed(words: &[u8; 4]) -> [bool; 32] {
+    let mut list = [false; 32];
+    for place in 0..32usize {
+        let position = (5 * (place % 8) + 3) % 8;
+        list[place] = (words[place / 8] >> position) & 1 == 1;
+    }
+    list
+}
+
+// Whether a copy inside four bytes in that order is the copy inside their list.
+fn copies_as_a_list(source: usize, target: usize, len: usize) -> bool
+    requires from { source + len ≤ 32 }
+    requires to { target + len ≤ 32 }
+{
+    let mut words = [0x4eu8, 0xb1, 0x27, 0xd8];
+    let before = listed(&words);
+    let mut list = before;
+    for k in 0..len {
+        list[target + k] = before[source + k];
+    }
+    copy_within::<u8, FifthStep>(&mut words, source, target, len);
+    listed(&words) == list
+}
+
+// The same of two words of 64 bits, from bit 40 on: the list of the 64 bits round the words' border.
+fn copies_wide(source: usize, target: usize, len: usize) -> bool
+    requires from { source + len ≤ 64 }
+    requires to { target + len ≤ 64 }
+{
+    let mut words = [0x0123_4567_89ab_cdefu64, 0xfedc_ba98_7654_3210];
+    let before = listed_wide(&words);
+    let mut list = before;
+    for k in 0..len {
+        list[target + k] = before[source + k];
+    }
+    copy_within::<u64, FifthStep>(&mut words, 40 + source, 40 + target, len);
+    listed_wide(&words) == list
+}
+
+fn listed_wide(words: &[u64; 2]) -> [bool; 64] {
+    let mut list = [false; 64];
+    for k in 0..64usize {
+        let place = 40 + k;
+        let position = (5 * (place % 64) + 3) % 64;
+        list[k] = (words[place / 64] >> position) & 1 == 1;
+    }
+    list
+}
+
+// Whether bits in that order, taken to a memory in another and back by pointers, are as they were, and
+// the bit at the start is read, written and exchanged as in the list.
+fn acts_as_a_list(start: usize, len: usize) -> bool
+    requires { start + len < 32 }
+{
+    let mut words = [0x4eu8, 0xb1, 0x27, 0xd8];
+    let before = listed(&words);
+    let mut others = [0u64];
+    copy_between::<u8, FifthStep, u64, Msb0>(&words, start, &mut others, 30, len);
+    let bit = replace_entry::<u8, FifthStep>(&mut words, start, true);
+    let was = read_entry::<u64, Msb0>(&others, 30);
+    swap_between::<u8, FifthStep, u64, Msb0>(&mut words, start, &mut others, 30, len);
+    swap_between::<u8, FifthStep, u64, Msb0>(&mut words, start, &mut others, 30, len);
+    write_entry::<u8, FifthStep>(&mut words, start, bit);
+    copy_between::<u64, Msb0, u8, FifthStep>(&others, 30, &mut words, start, 0);
+    bit == before[start] && (len == 0 || was == bit) && listed(&words) == before
+}
+
+#[test]
+fn an_own_order_is_a_list(rt: HostRuntime) {
+    for start in 0..25usize {
+        for len in 0..25usize {
+            if start + len <= 32 {
+                assert!(rt;
+                    copies_as_a_list(start, 32 - len, len),
+                    "{start} to the end, {len}"
+                );
+                assert!(rt; copies_as_a_list(start, 0, len), "{start} to 0, {len}");
+                assert!(rt; copies_wide(start, 20, len), "{start} to 20, {len}, wide");
+            }
+            if start + len < 32 {
+                assert!(rt; acts_as_a_list(start, len), "{start}, {len}");
+            }
+        }
+    }
+}
+
+#[test]
+fn pointers_are_whole_numbers(rt: HostRuntime) {
+    let start = BitPtr::<u8, Lsb0>::new(3, BitIdx::new_unchecked(5));
+    // by, word, bit
+    let rows = [(0, 3, 5), (3, 4, 0), (-6, 2, 7), (-30, -1, 7), (100, 16, 1)];
+    for (by, word, bit) in rows {
+        let moved = start.wrapping_offset(by);
+        assert_eq!(rt; moved.address(), word, "by {by}");
+        assert_eq!(rt; moved.bit().into_inner(), bit, "by {by}");
+    }
+    let on = start.add(100);
+    assert_eq!(rt; on.address(), 16);
+    assert_eq!(rt; on.offset_from(start), 100);
+    assert_eq!(rt; start.offset_from(on), -100);
+    assert!(rt; on.sub(100) == start);
+    assert!(rt; on.offset(-100) == start);
+    assert!(rt; start.wrapping_add(100).wrapping_sub(100) == start);
+    assert!(rt; start < on);
+    assert!(rt; BitPtr::<u8, Lsb0>::DANGLING < start);
+    let last = BitPtr::<u8, Msb0>::new(isize::MAX, BitIdx::MAX);
+    assert_eq!(rt; last.wrapping_add(1).address(), isize::MIN);
+}
+
+#[test]
+fn pointers_read_and_write(rt: HostRuntime) {
+    let mut words = [0x12u8, 0x34, 0x56];
+    let first = BitPtr::<u8, Lsb0>::from_slice(&words);
+    let other = BitPtr::<u8, Lsb0>::new(1, BitIdx::new_unchecked(0));
+    assert!(rt; !first.read(&words));
+    first.write(&mut words, true);
+    assert!(rt; first.replace(&mut words, true));
+    assert_eq!(rt; words, [0x13, 0x34, 0x56]);
+    first.swap_within(&mut words, other);
+    assert_eq!(rt; words, [0x12, 0x35, 0x56]);
+    first.copy_within(&mut words, other, 16);
+    assert_eq!(rt; words, [0x12, 0x12, 0x35]);
+    let mut wide = [0u16];
+    let into = BitPtr::<u16, Msb0>::from_mut_slice(&mut wide);
+    first.copy_to(&words, into, &mut wide, 8);
+    assert_eq!(rt; wide, [0x4800]);
+    other.copy_from(&mut words, into, &wide, 8);
+    assert_eq!(rt; words, [0x12, 0x12, 0x35]);
+    first.swap(&mut words, into, &mut wide);
+    assert_eq!(rt; wide, [0x4800]);
+}
+
+#[test]
+fn a_range_gives_each_pointer_once(rt: HostRuntime) {
+    let start = BitPtr::<u8, Lsb0>::new(-1, BitIdx::new_unchecked(6));
+    let end = BitPtr::<u8, Lsb0>::new(0, BitIdx::new_unchecked(2));
+    let mut range = BitPtrRange::from_range(start..end);
+    assert_eq!(rt; range.len(), 4);
+    assert!(rt; range.contains(&start));
+    assert!(rt; !range.contains(&end));
+    assert!(rt; range.start() == start);
+    assert!(rt; range.end() == end);
+    assert!(rt; range.next() == Some(start));
+    assert!(rt; range.next_back() == Some(start.add(3)));
+    assert!(rt; range.next() == Some(start.add(1)));
+    assert!(rt; range.next() == Some(start.add(2)));
+    assert!(rt; range.is_empty());
+    assert!(rt; range.next().is_none());
+    assert!(rt; range.next_back().is_none());
+    assert!(rt; range.next().is_none());
+    assert!(rt; BitPtrRange::<u8, Lsb0>::EMPTY.is_empty());
+    assert!(rt; BitPtrRange::<u8, Lsb0>::default() == BitPtrRange::EMPTY);
+}

@@ -1,0 +1,184 @@
+//! Orders of a user's own, and candidates that break one law each.
+
+ghost use Rattle.std.specs.Prelude.{◌≡◌, ◌==◌, ◌&&◌, ℕ, ◌+◌, ◌*◌, ◌%◌, ◌^◌, ◌<◌, bit_xor, is_none, if◌then◌else◌};
+ghost use Rattle.bit_addressing_order.specs.Law.{lower, upper, selectors_from, masks_from};
+
+use bit_addressing::{
+    BitOrder, BitRegister, OrderCandidate, Positions, mask_from_at, select_from_at,
+};
+
+/// Goes by steps of five from position 3, round the word.
+pub struct FifthStep;
+
+impl<R: BitRegister> Positions<R> for FifthStep {
+    ghost position = { λ i. (5 * i + 3) % R.BITS };
+
+    fn position_of(index: u8) -> u8 {
+        ((5 * index as u16 + 3) % R::BITS as u16) as u8
+    }
+}
+
+impl<R: BitRegister> OrderCandidate<R> for FifthStep {
+    ghost selector = { selectors_from (λ i. (5 * i + 3) % R.BITS) };
+
+    ghost masked = { masks_from R.BITS (λ i. (5 * i + 3) % R.BITS) };
+
+    fn selector_of(index: u8) -> R {
+        select_from_at::<R, FifthStep>(index)
+    }
+
+    fn mask_of(from: Option<u8>, upto: Option<u8>) -> R {
+        mask_from_at::<R, FifthStep>(from, upto)
+    }
+}
+
+impl<R: BitRegister> BitOrder<R> for FifthStep {
+    ghost use Rattle.std.specs.Prelude.{refl};
+    ghost use Rattle.bit_addressing_order.specs.OrderLaws.{lawful_by_steps};
+
+    ghost lawful = { lawful_by_steps R.BITS 5 3 R.size refl };
+}
+
+/// Flips the digit of weight 4 of each index.
+pub struct Flipped;
+
+impl<R: BitRegister> Positions<R> for Flipped {
+    ghost position = { λ i. bit_xor i 4 };
+
+    #[tactic(auto, using(bit_addressing_order::specs::OrderLaws::flip_within))]
+    fn position_of(index: u8) -> u8 {
+        index ^ 4
+    }
+}
+
+impl<R: BitRegister> OrderCandidate<R> for Flipped {
+    ghost selector = { selectors_from (λ i. bit_xor i 4) };
+
+    ghost masked = { masks_from R.BITS (λ i. bit_xor i 4) };
+
+    fn selector_of(index: u8) -> R {
+        select_from_at::<R, Flipped>(index)
+    }
+
+    fn mask_of(from: Option<u8>, upto: Option<u8>) -> R {
+        mask_from_at::<R, Flipped>(from, upto)
+    }
+}
+
+impl<R: BitRegister> BitOrder<R> for Flipped {
+    ghost use Rattle.bit_addressing_order.specs.OrderLaws.{lawful_from_at, flip_within, flip_apart};
+
+    ghost lawful = { lawful_from_at R.BITS (λ i. bit_xor i 4) (λ i small. flip_within R.BITS i R.size small) (λ i j _ _ same. flip_apart i j same) };
+}
+
+/// Puts every index at position 0, and makes the rest from that.
+pub struct AllAtZero;
+
+impl<R: BitRegister> Positions<R> for AllAtZero {
+    ghost position = { λ _. 0 };
+
+    fn position_of(_index: u8) -> u8 {
+        0
+    }
+}
+
+impl<R: BitRegister> OrderCandidate<R> for AllAtZero {
+    ghost selector = { selectors_from (λ _. 0) };
+
+    ghost masked = { masks_from R.BITS (λ _. 0) };
+
+    fn selector_of(index: u8) -> R {
+        select_from_at::<R, AllAtZero>(index)
+    }
+
+    fn mask_of(from: Option<u8>, upto: Option<u8>) -> R {
+        mask_from_at::<R, AllAtZero>(from, upto)
+    }
+}
+
+/// Counts from the least significant bit, but selects position 4 for index 3.
+pub struct OtherSelector;
+
+impl<R: BitRegister> Positions<R> for OtherSelector {
+    ghost position = { λ i. i };
+
+    fn position_of(index: u8) -> u8 {
+        index
+    }
+}
+
+impl<R: BitRegister> OrderCandidate<R> for OtherSelector {
+    ghost selector = { λ i. 2 ^ (if i == 3 then 4 else i) };
+
+    ghost masked = { masks_from R.BITS (λ i. i) };
+
+    fn selector_of(index: u8) -> R {
+        if index == 3 {
+            select_from_at::<R, OtherSelector>(4)
+        } else {
+            select_from_at::<R, OtherSelector>(index)
+        }
+    }
+
+    fn mask_of(from: Option<u8>, upto: Option<u8>) -> R {
+        mask_from_at::<R, OtherSelector>(from, upto)
+    }
+}
+
+/// Counts from the least significant bit, but the mask from 2 to 5 is empty.
+pub struct EmptyMask;
+
+impl<R: BitRegister> Positions<R> for EmptyMask {
+    ghost position = { λ i. i };
+
+    fn position_of(index: u8) -> u8 {
+        index
+    }
+}
+
+impl<R: BitRegister> OrderCandidate<R> for EmptyMask {
+    ghost selector = { selectors_from (λ i. i) };
+
+    ghost masked = { λ from upto. if lower from == 2 && upper R.BITS upto == 5 then 0 else masks_from R.BITS (λ i. i) from upto };
+
+    fn selector_of(index: u8) -> R {
+        select_from_at::<R, EmptyMask>(index)
+    }
+
+    fn mask_of(from: Option<u8>, upto: Option<u8>) -> R {
+        if from.unwrap_or(0) == 2 && upto.unwrap_or(R::BITS) == 5 {
+            R::ZERO
+        } else {
+            mask_from_at::<R, EmptyMask>(from, upto)
+        }
+    }
+}
+
+/// Counts from the least significant bit, but the mask from 4 with no second bound is empty.
+pub struct EmptyTail;
+
+impl<R: BitRegister> Positions<R> for EmptyTail {
+    ghost position = { λ i. i };
+
+    fn position_of(index: u8) -> u8 {
+        index
+    }
+}
+
+impl<R: BitRegister> OrderCandidate<R> for EmptyTail {
+    ghost selector = { selectors_from (λ i. i) };
+
+    ghost masked = { λ from upto. if lower from == 4 && is_none upto then 0 else masks_from R.BITS (λ i. i) from upto };
+
+    fn selector_of(index: u8) -> R {
+        select_from_at::<R, EmptyTail>(index)
+    }
+
+    fn mask_of(from: Option<u8>, upto: Option<u8>) -> R {
+        if from.unwrap_or(0) == 4 && upto.is_none() {
+            R::ZERO
+        } else {
+            mask_from_at::<R, EmptyTail>(from, upto)
+        }
+    }
+}

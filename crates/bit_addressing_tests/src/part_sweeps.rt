@@ -1,0 +1,179 @@
+//! Parts of one word, read and written at every head and tail, against a plain list of bits.
+
+ghost use Rattle.std.specs.Prelude.{◌<◌, ◌≤◌};
+
+use crate::orders::FifthStep;
+use crate::plain::Count;
+use crate::plain_words::{Plain, same, same_answer, same_count};
+use bit_addressing::{BitEnd, BitIdx, BitOrder, BitRegister, Lsb0, Msb0, PartialElementMut};
+use std::process::Abort;
+use std::test::Fail;
+
+// What is done to a part.
+#[derive(Clone, Copy)]
+enum Act {
+    Store,
+    Invert,
+    Clear,
+    Set,
+}
+
+// The part of a word from an index up to before an end.
+fn part_of<'a, R: BitRegister, O: BitOrder<R>>(
+    plain: Plain,
+    word: &'a mut R,
+    from: usize,
+    upto: usize,
+) -> Result<PartialElementMut<'a, R, O>, Fail> {
+    if plain.bits != R::BITS as usize || from >= plain.bits || upto > plain.bits || from > upto {
+        return Err(Fail::from("bounds"));
+    }
+    let head = BitIdx::<R>::new_unchecked(from as u8);
+    let tail = BitEnd::<R>::new_unchecked(upto as u8);
+    Ok(PartialElementMut::new(word, head, tail))
+}
+
+// What a part shows, and what it gives back.
+fn check_part<R: BitRegister, O: BitOrder<R>>(
+    rt: &impl Abort,
+    plain: Plain,
+    number: usize,
+    from: usize,
+    upto: usize,
+) -> Result<(), Fail>
+    requires number { number < 4 }
+    requires from { from < 64 }
+    requires upto { upto ≤ 64 }
+{
+    let edge = number * plain.bits;
+    let own = plain.words[number];
+    let other = plain.words[3 - number];
+    let mut word = R::from_value(own);
+    {
+        let part = part_of::<R, O>(plain, &mut word, from, upto)?;
+        same_count(rt, "head", part.head().into_inner() as usize, from);
+        same_count(rt, "tail", part.tail().into_inner() as usize, upto);
+        let (head, tail) = part.bounds();
+        same_count(rt, "first bound", head.into_inner() as usize, from);
+        same_count(rt, "second bound", tail.into_inner() as usize, upto);
+        same(
+            rt,
+            "mask",
+            part.mask().into_inner().value(),
+            plain.mask(from, upto),
+        );
+        same(
+            rt,
+            "value",
+            part.load_value().value(),
+            plain.masked(number, edge + from, edge + upto),
+        );
+        let (lent, index, len) = part.into_bitslice();
+        same(rt, "word", lent.value(), own);
+        same_count(rt, "index", index.into_inner() as usize, from);
+        same_count(rt, "count", len, upto.saturating_sub(from));
+        *lent = R::from_value(other);
+    }
+    same(rt, "lent word", word.value(), other);
+    Ok(())
+}
+
+// Does it, and answers what the part answered.
+fn apply<'a, R: BitRegister, O: BitOrder<R>>(
+    part: &mut PartialElementMut<'a, R, O>,
+    act: Act,
+    value: R,
+) -> R {
+    match act {
+        Act::Store => part.store_value(value),
+        Act::Invert => part.invert(),
+        Act::Clear => part.clear(),
+        Act::Set => part.set(),
+    }
+}
+
+// Each bit after an act on a part: that of the act inside it, and its own outside. Answered is the word
+// masked, as it was.
+fn check_act<R: BitRegister, O: BitOrder<R>>(
+    rt: &impl Abort,
+    plain: Plain,
+    number: usize,
+    from: usize,
+    upto: usize,
+    done: Act,
+) -> Result<(), Fail>
+    requires number { number < 4 }
+    requires from { from < 64 }
+    requires upto { upto ≤ 64 }
+{
+    let edge = number * plain.bits;
+    let other = plain.words[3 - number];
+    let mut word = R::from_value(plain.words[number]);
+    {
+        let mut part = part_of::<R, O>(plain, &mut word, from, upto)?;
+        let was = apply(&mut part, done, R::from_value(other));
+        same(
+            rt,
+            "answer",
+            was.value(),
+            plain.masked(number, edge + from, edge + upto),
+        );
+    }
+    for i in 0..plain.bits {
+        let old = plain.bit_of(plain.words[number], i);
+        let wanted = match done {
+            _ if i < from || i >= upto => old,
+            Act::Store => plain.bit_of(other, i),
+            Act::Invert => !old,
+            Act::Clear => false,
+            Act::Set => true,
+        };
+        same_answer(rt, "bit", plain.bit_of(word.value(), i), wanted);
+    }
+    Ok(())
+}
+
+// All of it at one part of each word.
+fn check<R: BitRegister, O: BitOrder<R>>(
+    rt: &impl Abort,
+    plain: Plain,
+    from: usize,
+    upto: usize,
+) -> Result<(), Fail>
+    requires from { from < 64 }
+    requires upto { upto ≤ 64 }
+{
+    for number in 0..4 {
+        check_part::<R, O>(rt, plain, number, from, upto)?;
+        for done in [Act::Store, Act::Invert, Act::Clear, Act::Set] {
+            check_act::<R, O>(rt, plain, number, from, upto, done)?;
+        }
+    }
+    Ok(())
+}
+
+#[test]
+fn parts_of_bytes_are_written(rt: HostRuntime) -> Result<(), Fail> {
+    for from in 0..8 {
+        for upto in from..9 {
+            check::<u8, Lsb0>(&rt, Plain::bytes(Count::Lowest), from, upto)?;
+            check::<u8, Msb0>(&rt, Plain::bytes(Count::Highest), from, upto)?;
+            check::<u8, FifthStep>(&rt, Plain::bytes(Count::Fifths), from, upto)?;
+        }
+    }
+    Ok(())
+}
+
+#[test]
+fn parts_of_wide_words_are_written(rt: HostRuntime) -> Result<(), Fail> {
+    for from in [0, 1, 24, 40, 63] {
+        for len in [0, 1, 7, 24, 33, 63, 64] {
+            if from + len <= 64 {
+                check::<u64, Lsb0>(&rt, Plain::wide(Count::Lowest), from, from + len)?;
+                check::<u64, Msb0>(&rt, Plain::wide(Count::Highest), from, from + len)?;
+                check::<u64, FifthStep>(&rt, Plain::wide(Count::Fifths), from, from + len)?;
+            }
+        }
+    }
+    Ok(())
+}

@@ -1,0 +1,91 @@
+//! What callers know of parts of words and of spans, from their contracts alone.
+
+ghost use Rattle.std.specs.Prelude.{◌≡◌, ℕ, ◌+◌, ◌<◌, ◌≤◌, length};
+ghost use Rattle.bit_addressing_memory.specs.Memory.{entry, indexed, touched};
+ghost use Rattle.bit_addressing_memory.specs.Partial.{IsMasked};
+ghost use Rattle.bit_addressing_memory.specs.Parts.{part_from, part_place, part_count};
+ghost use Rattle.bit_addressing_memory.specs.Written.{written_word, written_head, written_tail};
+
+use bit_addressing::{BitEnd, BitIdx, BitOrder, BitRegister, BitSpan, Lsb0, PartialElementMut};
+use std::test::Fail;
+
+// What is loaded after a store is the value, masked.
+#[tactic(auto, using(bit_addressing_memory::proofs::StoredLemmas::stored_then_masked))]
+fn store_and_load<'a, R: BitRegister, O: BitOrder<R>>(
+    part: &mut PartialElementMut<'a, R, O>,
+    value: R,
+) -> R
+    ensures { IsMasked R.BITS (indexed R.number O.position) value result
+        (written_head part.old) (written_tail part.old) }
+{
+    part.store_value(value);
+    part.load_value()
+}
+
+// What a store answered restores the word, stored again.
+#[tactic(auto, using(bit_addressing_memory::proofs::StoredLemmas::stored_back))]
+fn store_and_restore<'a, R: BitRegister, O: BitOrder<R>>(
+    part: &mut PartialElementMut<'a, R, O>,
+    value: R,
+)
+    ensures { (i : ℕ) → i < R.BITS → indexed R.number O.position (written_word part.new) i
+        ≡ indexed R.number O.position (written_word part.old) i }
+{
+    let was = part.store_value(value);
+    part.store_value(was);
+}
+
+// Two words of a span written, one after the other: both are known, and all else.
+fn write_two<R: BitRegister, O: BitOrder<R>>(
+    span: BitSpan<R, O>,
+    words: &mut [R],
+    first: R,
+    second: R,
+)
+    requires two { touched R.BITS span.head span.len ≡ 2 }
+    requires fits { span.word + 2 ≤ length words.old }
+    requires index { span.head < R.BITS }
+    ensures first { (k : ℕ) → k < part_count R.BITS span 0
+        → entry R.BITS (indexed R.number O.position) words.new (part_place R.BITS span 0 + k)
+        ≡ indexed R.number O.position first (part_from R.BITS span 0 + k) }
+    ensures second { (k : ℕ) → k < part_count R.BITS span 1
+        → entry R.BITS (indexed R.number O.position) words.new (part_place R.BITS span 1 + k)
+        ≡ indexed R.number O.position second (part_from R.BITS span 1 + k) }
+    ensures below { (p : ℕ) → p < part_place R.BITS span 0
+        → entry R.BITS (indexed R.number O.position) words.new p
+        ≡ entry R.BITS (indexed R.number O.position) words.old p }
+    ensures above { (p : ℕ) → part_place R.BITS span 1 + part_count R.BITS span 1 ≤ p
+        → entry R.BITS (indexed R.number O.position) words.new p
+        ≡ entry R.BITS (indexed R.number O.position) words.old p }
+{
+    let mut domain = span.domain_mut(words);
+    domain.store_value(0, first);
+    domain.store_value(1, second);
+}
+
+#[test]
+fn parts_are_restored(rt: HostRuntime) -> Result<(), Fail> {
+    let mut word = 0xa5u8;
+    {
+        let mut part = PartialElementMut::<u8, Lsb0>::new(
+            &mut word,
+            BitIdx::new_unchecked(1),
+            BitEnd::new_unchecked(7),
+        );
+        assert_eq!(rt; store_and_load(&mut part, 0xff), 0x7e);
+        store_and_restore(&mut part, 0x00);
+    }
+    assert_eq!(rt; word, 0xff);
+    Ok(())
+}
+
+#[test]
+fn two_words_are_written(rt: HostRuntime) -> Result<(), Fail> {
+    let mut memory = [0x12u8, 0x34, 0x56];
+    let span = BitSpan::<u8, Lsb0>::new(0, BitIdx::new(4)?, 8)?;
+    let (_, head, _) = span.raw_parts();
+    assert!(rt; span.elements() == 2 && head.into_inner() < 8);
+    write_two(span, &mut memory, 0xab, 0xcd);
+    assert_eq!(rt; memory, [0xa2, 0x3d, 0x56]);
+    Ok(())
+}

@@ -1,0 +1,191 @@
+//! Indices, ends, positions, selectors and masks: rows, and each call once.
+
+use bit_addressing::mem::{BitElement, bits_of, elts};
+use bit_addressing::{
+    AllOrNone, BitEnd, BitIdx, BitMask, BitPos, BitRegister, BitSel, Limits, LocalBits, Lsb0,
+};
+use std::hash::{DefaultHasher, Hash, Hasher};
+use std::test::Fail;
+
+#[test]
+fn offsets_round_down(rt: HostRuntime) -> Result<(), Fail> {
+    // index, by, words on, index there
+    let rows = [
+        (10, 40, 3, 2),
+        (10, -11, -1, 15),
+        (0, isize::MIN, -576460752303423488, 0),
+        (15, isize::MAX, 576460752303423488, 14),
+    ];
+    for (index, by, words, there) in rows {
+        let moved = BitIdx::<u16>::new(index)?.offset(by);
+        assert_eq!(rt; moved.0, words, "{index} by {by}");
+        assert_eq!(rt; moved.1.into_inner(), there, "{index} by {by}");
+    }
+    Ok(())
+}
+
+#[test]
+fn neighbours_tell_a_crossing(rt: HostRuntime) -> Result<(), Fail> {
+    // index, the one above, crossed, the one below, crossed
+    let rows = [
+        (0, 1, false, 7, true),
+        (3, 4, false, 2, false),
+        (7, 0, true, 6, false),
+    ];
+    for (index, above, over, below, under) in rows {
+        let index = BitIdx::<u8>::new(index)?;
+        let next = index.next();
+        assert_eq!(rt; (next.0.into_inner(), next.1), (above, over));
+        let prev = index.prev();
+        assert_eq!(rt; (prev.0.into_inner(), prev.1), (below, under));
+    }
+    Ok(())
+}
+
+#[test]
+fn places_have_their_limits(rt: HostRuntime) -> Result<(), Fail> {
+    assert!(rt; BitIdx::<u64>::new(64).is_err());
+    assert_eq!(rt;
+        BitIdx::<u64>::new(200)
+            .map_err(|error| error.into_inner())
+            .err(),
+        Some(200)
+    );
+    assert_eq!(rt; BitEnd::<u64>::new(65), None);
+    assert_eq!(rt; BitPos::<u64>::new(64), None);
+    let last = BitIdx::<u64>::MAX;
+    assert_eq!(rt; last, BitIdx::new_unchecked(63));
+    assert_eq!(rt; BitIdx::<u64>::MIN, BitIdx::default());
+    let end = BitEnd::<u64>::MAX;
+    assert_eq!(rt; end, BitEnd::new_unchecked(64));
+    assert_eq!(rt; BitEnd::<u64>::MIN, BitEnd::default());
+    let position = BitPos::<u64>::MAX;
+    assert_eq!(rt; position, BitPos::new_unchecked(63));
+    assert_eq!(rt; BitPos::<u64>::MIN, BitPos::default());
+    Ok(())
+}
+
+#[test]
+fn ranges_come_from_both_ends(rt: HostRuntime) -> Result<(), Fail> {
+    let mut range = BitIdx::<u8>::new(3)?.range(BitEnd::new_unchecked(6));
+    assert_eq!(rt; range.len(), 3);
+    assert_eq!(rt; range.next(), Some(BitIdx::new_unchecked(3)));
+    assert_eq!(rt; range.next_back(), Some(BitIdx::new_unchecked(5)));
+    assert_eq!(rt; range.clone()?.next(), Some(BitIdx::new_unchecked(4)));
+    assert_eq!(rt; range.next_back(), Some(BitIdx::new_unchecked(4)));
+    assert_eq!(rt; range.next(), None);
+    assert_eq!(rt; range.next_back(), None);
+    assert_eq!(rt; BitIdx::<u16>::range_all().count(), 16);
+    let mut ends = BitEnd::<u8>::range_from(BitIdx::new(6)?);
+    assert_eq!(rt; ends.len(), 3);
+    assert_eq!(rt; ends.next(), Some(BitEnd::new_unchecked(6)));
+    assert_eq!(rt; ends.next_back(), Some(BitEnd::MAX));
+    assert_eq!(rt; ends.next(), Some(BitEnd::new_unchecked(7)));
+    assert_eq!(rt; ends.next(), None);
+    let mut selectors = BitSel::<u8>::range_all();
+    assert_eq!(rt; selectors.len(), 8);
+    assert_eq!(rt;
+        selectors.next().map(|selector| selector.into_inner()),
+        Some(1)
+    );
+    assert_eq!(rt;
+        selectors.next_back().map(|selector| selector.into_inner()),
+        Some(128)
+    );
+    Ok(())
+}
+
+#[test]
+fn masks_are_sets_of_positions(rt: HostRuntime) -> Result<(), Fail> {
+    assert!(rt; BitSel::<u8>::new(0).is_none());
+    assert!(rt; BitSel::<u8>::new(0b0110).is_none());
+    let fourth = BitSel::<u8>::new(0b1000).ok_or("one bit")?;
+    let mut mask = BitMask::new(0b0000_0101u8);
+    assert!(rt; !mask.test(fourth));
+    mask.insert(fourth);
+    assert!(rt; mask.test(fourth));
+    assert_eq!(rt; mask.into_inner(), 0b0000_1101);
+    assert_eq!(rt; (!mask).into_inner(), 0b1111_0010);
+    assert_eq!(rt; (mask & 0b0000_0110).into_inner(), 0b0000_0100);
+    assert_eq!(rt; (mask | 0b1000_0000).into_inner(), 0b1000_1101);
+    assert_eq!(rt; mask.combine(fourth), mask);
+    assert_eq!(rt; fourth.mask().into_inner(), 0b1000);
+    assert_eq!(rt;
+        BitPos::<u8>::new_unchecked(6).mask().into_inner(),
+        0b0100_0000
+    );
+    let twice = [fourth, BitIdx::new(0)?.select::<LocalBits>(), fourth];
+    assert_eq!(rt; BitMask::sum(twice.iter().copied()).into_inner(), 0b1001);
+    assert_eq!(rt; BitMask::sum(BitSel::<u8>::range_all()), BitMask::ALL);
+    assert_eq!(rt; BitMask::<u8>::default(), BitMask::ZERO);
+    Ok(())
+}
+
+#[test]
+fn order_and_hash_go_by_number(rt: HostRuntime) -> Result<(), Fail> {
+    let low = BitMask::new(0x0fu8);
+    let high = BitMask::new(0x10u8);
+    assert!(rt; low < high);
+    assert!(rt; low != high);
+    let first = BitSel::<u8>::new(1).ok_or("one bit")?;
+    let second = BitSel::<u8>::new(2).ok_or("one bit")?;
+    assert!(rt; first < second);
+    assert!(rt; first == first.clone()?);
+    assert!(rt; BitIdx::<u8>::new(2)? < BitIdx::<u8>::new(3)?);
+    assert_eq!(rt; hash_of(&low), hash_of(&BitMask::new(0x0fu8)));
+    Ok(())
+}
+
+fn hash_of<T: Hash>(value: &T) -> u64 {
+    let mut state = DefaultHasher::new();
+    value.hash(&mut state);
+    state.finish()
+}
+
+#[test]
+fn words_that_hold_so_many_bits(rt: HostRuntime) {
+    assert_eq!(rt; bits_of::<u32>(), 32);
+    // bits, words of u16, words of u64
+    let rows = [
+        (0, 0, 0),
+        (1, 1, 1),
+        (16, 1, 1),
+        (17, 2, 1),
+        (64, 4, 1),
+        (65, 5, 2),
+        (usize::MAX, 1152921504606846976, 288230376151711744),
+    ];
+    for (bits, small, large) in rows {
+        assert_eq!(rt; elts::<u16>(bits), small, "{bits}");
+        assert_eq!(rt; elts::<u64>(bits), large, "{bits}");
+    }
+    assert_eq!(rt; BitElement::new(7u8).elem, 7);
+    assert_eq!(rt; BitElement::<u8>::default(), BitElement { elem: 0 });
+    assert!(rt; Lsb0 == Lsb0::default());
+}
+
+// Each call of a register, through its bound.
+fn calls_of_register<R: BitRegister>(
+    rt: &impl std::process::Abort,
+    sizes: (u8, u8, u8),
+    name: &str,
+) {
+    assert_eq!(rt; (R::BITS, R::INDX, R::MASK), sizes);
+    assert_eq!(rt; R::NAME, name);
+    assert_eq!(rt; R::type_name(), name);
+    assert!(rt; R::from_value(u128::MAX - 1).equals(R::ONE.not()));
+    assert!(rt; R::ZERO.not().equals(R::ALL));
+    assert!(rt; R::ONE.shl(R::MASK).shr(R::MASK).equals(R::ONE));
+    assert!(rt; R::ONE.shl(3).or(R::ONE).value() == 9);
+    assert!(rt; R::ALL.xor(R::ONE).and(R::ONE).equals(R::ZERO));
+    assert!(rt; R::ZERO.compare(R::ONE) == std::cmp::Ordering::Less);
+}
+
+#[test]
+fn registers(rt: HostRuntime) {
+    calls_of_register::<u8>(&rt, (8, 3, 7), "u8");
+    calls_of_register::<u16>(&rt, (16, 4, 15), "u16");
+    calls_of_register::<u32>(&rt, (32, 5, 31), "u32");
+    calls_of_register::<u64>(&rt, (64, 6, 63), "u64");
+    calls_of_register::<usize>(&rt, (64, 6, 63), "usize");
+}

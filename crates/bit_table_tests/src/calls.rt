@@ -1,0 +1,93 @@
+//! Each public call that takes memory, once where there is some.
+use bit_table::{
+    Cause, Command, Fault, ImageBytes, Input, Layout, Output, Reply, Rule, Table, Values, run,
+};
+use std::alloc::{AllocError, Global};
+use std::test::Fail;
+
+/// An insertion of two values.
+fn insertion(alloc: Global, place: u64, values: [i128; 2]) -> Result<Command, AllocError> {
+    Ok(Command::Insert {
+        place,
+        values: Values::new(Vec::from_slice(alloc, values.as_slice())?),
+    })
+}
+
+/// What an image of rows answers.
+fn image_of(alloc: Global, rows: usize, bytes: &[u8]) -> Result<Reply, AllocError> {
+    Ok(Reply::Image {
+        rows,
+        bytes: ImageBytes::new(Vec::from_slice(alloc, bytes)?),
+    })
+}
+
+#[test]
+fn a_table_is_edited_and_told(rt: HostRuntime) -> Result<(), Fail> {
+    let layout = Layout::parse(rt.alloc(), b"low a:u3 b:i4")?;
+    let mut table = Table::new(rt.alloc(), layout);
+    assert_eq!(rt; table.rows(), 0);
+    assert_eq!(rt; table.layout().row_bits(), 7);
+    assert_eq!(rt; table.layout().rule(), Rule::Low);
+    assert_eq!(rt; table.layout().fields().len(), 2);
+    assert_eq!(rt;
+        table.apply(&Command::Image),
+        Ok(image_of(rt.alloc(), 0, b"")?)
+    );
+    for (place, values) in [(0, [2, 3]), (0, [5, -1])] {
+        let command = insertion(rt.alloc(), place, values)?;
+        assert_eq!(rt; table.apply(&command), Ok(Reply::Done), "{values:?}");
+    }
+    assert_eq!(rt; table.rows(), 2);
+    assert_eq!(rt;
+        table.apply(&Command::Image),
+        Ok(image_of(rt.alloc(), 2, b"\x7d\x0d")?)
+    );
+    Ok(())
+}
+
+#[test]
+fn a_table_refuses(rt: HostRuntime) -> Result<(), Fail> {
+    let layout = Layout::parse(rt.alloc(), b"low a:u3 b:i4")?;
+    let mut table = Table::new(rt.alloc(), layout);
+    assert_eq!(rt;
+        table.apply(&insertion(rt.alloc(), 0, [5, -1])?),
+        Ok(Reply::Done)
+    );
+    for (place, values, cause) in [
+        (2, [8, 0], Cause::Row),
+        (u64::MAX, [0, 0], Cause::Row),
+        (0, [8, 0], Cause::Value),
+        (1, [0, -9], Cause::Value),
+    ] {
+        let command = insertion(rt.alloc(), place, values)?;
+        assert_eq!(rt;
+            table.apply(&command),
+            Err(Fault::Refused(cause)),
+            "{values:?}"
+        );
+    }
+    let one_value = Command::Insert {
+        place: 9,
+        values: Values::new(Vec::from_slice(rt.alloc(), &[8])?),
+    };
+    assert_eq!(rt; table.apply(&one_value), Err(Fault::Refused(Cause::Form)));
+    assert_eq!(rt; table.rows(), 1);
+    assert_eq!(rt;
+        table.apply(&Command::Image),
+        Ok(image_of(rt.alloc(), 1, b"\x7d")?)
+    );
+    Ok(())
+}
+
+#[test]
+fn a_script_runs(rt: HostRuntime) -> Result<(), Fail> {
+    let mut input = Input::new(b"low a:u3 b:u5\ninsert 0 5 17\nimage".as_slice());
+    let mut output = Output::new(Vec::new(rt.alloc()));
+    run(rt.alloc(), &mut input, &mut output)?;
+    assert!(rt; input.into_inner().is_empty());
+    assert_eq!(rt;
+        output.into_inner().as_slice(),
+        b"ok\nok\n1 8d\n".as_slice()
+    );
+    Ok(())
+}

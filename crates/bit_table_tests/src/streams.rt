@@ -1,0 +1,114 @@
+//! A script read and answered in pieces, and runs that a fault ends.
+ghost use Rattle.std.specs.Prelude.{◌≤◌};
+
+use crate::fakes::{Cut, Narrow, Stop};
+use bit_table::{Input, Output, RunError, run};
+use std::test::Fail;
+
+/// Two rows and their image. The last line has no line end.
+const SCRIPT: &[u8; 46] = b"low a:u3 b:i4\ninsert 0 5 -1\ninsert 1 2 3\nimage";
+
+const ANSWER: &[u8; 16] = b"ok\nok\nok\n2 7d0d\n";
+
+/// How many bytes are read at a time.
+const PIECES: [usize; 4] = [1, 3, 13, 4096];
+
+#[test]
+fn answers_however_it_is_cut(rt: HostRuntime) -> Result<(), Fail> {
+    for first in 0..47 {
+        for piece in PIECES {
+            assert!(rt; piece > 0);
+            let mut input = Input::new(Cut {
+                rest: SCRIPT.as_slice(),
+                first,
+                piece,
+                until_fault: usize::MAX,
+            });
+            let mut output = Output::new(Vec::new(rt.alloc()));
+            let result = run(rt.alloc(), &mut input, &mut output);
+            assert_eq!(rt; result, Ok(()));
+            assert!(rt; !input.failed());
+            assert!(rt; !output.failed());
+            assert!(rt; input.into_inner().rest.is_empty());
+            assert_eq!(rt;
+                output.into_inner().as_slice(),
+                ANSWER.as_slice(),
+                "cut at {first}, then each {piece}"
+            );
+        }
+    }
+    Ok(())
+}
+
+/// How many bytes of the answer are due once so many bytes of the script were read.
+fn due(read: usize) -> usize
+    ensures { result ≤ 9 }
+{
+    match read {
+        0..=13 => 0,
+        14..=27 => 3,
+        28..=40 => 6,
+        _ => 9,
+    }
+}
+
+#[test]
+fn a_read_fault_ends_it(rt: HostRuntime) -> Result<(), Fail> {
+    for read in 0..47 {
+        for piece in PIECES {
+            assert!(rt; piece > 0);
+            let mut input = Input::new(Cut {
+                rest: SCRIPT.as_slice(),
+                first: 0,
+                piece,
+                until_fault: read,
+            });
+            let mut output = Output::new(Vec::new(rt.alloc()));
+            let result = run(rt.alloc(), &mut input, &mut output);
+            assert_eq!(rt; result, Err(RunError::Read));
+            assert!(rt; input.failed());
+            assert!(rt; !output.failed());
+            assert_eq!(rt;
+                output.into_inner().as_slice(),
+                &ANSWER[..due(read)],
+                "after {read} bytes, each {piece}"
+            );
+        }
+    }
+    Ok(())
+}
+
+#[test]
+fn a_write_fault_ends_it(rt: HostRuntime) -> Result<(), Fail> {
+    for stop in [Stop::Never, Stop::Fails, Stop::TakesNone] {
+        for most in [1, 3] {
+            for room in 0..18usize {
+                let mut input = Input::new(SCRIPT.as_slice());
+                let mut output = Output::new(Narrow {
+                    taken: Vec::new(rt.alloc()),
+                    most,
+                    room,
+                    stop,
+                });
+                let result = run(rt.alloc(), &mut input, &mut output);
+                let count = if stop == Stop::Never {
+                    ANSWER.len()
+                } else {
+                    room.min(ANSWER.len())
+                };
+                let is_cut = count < ANSWER.len();
+                assert_eq!(rt; result, if is_cut { Err(RunError::Write) } else { Ok(()) });
+                assert_eq!(rt; output.failed(), is_cut);
+                assert!(rt; !input.failed());
+                let Narrow {
+                    taken,
+                    most: _,
+                    room: _,
+                    stop: _,
+                } = output.into_inner();
+                assert_eq!(rt; taken.as_slice(), &ANSWER[..count], "{stop:?} after {room}");
+            }
+        }
+    }
+    Ok(())
+}

@@ -1,8 +1,7 @@
 //! The tests of the addressing layer: the rows, every call compared with a plain list of bits, and what callers know.
 #![tactic(auto)]
 
-#[cfg(test)]
-mod callers;
+pub mod callers;
 #[cfg(test)]
 mod domain_sweeps;
 #[cfg(test)]

@@ -8,8 +8,7 @@ mod answers;
 mod calls;
 #[cfg(test)]
 mod commands;
-#[cfg(test)]
-mod fakes;
+pub mod fakes;
 #[cfg(test)]
 mod image_lines;
 #[cfg(test)]

@@ -3,9 +3,9 @@
 ghost use Rattle.std.specs.Prelude.{◌+◌, ◌*◌, ◌<◌, ◌≤◌};
 
 use crate::callers::{move_list, move_within, own_array};
-use crate::orders::{FifthStep, Flipped};
 use bit_addressing::mem::bits_of;
 use bit_addressing::{BitIdx, BitOrder, BitRegister, Lsb0, Msb0, read_bit};
+use bit_addressing_samples::{FifthStep, Flipped};
 
 #[test]
 fn moves_of_sixteen_bits(rt: HostRuntime) {

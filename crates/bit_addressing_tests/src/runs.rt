@@ -1,5 +1,9 @@
 //! Runs over spans: the rows, a device's registers, both orders of two spans' commands, and disjoint spans.
 
+ghost use Rattle.std.specs.Prelude.{◌≡◌, IfOk};
+ghost use Rattle.bit_addressing_memory.specs.Span.{extent};
+
+use crate::callers::set_and_read;
 use bit_addressing::{
     BitIdx, BitOrder, BitRegister, BitSpan, Lsb0, Msb0, SpanCommand, SpanReply, all_fit, disjoint,
     order_of_spans_is_free, run,
@@ -12,7 +16,9 @@ fn span<R: BitRegister, O: BitOrder<R>>(
     word: usize,
     head: u8,
     len: usize,
-) -> Result<BitSpan<R, O>, Fail> {
+) -> Result<BitSpan<R, O>, Fail>
+    ensures { IfOk result (λ span. span ≡ extent word head len) }
+{
     Ok(BitSpan::new(word, BitIdx::new(head)?, len)?)
 }
 
@@ -104,128 +110,128 @@ const COUNTER: usize = 1;
 
 const STATUS: usize = 2;
 
+// The spans of the registers.
+fn registers() -> Result<[BitSpan<u32, Lsb0>; 3], Fail> {
+    Ok([span(0, 0, 12)?, span(0, 20, 24)?, span(1, 12, 20)?])
+}
+
 #[test]
-fn registers_of_a_device(rt: HostRuntime) -> Result<(), Fail> {
-    let registers = [
-        span::<u32, Lsb0>(0, 0, 12)?,
-        span::<u32, Lsb0>(0, 20, 24)?,
-        span::<u32, Lsb0>(1, 12, 20)?,
-    ];
+fn three_registers_of_a_device(rt: HostRuntime) -> Result<(), Fail> {
     let mut memory = [0x1234_5678u32, 0x9abc_def0];
-    let few = [
+    let commands = [
         (CONTROL, SpanCommand::Replace(0, true)),
         (COUNTER, SpanCommand::Load(1)),
         (STATUS, SpanCommand::Invert(0)),
+    ];
+    let wanted = [
+        SpanReply::Bit(false),
+        SpanReply::Word(0x0ef0),
+        SpanReply::Word(0x9abc_d000),
     ];
     let mut replies = [SpanReply::Done; 3];
-    run_tested(&rt, &mut memory, &registers, &few, &mut replies);
-    assert!(rt;
-        replies
-            == [
-                SpanReply::Bit(false),
-                SpanReply::Word(0x0ef0),
-                SpanReply::Word(0x9abc_d000)
-            ]
-    );
+    run_tested(&rt, &mut memory, &registers()?, &commands, &mut replies);
+    assert!(rt; replies == wanted);
     assert_eq!(rt; memory, [0x1234_5679, 0x6543_2ef0]);
+    Ok(())
+}
 
-    // control 0x678, nobody's 0x45, counter 0xef0123, status 0x9abcd
-    memory = [0x1234_5678u32, 0x9abc_def0];
-    let commands = [
-        (CONTROL, SpanCommand::Load(0)),
-        // control 0x679
-        (CONTROL, SpanCommand::Replace(0, true)),
-        (COUNTER, SpanCommand::Load(0)),
-        (COUNTER, SpanCommand::Load(1)),
-        // counter 0xef0000
-        (COUNTER, SpanCommand::Clear(0)),
-        // counter 0x345000: the value's digits past the counter's end are not written
-        (COUNTER, SpanCommand::Store(1, 0x0001_2345)),
-        (STATUS, SpanCommand::Read(3)),
-        // status 0x9abce
-        (STATUS, SpanCommand::Swap(0, 1)),
-        // status 0x65431
-        (STATUS, SpanCommand::Invert(0)),
-        // counter 0x345045, from one word to the other
-        (COUNTER, SpanCommand::Copy(12, 0, 8)),
-        // control 0xfff
-        (CONTROL, SpanCommand::Set(0)),
-        (CONTROL, SpanCommand::Load(1)),
-        (STATUS, SpanCommand::Copy(10, 0, 11)),
-        (3, SpanCommand::Set(0)),
-    ];
-    let mut replies = [SpanReply::Done; 14];
-    run_tested(&rt, &mut memory, &registers, &commands, &mut replies);
-    let wanted = [
-        SpanReply::Word(0x0000_0678),
+// Commands to the device and their replies. At first control is 0x678, nobody's bits are 0x45, the counter
+// is 0xef0123 and status 0x9abcd.
+const DIALOGUE: [(usize, SpanCommand<u32>, SpanReply<u32>); 14] = [
+    (CONTROL, SpanCommand::Load(0), SpanReply::Word(0x0000_0678)),
+    // control 0x679
+    (
+        CONTROL,
+        SpanCommand::Replace(0, true),
         SpanReply::Bit(false),
-        SpanReply::Word(0x1230_0000),
+    ),
+    (COUNTER, SpanCommand::Load(0), SpanReply::Word(0x1230_0000)),
+    (COUNTER, SpanCommand::Load(1), SpanReply::Word(0x0000_0ef0)),
+    // counter 0xef0000
+    (COUNTER, SpanCommand::Clear(0), SpanReply::Word(0x1230_0000)),
+    // counter 0x345000: the value's digits past the counter's end are not written
+    (
+        COUNTER,
+        SpanCommand::Store(1, 0x0001_2345),
         SpanReply::Word(0x0000_0ef0),
-        SpanReply::Word(0x1230_0000),
-        SpanReply::Word(0x0000_0ef0),
-        SpanReply::Bit(true),
-        SpanReply::Done,
-        SpanReply::Word(0x9abc_e000),
-        SpanReply::Done,
-        SpanReply::Word(0x0000_0679),
-        SpanReply::Refused,
-        SpanReply::Refused,
-        SpanReply::Refused,
-    ];
+    ),
+    (STATUS, SpanCommand::Read(3), SpanReply::Bit(true)),
+    // status 0x9abce
+    (STATUS, SpanCommand::Swap(0, 1), SpanReply::Done),
+    // status 0x65431
+    (STATUS, SpanCommand::Invert(0), SpanReply::Word(0x9abc_e000)),
+    // counter 0x345045, from one word to the other
+    (COUNTER, SpanCommand::Copy(12, 0, 8), SpanReply::Done),
+    // control 0xfff
+    (CONTROL, SpanCommand::Set(0), SpanReply::Word(0x0000_0679)),
+    (CONTROL, SpanCommand::Load(1), SpanReply::Refused),
+    (STATUS, SpanCommand::Copy(10, 0, 11), SpanReply::Refused),
+    (3, SpanCommand::Set(0), SpanReply::Refused),
+];
+
+#[test]
+fn registers_of_a_device(rt: HostRuntime) -> Result<(), Fail> {
+    let mut memory = [0x1234_5678u32, 0x9abc_def0];
+    let commands = DIALOGUE.map(|(register, command, _)| (register, command));
+    let mut replies = [SpanReply::Done; 14];
+    run_tested(&rt, &mut memory, &registers()?, &commands, &mut replies);
     for k in 0..14 {
-        assert!(rt; replies[k] == wanted[k], "command {k}");
+        assert!(rt; replies[k] == DIALOGUE[k].2, "command {k}");
     }
     assert_eq!(rt; memory, [0x0454_5fff, 0x6543_1345]);
     Ok(())
 }
 
+// The replies to four commands at bits 0 to before 3 and 3 to before 8 of a byte, and the byte afterwards.
+fn four_replies(
+    rt: &impl Abort,
+    before: u8,
+    commands: [(usize, SpanCommand<u8>); 4],
+) -> Result<([SpanReply<u8>; 4], u8), Fail> {
+    let spans = [span::<u8, Lsb0>(0, 0, 3)?, span::<u8, Lsb0>(0, 3, 5)?];
+    let mut memory = [before];
+    let mut replies = [SpanReply::Done; 4];
+    run_tested(rt, &mut memory, &spans, &commands, &mut replies);
+    Ok((replies, memory[0]))
+}
+
 #[test]
 fn order_of_two_spans(rt: HostRuntime) -> Result<(), Fail> {
-    let spans = [span::<u8, Lsb0>(0, 0, 3)?, span::<u8, Lsb0>(0, 3, 5)?];
+    // command and reply
     let replace = (0, SpanCommand::Replace(0, true));
+    let replaced = SpanReply::Bit(false);
     let load = (0, SpanCommand::Load(0));
+    let loaded = SpanReply::Word(0x01);
     let invert = (1, SpanCommand::Invert(0));
+    let inverted = SpanReply::Word(0xf0);
     let load_other = (1, SpanCommand::Load(0));
+    let loaded_other = SpanReply::Word(0x08);
 
-    let mut mixed = [0xf0u8];
-    let mut replies = [SpanReply::Done; 4];
-    run_tested(
-        &rt,
-        &mut mixed,
-        &spans,
-        &[replace, invert, load, load_other],
-        &mut replies,
-    );
-    assert!(rt;
-        replies
-            == [
-                SpanReply::Bit(false),
-                SpanReply::Word(0xf0),
-                SpanReply::Word(0x01),
-                SpanReply::Word(0x08)
-            ]
-    );
-    assert_eq!(rt; mixed, [0x09]);
+    let (replies, after) = four_replies(&rt, 0xf0, [replace, invert, load, load_other])?;
+    assert!(rt; replies == [replaced, inverted, loaded, loaded_other]);
+    assert_eq!(rt; after, 0x09);
 
-    let mut apart = [0xf0u8];
-    run_tested(
-        &rt,
-        &mut apart,
-        &spans,
-        &[invert, load_other, replace, load],
-        &mut replies,
-    );
-    assert!(rt;
-        replies
-            == [
-                SpanReply::Word(0xf0),
-                SpanReply::Word(0x08),
-                SpanReply::Bit(false),
-                SpanReply::Word(0x01)
-            ]
-    );
-    assert_eq!(rt; apart, [0x09]);
+    let (replies, after) = four_replies(&rt, 0xf0, [invert, load_other, replace, load])?;
+    assert!(rt; replies == [inverted, loaded_other, replaced, loaded]);
+    assert_eq!(rt; after, 0x09);
     order_of_spans_is_free::<u8, Lsb0>();
+    Ok(())
+}
+
+#[test]
+fn a_bit_is_set_and_a_neighbour_read(rt: HostRuntime) -> Result<(), Fail> {
+    let spans = [span::<u8, Lsb0>(0, 0, 3)?, span::<u8, Lsb0>(0, 3, 5)?];
+    let commands = [
+        (0, SpanCommand::Replace(0, true)),
+        (1, SpanCommand::Read(0)),
+    ];
+    let mut memory = [0xf8u8];
+    let mut replies = [SpanReply::Done; 2];
+    assert!(rt; disjoint(&spans));
+    assert!(rt; all_fit(&spans, memory.len()));
+    set_and_read(&mut memory, &spans, &commands, &mut replies);
+    assert_eq!(rt; memory, [0xf9]);
+    assert!(rt; replies == [SpanReply::Bit(false), SpanReply::Bit(true)]);
     Ok(())
 }
 
@@ -261,8 +267,11 @@ fn spans_are_disjoint(rt: HostRuntime) -> Result<(), Fail> {
         ];
         assert_eq!(rt; disjoint(&spans), apart, "{} {} {}", one.0, one.1, one.2);
     }
+    Ok(())
+}
 
-    // The last of three meets the first.
+#[test]
+fn the_last_of_three_spans_meets_the_first(rt: HostRuntime) -> Result<(), Fail> {
     let spans = [
         span::<u64, Lsb0>(0, 0, 4)?,
         span::<u64, Lsb0>(0, 8, 4)?,

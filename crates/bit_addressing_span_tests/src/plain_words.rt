@@ -3,8 +3,8 @@
 ghost use Rattle.std.specs.Prelude.{◌≡◌, ◌/◌, ◌%◌, ◌<◌, ◌≤◌, IfOk};
 ghost use Rattle.bit_addressing_memory.specs.Span.{extent};
 
-use crate::plain::{Count, digit_of};
 use bit_addressing::{BitIdx, BitOrder, BitRegister, BitSpan};
+use bit_addressing_samples::Count;
 use std::process::Abort;
 use std::test::Fail;
 
@@ -47,7 +47,7 @@ impl Plain {
     fn digit(self, index: usize) -> usize
         ensures { result < 64 }
     {
-        digit_of(self.count, self.bits, index % self.bits)
+        self.count.digit(self.bits, index % self.bits)
     }
 
     /// The bit of a word's number at an index.

@@ -2,10 +2,9 @@
 
 ghost use Rattle.std.specs.Prelude.{◌≤◌};
 
-use crate::orders::FifthStep;
-use crate::plain::Count;
 use crate::plain_words::{Plain, same, same_answer, same_count, span_of};
 use bit_addressing::{BitOrder, BitRegister, DomainMut, Lsb0, Msb0};
+use bit_addressing_samples::{Count, FifthStep};
 use std::process::Abort;
 use std::test::Fail;
 

@@ -3,8 +3,8 @@
 ghost use Rattle.std.specs.Prelude.{◌≡◌, ◌<◌, ◌≤◌, pos, ◌+ℤ◌, ◌-ℤ◌, ◌*ℤ◌};
 ghost use Rattle.bit_addressing_memory.specs.Pointer.{StaysIn};
 
-use crate::orders::FifthStep;
 use bit_addressing::{BitIdx, BitOrder, BitPtr, BitPtrRange, BitRegister, Limits, Lsb0, Msb0};
+use bit_addressing_samples::FifthStep;
 use std::ops::{Bound, RangeBounds};
 use std::test::Fail;
 

@@ -1,10 +1,11 @@
 //! The worked rows of orders and of their verification.
 
-use crate::orders::{AllAtZero, EmptyMask, EmptyTail, FifthStep, Flipped, OtherSelector};
+use crate::candidates::{AllAtZero, EmptyMask, EmptyTail, OtherSelector};
 use bit_addressing::{
     BitEnd, BitIdx, BitOrder, BitRegister, Lsb0, Msb0, OrderCandidate, OrderFault, WordFault,
     disjoint_masks, mask_from_at, select_from_at, verify, verify_for_type,
 };
+use bit_addressing_samples::{FifthStep, Flipped};
 use std::test::Fail;
 
 // The mask of the first three indices of a byte.

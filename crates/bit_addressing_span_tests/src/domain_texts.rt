@@ -48,10 +48,7 @@ fn check_texts<T: fmt::Binary + fmt::Octal + fmt::LowerHex + fmt::UpperHex>(
     rt: &impl Abort,
     alloc: Global,
     domain: &T,
-    binary: &str,
-    octal: &str,
-    lower: &str,
-    upper: &str,
+    [binary, octal, lower, upper]: [&str; 4],
 ) -> Result<(), Fail> {
     let text = format!(in alloc; "{}", InBinary(domain))?;
     assert_eq!(rt; text.as_str(), binary);
@@ -70,51 +67,38 @@ fn regions_are_written(rt: HostRuntime) -> Result<(), Fail> {
     // 0001 of the first word, its upper half; 1010_1011; 1100_1101; the lowest 4 digits of the last
     let span = BitSpan::<u8, Lsb0>::new(0, BitIdx::new(4)?, 24)?;
     assert!(rt; span.fits(4));
-    check_texts(
-        &rt,
-        rt.alloc(),
-        &span.domain(&memory),
+    let texts = [
         "[10000, 10101011, 11001101, 1110]",
         "[20, 253, 315, 16]",
         "[10, ab, cd, e]",
         "[10, AB, CD, E]",
-    )?;
+    ];
+    check_texts(&rt, rt.alloc(), &span.domain(&memory), texts)?;
     // from the highest digit on: the lower half of the first word, and the upper half of the last
     let span = BitSpan::<u8, Msb0>::new(0, BitIdx::new(4)?, 24)?;
     assert!(rt; span.fits(4));
-    check_texts(
-        &rt,
-        rt.alloc(),
-        &span.domain(&memory),
+    let texts = [
         "[1111, 10101011, 11001101, 1010000]",
         "[17, 253, 315, 120]",
         "[f, ab, cd, 50]",
         "[F, AB, CD, 50]",
-    )?;
-    // whole words alone
+    ];
+    check_texts(&rt, rt.alloc(), &span.domain(&memory), texts)?;
+    Ok(())
+}
+
+#[test]
+fn whole_words_and_a_tail_are_written(rt: HostRuntime) -> Result<(), Fail> {
+    let memory = [0x1fu8, 0xab, 0xcd, 0x5e];
     let span = BitSpan::<u8, Lsb0>::new(1, BitIdx::new(0)?, 16)?;
     assert!(rt; span.fits(4));
-    check_texts(
-        &rt,
-        rt.alloc(),
-        &span.domain(&memory),
-        "[10101011, 11001101]",
-        "[253, 315]",
-        "[ab, cd]",
-        "[AB, CD]",
-    )?;
+    let texts = ["[10101011, 11001101]", "[253, 315]", "[ab, cd]", "[AB, CD]"];
+    check_texts(&rt, rt.alloc(), &span.domain(&memory), texts)?;
     // a tail alone
     let span = BitSpan::<u8, Lsb0>::new(2, BitIdx::new(0)?, 3)?;
     assert!(rt; span.fits(4));
-    check_texts(
-        &rt,
-        rt.alloc(),
-        &span.domain(&memory),
-        "[101]",
-        "[5]",
-        "[5]",
-        "[5]",
-    )
+    let texts = ["[101]", "[5]", "[5]", "[5]"];
+    check_texts(&rt, rt.alloc(), &span.domain(&memory), texts)
 }
 
 #[test]
@@ -123,49 +107,25 @@ fn enclaves_and_no_bits_are_written(rt: HostRuntime) -> Result<(), Fail> {
     // the digits 3 to 10 of 0000_1011_1010_1101
     let span = BitSpan::<u16, Lsb0>::new(1, BitIdx::new(3)?, 8)?;
     assert!(rt; span.fits(2));
-    check_texts(
-        &rt,
-        rt.alloc(),
-        &span.domain(&memory),
-        "[1110101000]",
-        "[1650]",
-        "[3a8]",
-        "[3A8]",
-    )?;
+    let texts = ["[1110101000]", "[1650]", "[3a8]", "[3A8]"];
+    check_texts(&rt, rt.alloc(), &span.domain(&memory), texts)?;
     // no bits, wherever they would begin
     let span = BitSpan::<u16, Msb0>::new(1, BitIdx::new(7)?, 0)?;
     assert!(rt; span.fits(2));
-    check_texts(
-        &rt,
-        rt.alloc(),
-        &span.domain(&memory),
-        "[]",
-        "[]",
-        "[]",
-        "[]",
-    )?;
-    check_texts(
-        &rt,
-        rt.alloc(),
-        &Domain::<u8, Lsb0>::default(),
-        "[]",
-        "[]",
-        "[]",
-        "[]",
-    )?;
-    // words of zeros are one digit each
+    let texts = ["[]", "[]", "[]", "[]"];
+    check_texts(&rt, rt.alloc(), &span.domain(&memory), texts)?;
+    let texts = ["[]", "[]", "[]", "[]"];
+    check_texts(&rt, rt.alloc(), &Domain::<u8, Lsb0>::default(), texts)?;
+    Ok(())
+}
+
+#[test]
+fn words_of_zeros_are_one_digit_each(rt: HostRuntime) -> Result<(), Fail> {
     let zeros = [0u64, 0];
     let span = BitSpan::<u64, Lsb0>::new(0, BitIdx::new(60)?, 68)?;
     assert!(rt; span.fits(2));
-    check_texts(
-        &rt,
-        rt.alloc(),
-        &span.domain(&zeros),
-        "[0, 0]",
-        "[0, 0]",
-        "[0, 0]",
-        "[0, 0]",
-    )
+    let texts = ["[0, 0]", "[0, 0]", "[0, 0]", "[0, 0]"];
+    check_texts(&rt, rt.alloc(), &span.domain(&zeros), texts)
 }
 
 #[test]
@@ -173,15 +133,13 @@ fn widest_words_are_written(rt: HostRuntime) -> Result<(), Fail> {
     let memory = [u64::MAX, 0xfedc_ba98_7654_3210];
     let span = BitSpan::<u64, Lsb0>::new(0, BitIdx::new(0)?, 72)?;
     assert!(rt; span.fits(2));
-    check_texts(
-        &rt,
-        rt.alloc(),
-        &span.domain(&memory),
+    let texts = [
         "[1111111111111111111111111111111111111111111111111111111111111111, 10000]",
         "[1777777777777777777777, 20]",
         "[ffffffffffffffff, 10]",
         "[FFFFFFFFFFFFFFFF, 10]",
-    )
+    ];
+    check_texts(&rt, rt.alloc(), &span.domain(&memory), texts)
 }
 
 #[test]
@@ -191,16 +149,15 @@ fn writable_domains_are_written(rt: HostRuntime) -> Result<(), Fail> {
     assert!(rt; span.fits(4));
     let mut domain = span.domain_mut(&mut memory);
     domain.store_value(1, 0xb7);
-    check_texts(
-        &rt,
-        rt.alloc(),
-        &domain,
+    let texts = [
         "[10000, 10110111, 11001101, 1110]",
         "[20, 267, 315, 16]",
         "[10, b7, cd, e]",
         "[10, B7, CD, E]",
-    )?;
+    ];
+    check_texts(&rt, rt.alloc(), &domain, texts)?;
     let domain: DomainMut<u8, Msb0> = Default::default();
     assert_eq!(rt; domain.len(), 0);
-    check_texts(&rt, rt.alloc(), &domain, "[]", "[]", "[]", "[]")
+    let texts = ["[]", "[]", "[]", "[]"];
+    check_texts(&rt, rt.alloc(), &domain, texts)
 }

@@ -3,12 +3,12 @@
 ghost use Rattle.std.specs.Prelude.{◌≡◌, ◌+◌, ◌*◌, ◌^◌, ◌<◌, ◌≤◌, length, pos, ◌≤ℤ◌};
 ghost use Rattle.bit_addressing_memory.specs.Pointer.{memory_place};
 
-use crate::orders::FifthStep;
-use crate::plain::{Count, fill, listed};
+use crate::plain::{fill, listed};
 use bit_addressing::{
     BitIdx, BitOrder, BitPtr, BitRegister, Lsb0, Msb0, copy_within, read_entry, replace_entry,
     swap_entries, swap_within, write_entry,
 };
+use bit_addressing_samples::{Count, FifthStep};
 
 // The pointer to a place of a memory.
 pub fn pointer_to<R: BitRegister, O: BitOrder<R>>(place: usize) -> BitPtr<R, O>

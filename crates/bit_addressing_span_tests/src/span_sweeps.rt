@@ -3,10 +3,9 @@
 ghost use Rattle.std.specs.Prelude.{◌^◌, ◌<◌, ◌≤◌, length};
 ghost use Rattle.bit_addressing_memory.specs.Domain.{domain_numbers};
 
-use crate::orders::FifthStep;
-use crate::plain::Count;
 use crate::plain_words::{Plain, same, same_answer, same_count, same_word, span_of};
 use bit_addressing::{BitOrder, BitRegister, Domain, Lsb0, Msb0, PartialElement};
+use bit_addressing_samples::{Count, FifthStep};
 use std::process::Abort;
 use std::test::Fail;
 

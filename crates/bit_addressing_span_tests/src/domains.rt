@@ -2,8 +2,8 @@
 
 ghost use Rattle.std.specs.Prelude.{◌≤◌};
 
-use crate::orders::FifthStep;
 use bit_addressing::{BitEnd, BitIdx, BitOrder, BitSpan, Domain, Lsb0, Msb0, PartialElementMut};
+use bit_addressing_samples::FifthStep;
 use std::fmt;
 use std::test::Fail;
 

@@ -2,11 +2,11 @@
 
 ghost use Rattle.std.specs.Prelude.{◌+◌, ◌≤◌, ◌<◌};
 
-use crate::orders::FifthStep;
 use bit_addressing::{
     BitIdx, BitPtr, BitPtrRange, Dangling, EmptyRange, Limits, Lsb0, Msb0, copy_between,
     copy_within, read_entry, replace_entry, swap_between, swap_within, write_entry,
 };
+use bit_addressing_samples::FifthStep;
 
 #[test]
 fn entries_are_read_and_replaced(rt: HostRuntime) {

@@ -3,9 +3,9 @@
 ghost use Rattle.std.specs.Prelude.{◌+◌, ◌*◌, ◌<◌, ◌≤◌, length};
 
 use crate::lists::pointer_to;
-use crate::orders::FifthStep;
-use crate::plain::{Count, fill, listed};
+use crate::plain::{fill, listed};
 use bit_addressing::{BitOrder, BitRegister, Lsb0, Msb0, copy_between, swap_between};
+use bit_addressing_samples::{Count, FifthStep};
 
 // The five calls that copy between two memories.
 #[derive(Clone, Copy)]

@@ -11,9 +11,9 @@ use Rattle.std.proofs.lemmas.List.FromFn.{length-map-range_with_len, get_or-map-
 use Rattle.std.proofs.lemmas.Nat.{div-add-mod', mod_below}
 use Rattle.std.specs.List.{range_with_len}
 use Rattle.bit_addressing_memory.specs.Memory.{digits, entry, touched}
-use Rattle.bit_addressing_memory.specs.Parts.{ReadsPart, StoresPart, part_count, part_from, part_place, part_upto}
-use Rattle.bit_addressing_memory.specs.Span.{Extent}
-use Rattle.bit_addressing_memory.proofs.PartsLemmas.{part_some, part_start}
+use Rattle.bit_addressing_span.specs.Parts.{ReadsPart, StoresPart, part_count, part_from, part_place, part_upto}
+use Rattle.bit_addressing_span.specs.Span.{Extent}
+use Rattle.bit_addressing_span.proofs.PartsLemmas.{part_some, part_start}
 use Rattle.bit_addressing.specs.Own.{lies_in, own_digit, own_edit, own_reading, own_word, over_word}
 use Rattle.bit_addressing.specs.Runs.{CarriesOut, IsOutside, span_bits, span_place}
 use Rattle.bit_addressing.specs.declared.command.SpanCommand.{SpanCommand}

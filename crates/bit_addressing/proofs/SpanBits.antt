@@ -9,9 +9,9 @@ use Rattle.std.proofs.lemmas.Bool.{cases_eq}
 use Rattle.std.proofs.lemmas.List.{ext_get_or}
 use Rattle.bit_addressing_memory.specs.Memory.{entry, memory, touched}
 use Rattle.bit_addressing_memory.specs.Pointer.{LiesIn, Pointer, memory_place}
-use Rattle.bit_addressing_memory.specs.Span.{Extent}
+use Rattle.bit_addressing_span.specs.Span.{Extent}
 use Rattle.bit_addressing_memory.proofs.MemoryLemmas.{entry_memory, get_or-piece, length-memory, length-piece, piece_none}
-use Rattle.bit_addressing_memory.proofs.SpanLemmas.{touched-within}
+use Rattle.bit_addressing_span.proofs.SpanLemmas.{touched-within}
 use Rattle.bit_addressing.specs.Own.{lies_in, own_after, own_answer, own_edit, own_reading, seen}
 use Rattle.bit_addressing.specs.Runs.{CarriesOut, IsOutside, span_bits, span_place}
 use Rattle.bit_addressing.specs.declared.command.SpanCommand.{SpanCommand}

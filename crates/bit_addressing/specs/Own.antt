@@ -81,7 +81,8 @@ own_list b digit head [] bits = bits
 own_list b digit head (command ∷ rest) bits = own_list b digit head rest (own_after b digit head command bits)
 
 -- what is answered to one command after another
-unfoldable pub own_answers : {R : Type 0} → ℕ → (R → ℕ → Bool) → ℕ → List (SpanCommand R) → List Bool → List (SpanReply (List Bool))
+unfoldable pub own_answers : {R : Type 0} → ℕ → (R → ℕ → Bool) → ℕ → List (SpanCommand R) → List Bool
+    → List (SpanReply (List Bool))
 own_answers b digit head [] bits = []
 own_answers b digit head (command ∷ rest) bits =
     own_answer b head command bits ∷ own_answers b digit head rest (own_after b digit head command bits)

@@ -5,7 +5,7 @@
 use Rattle.std.specs.Prelude.{ℕ, ◌+◌, ◌*◌, ◌<◌, ◌≤◌, ◌==◌, ◌≡◌, Bool, List, [], ◌∷◌, length, map}
 use Rattle.std.specs.Prelude.{if◌then◌else◌, slice_index_or, All}
 use Rattle.bit_addressing_memory.specs.Memory.{entry, memory, piece, touched}
-use Rattle.bit_addressing_memory.specs.Span.{Extent, extent}
+use Rattle.bit_addressing_span.specs.Span.{Extent, extent}
 use Rattle.bit_addressing.specs.declared.command.SpanCommand.{SpanCommand}
 use Rattle.bit_addressing.specs.declared.command.SpanReply.{SpanReply}
 use Rattle.bit_addressing.specs.declared.command.SpanReply.TheVariants.{Refused}
@@ -33,11 +33,13 @@ span_at spans s = slice_index_or spans s (extent 0 0 0)
 
 -- no place is one of two spans'
 unfoldable pub AreDisjoint : ℕ → List Extent → Type 0
-AreDisjoint b spans = (s t p : ℕ) → s < t → t < length spans → IsInside b (span_at spans s) p → IsOutside b (span_at spans t) p
+AreDisjoint b spans = (s t p : ℕ) → s < t → t < length spans → IsInside b (span_at spans s) p
+    → IsOutside b (span_at spans t) p
 
 -- the words of each span are among the first n
 abbrev pub AllFit : ℕ → List Extent → ℕ → Type 0
-AllFit b spans n = (s : ℕ) → s < length spans → (span_at spans s).word + touched b (span_at spans s).head (span_at spans s).len ≤ n
+AllFit b spans n = (s : ℕ) → s < length spans
+    → (span_at spans s).word + touched b (span_at spans s).head (span_at spans s).len ≤ n
 
 -- one command at one span: the reply and the span's bits afterwards are those of its own list, and each bit outside
 -- the span is as before

@@ -8,8 +8,9 @@ ghost use Rattle.bit_addressing_memory.specs.Pointer.{memory_place};
 ghost use Rattle.bit_addressing.specs.Runs.{CarriesOut};
 
 use crate::command::{SpanCommand, SpanReply};
-use bit_addressing_memory::{BitPtr, BitSpan};
+use bit_addressing_memory::BitPtr;
 use bit_addressing_order::{BitIdx, BitOrder, BitRegister};
+use bit_addressing_span::BitSpan;
 
 /// Carries one command out at one span of the memory. The span fits.
 pub(crate) fn carry_out<R: BitRegister, O: BitOrder<R>>(
@@ -42,7 +43,8 @@ fn load<R: BitRegister, O: BitOrder<R>>(
     k: usize,
 ) -> SpanReply<R>
     requires fits { span.word + touched R.BITS span.head span.len ≤ length memory.old }
-    ensures carried { CarriesOut R.BITS (indexed R.number O.position) memory.old memory.new span (SpanCommand.Load k) result }
+    ensures carried { CarriesOut R.BITS (indexed R.number O.position) memory.old memory.new span
+        (SpanCommand.Load k) result }
 {
     let words = span.domain_mut(memory);
     if k >= words.len() {
@@ -59,7 +61,8 @@ fn store<R: BitRegister, O: BitOrder<R>>(
     word: R,
 ) -> SpanReply<R>
     requires fits { span.word + touched R.BITS span.head span.len ≤ length memory.old }
-    ensures carried { CarriesOut R.BITS (indexed R.number O.position) memory.old memory.new span (SpanCommand.Store k word) result }
+    ensures carried { CarriesOut R.BITS (indexed R.number O.position) memory.old memory.new span
+        (SpanCommand.Store k word) result }
 {
     let mut words = span.domain_mut(memory);
     if k >= words.len() {
@@ -75,7 +78,8 @@ fn set<R: BitRegister, O: BitOrder<R>>(
     k: usize,
 ) -> SpanReply<R>
     requires fits { span.word + touched R.BITS span.head span.len ≤ length memory.old }
-    ensures carried { CarriesOut R.BITS (indexed R.number O.position) memory.old memory.new span (SpanCommand.Set k) result }
+    ensures carried { CarriesOut R.BITS (indexed R.number O.position) memory.old memory.new span
+        (SpanCommand.Set k) result }
 {
     let mut words = span.domain_mut(memory);
     if k >= words.len() {
@@ -91,7 +95,8 @@ fn clear<R: BitRegister, O: BitOrder<R>>(
     k: usize,
 ) -> SpanReply<R>
     requires fits { span.word + touched R.BITS span.head span.len ≤ length memory.old }
-    ensures carried { CarriesOut R.BITS (indexed R.number O.position) memory.old memory.new span (SpanCommand.Clear k) result }
+    ensures carried { CarriesOut R.BITS (indexed R.number O.position) memory.old memory.new span
+        (SpanCommand.Clear k) result }
 {
     let mut words = span.domain_mut(memory);
     if k >= words.len() {
@@ -107,7 +112,8 @@ fn invert<R: BitRegister, O: BitOrder<R>>(
     k: usize,
 ) -> SpanReply<R>
     requires fits { span.word + touched R.BITS span.head span.len ≤ length memory.old }
-    ensures carried { CarriesOut R.BITS (indexed R.number O.position) memory.old memory.new span (SpanCommand.Invert k) result }
+    ensures carried { CarriesOut R.BITS (indexed R.number O.position) memory.old memory.new span
+        (SpanCommand.Invert k) result }
 {
     let mut words = span.domain_mut(memory);
     if k >= words.len() {
@@ -121,7 +127,8 @@ fn invert<R: BitRegister, O: BitOrder<R>>(
 // Reads a bit.
 fn read<R: BitRegister, O: BitOrder<R>>(memory: &[R], span: BitSpan<R, O>, i: usize) -> SpanReply<R>
     requires fits { span.word + touched R.BITS span.head span.len ≤ length memory.now }
-    ensures carried { CarriesOut R.BITS (indexed R.number O.position) memory.now memory.now span (SpanCommand.Read i) result }
+    ensures carried { CarriesOut R.BITS (indexed R.number O.position) memory.now memory.now span
+        (SpanCommand.Read i) result }
 {
     let (word, head, len) = span.raw_parts();
     if i >= len {
@@ -138,7 +145,8 @@ fn replace<R: BitRegister, O: BitOrder<R>>(
     bit: bool,
 ) -> SpanReply<R>
     requires fits { span.word + touched R.BITS span.head span.len ≤ length memory.old }
-    ensures carried { CarriesOut R.BITS (indexed R.number O.position) memory.old memory.new span (SpanCommand.Replace i bit) result }
+    ensures carried { CarriesOut R.BITS (indexed R.number O.position) memory.old memory.new span
+        (SpanCommand.Replace i bit) result }
 {
     let (word, head, len) = span.raw_parts();
     if i >= len {
@@ -155,7 +163,8 @@ fn swap<R: BitRegister, O: BitOrder<R>>(
     j: usize,
 ) -> SpanReply<R>
     requires fits { span.word + touched R.BITS span.head span.len ≤ length memory.old }
-    ensures carried { CarriesOut R.BITS (indexed R.number O.position) memory.old memory.new span (SpanCommand.Swap i j) result }
+    ensures carried { CarriesOut R.BITS (indexed R.number O.position) memory.old memory.new span
+        (SpanCommand.Swap i j) result }
 {
     let (word, head, len) = span.raw_parts();
     if i >= len || j >= len {
@@ -175,7 +184,8 @@ fn copy<R: BitRegister, O: BitOrder<R>>(
     count: usize,
 ) -> SpanReply<R>
     requires fits { span.word + touched R.BITS span.head span.len ≤ length memory.old }
-    ensures carried { CarriesOut R.BITS (indexed R.number O.position) memory.old memory.new span (SpanCommand.Copy from to count) result }
+    ensures carried { CarriesOut R.BITS (indexed R.number O.position) memory.old memory.new span
+        (SpanCommand.Copy from to count) result }
 {
     let (word, head, len) = span.raw_parts();
     if count > len || from > len - count || to > len - count {

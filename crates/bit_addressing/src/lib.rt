@@ -1,4 +1,4 @@
-//! Words as one list of bits, whole: the items of the two crates below, a sweep over words that counts
+//! Words as one list of bits, whole: the items of the crates below, a sweep over words that counts
 //! itself, moves of bits by it, and a runner of commands over spans of one memory.
 #![tactic(auto)]
 
@@ -9,16 +9,19 @@ mod runner;
 mod sweep;
 
 pub use bit_addressing_memory::{
-    BitPtr, BitPtrRange, BitSpan, BitSpanError, Dangling, Domain, DomainMut, DomainWords,
-    EmptyRange, MAX_BITS, PartialElement, PartialElementMut, copy_between, copy_within, read_bit,
-    read_entry, replace_entry, swap_between, swap_entries, swap_within, write_bit, write_entry,
+    BitPtr, BitPtrRange, Dangling, EmptyRange, copy_between, copy_within, read_bit, read_entry,
+    replace_entry, swap_between, swap_entries, swap_within, write_bit, write_entry,
 };
 pub use bit_addressing_order::{
     AllOrNone, BitEnd, BitIdx, BitIdxError, BitMask, BitOrder, BitPos, BitRegister, BitSel,
-    EndRange, IndexRange, Limits, LocalBits, Lsb0, Msb0, OrderCandidate, OrderFault, Positions,
-    SelectorRange, WordFault, disjoint_masks, mask_from_at, mem, select_from_at, verify,
-    verify_for_type,
+    EndRange, IndexRange, Limits, LocalBits, Lsb0, Msb0, OrderCandidate, Positions, SelectorRange,
+    disjoint_masks, mask_from_at, mem, select_from_at,
 };
+pub use bit_addressing_span::{
+    BitSpan, BitSpanError, Domain, DomainMut, DomainWords, MAX_BITS, PartialElement,
+    PartialElementMut,
+};
+pub use bit_addressing_verify::{OrderFault, WordFault, verify, verify_for_type};
 pub use command::{SpanCommand, SpanReply};
 pub use moves::move_in;
 pub use runner::{all_fit, disjoint, order_of_spans_is_free, run};

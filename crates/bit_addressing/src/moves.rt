@@ -30,7 +30,8 @@ pub fn move_in<R: BitRegister, O: BitOrder<R>>(
     requires target_within { target + len ≤ length (words_of sweep.old) * R.BITS }
     requires source_ends { source + len < 2 ^ 64 }
     requires target_ends { target + len < 2 ^ 64 }
-    ensures moved { Moves R.BITS (indexed R.number O.position) (words_of sweep.old) (words_of sweep.new) source target len }
+    ensures moved { Moves R.BITS (indexed R.number O.position) (words_of sweep.old) (words_of sweep.new)
+        source target len }
 
     // Its writes: at most the words that the target touches, at least the words that became other ones.
     ensures writes { writes_of sweep.new ≤ touched R.BITS target len }
@@ -76,7 +77,8 @@ fn gathered<R: BitRegister, O: BitOrder<R>>(
     requires target_ends { target + len < 2 ^ 64 }
     requires begins { k * R.BITS < target + len }
     requires ends { target < k * R.BITS + R.BITS }
-    ensures digits { IsGathered R.BITS (indexed R.number O.position) (words_of sweep.old) k source target len result R.BITS }
+    ensures digits { IsGathered R.BITS (indexed R.number O.position) (words_of sweep.old)
+        k source target len result R.BITS }
     ensures same { SameButReads sweep.old sweep.new }
     ensures lender { lender sweep.new ≡ lender sweep.old }
 {

@@ -2,12 +2,13 @@
 
 ghost use Rattle.std.specs.Prelude.{◌≡◌, ℕ, ◌+◌, ◌<◌, ◌≤◌, ◌↔◌, IsTrue, length};
 ghost use Rattle.bit_addressing_memory.specs.Memory.{indexed};
-ghost use Rattle.bit_addressing.specs.Runs.{AllFit, AreDisjoint, CarriesOut, IsInside, IsOutside, OrderOfSpansIsFree, Runs, span_at, span_place};
+ghost use Rattle.bit_addressing.specs.Runs.{AllFit, AreDisjoint, IsInside, IsOutside, span_at, span_place};
+ghost use Rattle.bit_addressing.specs.Runs.{CarriesOut, OrderOfSpansIsFree, Runs};
 
 use crate::carry::carry_out;
 use crate::command::{SpanCommand, SpanReply};
-use bit_addressing_memory::BitSpan;
 use bit_addressing_order::{BitOrder, BitRegister};
+use bit_addressing_span::BitSpan;
 
 /// Whether no bit is one of two spans'. Spans may share a word, and a span without bits shares none.
 pub fn disjoint<R: BitRegister, O: BitOrder<R>>(spans: &[BitSpan<R, O>]) -> bool
@@ -71,7 +72,8 @@ fn carry_out_at<R: BitRegister, O: BitOrder<R>>(
 ) -> SpanReply<R>
     requires fit { AllFit R.BITS spans.now (length memory.old) }
     ensures carried { number < length spans.now
-        → CarriesOut R.BITS (indexed R.number O.position) memory.old memory.new (span_at spans.now number) command result }
+        → CarriesOut R.BITS (indexed R.number O.position) memory.old memory.new
+        (span_at spans.now number) command result }
     ensures refused { length spans.now ≤ number → result ≡ SpanReply.Refused }
     ensures same { length spans.now ≤ number → memory.new ≡ memory.old }
 {

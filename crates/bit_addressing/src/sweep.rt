@@ -40,7 +40,8 @@ pub struct Sweep<'a, R> {
 }
 
 impl<'a, R: Copy> Sweep<'a, R> {
-    ghost use Rattle.bit_addressing.specs.Sweep.{IsFresh, SameButReads, counted_up, edge_of, lender, reads_of, way_of, words_of, writes_of};
+    ghost use Rattle.bit_addressing.specs.Sweep.{IsFresh, SameButReads, counted_up, lender};
+    ghost use Rattle.bit_addressing.specs.Sweep.{edge_of, reads_of, way_of, words_of, writes_of};
 
     /// A fresh sweep over these words: nothing is read or written yet.
     pub fn new(words: &'a mut [R], way: Way) -> Sweep<'a, R>

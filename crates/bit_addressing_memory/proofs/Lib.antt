@@ -3,9 +3,3 @@ pub mod EntryLemmas
 pub mod MemoryLemmas
 pub mod PlaceLemmas
 pub mod PointerLemmas
-pub mod CutLemmas
-pub mod PartialLemmas
-pub mod SpanLemmas
-pub mod StoredLemmas
-pub mod TextLemmas
-pub mod PartsLemmas

@@ -2,13 +2,3 @@ pub mod Memory
 pub mod Place
 pub mod Pointer
 pub mod PointerRange
-pub mod Domain
-pub mod Form
-pub mod Partial
-pub mod Shown
-pub mod Span
-pub mod Texts
-pub mod Words
-pub mod Written
-pub mod Lent
-pub mod Parts

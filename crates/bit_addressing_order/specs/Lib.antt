@@ -6,7 +6,3 @@ pub mod Masks
 pub mod OrderLaws
 pub mod Ranges
 pub mod Text
-pub mod Verify
-pub mod VerifyLemmas
-pub mod VerifySteps
-pub mod Words

@@ -169,7 +169,8 @@ odd_factor (suc k) step d q odd e =
     (found.0, even_factor step d (q * 2 ^ k) odd twice ∙ whole ∙ sym (next_power found.0 k))
 
 -- and so does the number of bits of a word
-odd_factor_of_word : (bits step d q : ℕ) → IsRegisterSize bits → step % 2 ≡ 1 → step * d ≡ q * bits → (e : ℕ) × (d ≡ e * bits)
+odd_factor_of_word : (bits step d q : ℕ) → IsRegisterSize bits → step % 2 ≡ 1 → step * d ≡ q * bits
+    → (e : ℕ) × (d ≡ e * bits)
 odd_factor_of_word bits step d q size odd e =
     let found = odd_factor size.0 step d q odd (e ∙ ap (λ n. q * n) size.3) in
     (found.0, found.1 ∙ ap (λ n. found.0 * n) (sym size.3))
@@ -201,7 +202,8 @@ steps_ordered bits step start i j size odd below within same =
 
 -- an order that goes by an odd step, from any start and round the word, is lawful
 pub lawful_by_steps : (bits step start : ℕ) → IsRegisterSize bits → step % 2 ≡ 1
-    → IsLawful bits (λ i. (step * i + start) % bits) (selectors_from (λ i. (step * i + start) % bits)) (masks_from bits (λ i. (step * i + start) % bits))
+    → IsLawful bits (λ i. (step * i + start) % bits) (selectors_from (λ i. (step * i + start) % bits))
+    (masks_from bits (λ i. (step * i + start) % bits))
 lawful_by_steps bits step start size odd = lawful_from_at bits (λ i. (step * i + start) % bits)
     (λ i within. omega arith)
     (λ i j hi hj same. elim (cases_order i j) [

@@ -1,10 +1,8 @@
 //! Checked places inside a word, and bit orders with laws that each order proves. It shows the registers too.
 #![tactic(auto)]
 
-mod check;
 mod compare;
 mod end;
-mod fault;
 mod index;
 mod limits;
 mod mask;
@@ -13,12 +11,9 @@ mod position;
 mod ranges;
 mod selector;
 mod text;
-mod words;
 
 pub use bit_addressing_register::{BitRegister, mem};
-pub use check::verify_for_type;
 pub use end::BitEnd;
-pub use fault::{OrderFault, WordFault};
 pub use index::{BitIdx, BitIdxError};
 pub use limits::{AllOrNone, Limits};
 pub use mask::BitMask;
@@ -29,4 +24,3 @@ pub use order::{
 pub use position::BitPos;
 pub use ranges::{EndRange, IndexRange, SelectorRange};
 pub use selector::BitSel;
-pub use words::verify;

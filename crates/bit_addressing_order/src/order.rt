@@ -1,7 +1,8 @@
 //! The orders in which the bits of a word are counted.
 
 ghost use Rattle.std.specs.Prelude.{◌≡◌, ℕ, Option, ◌+◌, ◌-◌, ◌^◌, ◌<◌, ◌≤◌, bit_and};
-ghost use Rattle.bit_addressing_order.specs.Law.{lower, upper, mask_from, selectors_from, masks_from, IsLawful, IsSelector, IsIndexBound};
+ghost use Rattle.bit_addressing_order.specs.Law.{lower, upper, mask_from, selectors_from, masks_from};
+ghost use Rattle.bit_addressing_order.specs.Law.{IsLawful, IsSelector, IsIndexBound};
 
 use crate::end::BitEnd;
 use crate::index::BitIdx;
@@ -198,7 +199,7 @@ pub fn mask_from_at<R: BitRegister, P: Positions<R>>(from: Option<u8>, upto: Opt
 
 // The word whose ones are the positions of these indices.
 #[tactic(auto, using(crate::specs::OrderLaws::mask_from_none, crate::specs::OrderLaws::mask_from_more))]
-pub(crate) fn mask_of_indices<R: BitRegister, P: Positions<R>>(first: u8, end: u8) -> R
+fn mask_of_indices<R: BitRegister, P: Positions<R>>(first: u8, end: u8) -> R
     requires order { first ≤ end }
     requires within { end ≤ R.BITS }
     ensures { R.number result ≡ mask_from P.position first (end - first) }

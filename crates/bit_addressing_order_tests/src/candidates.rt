@@ -73,7 +73,8 @@ impl<R: BitRegister> Positions<R> for EmptyMask {
 impl<R: BitRegister> OrderCandidate<R> for EmptyMask {
     ghost selector = { selectors_from (λ i. i) };
 
-    ghost masked = { λ from upto. if lower from == 2 && upper R.BITS upto == 5 then 0 else masks_from R.BITS (λ i. i) from upto };
+    ghost masked = { λ from upto. if lower from == 2 && upper R.BITS upto == 5 then 0
+        else masks_from R.BITS (λ i. i) from upto };
 
     fn selector_of(index: u8) -> R {
         select_from_at::<R, EmptyMask>(index)

@@ -1,6 +1,7 @@
 //! The unsigned integers whose bits are addressed.
 
-ghost use Rattle.std.specs.Prelude.{◌≡◌, ℕ, List, ◌-◌, ◌*◌, ◌/◌, ◌%◌, ◌^◌, ◌<◌, ◌≤◌, ◌↔◌, bit_and, bit_or, bit_xor, IsTrue};
+ghost use Rattle.std.specs.Prelude.{◌≡◌, ℕ, List, ◌-◌, ◌*◌, ◌/◌, ◌%◌, ◌^◌, ◌<◌, ◌≤◌, ◌↔◌};
+ghost use Rattle.std.specs.Prelude.{bit_and, bit_or, bit_xor, IsTrue};
 ghost use Rattle.std.specs.Ordering.{nat_cmp};
 ghost use Rattle.bit_addressing_register.specs.Registers.{IsRegisterSize};
 

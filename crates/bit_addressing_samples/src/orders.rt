@@ -68,5 +68,6 @@ impl<R: BitRegister> OrderCandidate<R> for Flipped {
 impl<R: BitRegister> BitOrder<R> for Flipped {
     ghost use Rattle.bit_addressing_order.specs.OrderLaws.{lawful_from_at, flip_within, flip_apart};
 
-    ghost lawful = { lawful_from_at R.BITS (λ i. bit_xor i 4) (λ i small. flip_within R.BITS i R.size small) (λ i j _ _ same. flip_apart i j same) };
+    ghost lawful = { lawful_from_at R.BITS (λ i. bit_xor i 4) (λ i small. flip_within R.BITS i R.size small)
+        (λ i j _ _ same. flip_apart i j same) };
 }

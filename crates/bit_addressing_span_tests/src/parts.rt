@@ -2,15 +2,15 @@
 
 ghost use Rattle.std.specs.Prelude.{◌≡◌, ℕ, ◌+◌, ◌<◌, ◌≤◌, length};
 ghost use Rattle.bit_addressing_memory.specs.Memory.{entry, indexed, touched};
-ghost use Rattle.bit_addressing_memory.specs.Partial.{IsMasked};
-ghost use Rattle.bit_addressing_memory.specs.Parts.{part_from, part_place, part_count};
-ghost use Rattle.bit_addressing_memory.specs.Written.{written_word, written_head, written_tail};
+ghost use Rattle.bit_addressing_span.specs.Partial.{IsMasked};
+ghost use Rattle.bit_addressing_span.specs.Parts.{part_from, part_place, part_count};
+ghost use Rattle.bit_addressing_span.specs.Written.{written_word, written_head, written_tail};
 
 use bit_addressing::{BitEnd, BitIdx, BitOrder, BitRegister, BitSpan, Lsb0, PartialElementMut};
 use std::test::Fail;
 
 // What is loaded after a store is the value, masked.
-#[tactic(auto, using(bit_addressing_memory::proofs::StoredLemmas::stored_then_masked))]
+#[tactic(auto, using(bit_addressing_span::proofs::StoredLemmas::stored_then_masked))]
 fn store_and_load<'a, R: BitRegister, O: BitOrder<R>>(
     part: &mut PartialElementMut<'a, R, O>,
     value: R,
@@ -23,7 +23,7 @@ fn store_and_load<'a, R: BitRegister, O: BitOrder<R>>(
 }
 
 // What a store answered restores the word, stored again.
-#[tactic(auto, using(bit_addressing_memory::proofs::StoredLemmas::stored_back))]
+#[tactic(auto, using(bit_addressing_span::proofs::StoredLemmas::stored_back))]
 fn store_and_restore<'a, R: BitRegister, O: BitOrder<R>>(
     part: &mut PartialElementMut<'a, R, O>,
     value: R,

@@ -91,9 +91,11 @@ pub fn set_and_read<R: BitRegister, O: BitOrder<R>>(
     requires bits { (0 < (span_at spans.now 0).len) × (0 < (span_at spans.now 1).len) }
     requires commands { commands.now ≡ (0, SpanCommand.Replace 0 true) ∷ (1, SpanCommand.Read 0) ∷ [] }
     requires places { length replies.old ≡ 2 }
-    ensures set { entry R.BITS (indexed R.number O.position) memory.new (span_place R.BITS (span_at spans.now 0)) ≡ true }
+    ensures set { entry R.BITS (indexed R.number O.position) memory.new
+        (span_place R.BITS (span_at spans.now 0)) ≡ true }
     ensures read { slice_index_or replies.new 1 SpanReply.Refused
-        ≡ SpanReply.Bit (entry R.BITS (indexed R.number O.position) memory.old (span_place R.BITS (span_at spans.now 1))) }
+        ≡ SpanReply.Bit (entry R.BITS (indexed R.number O.position) memory.old
+        (span_place R.BITS (span_at spans.now 1))) }
 {
     run(memory, spans, commands, replies);
 }

@@ -1,7 +1,7 @@
 //! Runs over spans: the rows, a device's registers, both orders of two spans' commands, and disjoint spans.
 
 ghost use Rattle.std.specs.Prelude.{◌≡◌, IfOk};
-ghost use Rattle.bit_addressing_memory.specs.Span.{extent};
+ghost use Rattle.bit_addressing_span.specs.Span.{extent};
 
 use crate::callers::set_and_read;
 use bit_addressing::{

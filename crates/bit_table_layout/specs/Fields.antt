@@ -17,7 +17,8 @@ is_name_byte b = is_ascii_lowercase b || (is_ascii_digit b || b == 95)
 
 -- whether a word is a name: 1 to 16 bytes, a letter `a` to `z` followed by `a` to `z`, `0` to `9` or `_`
 abbrev pub is_name : List ℕ → Bool
-is_name word = nat_le 1 (length word) && (nat_le (length word) 16 && (is_ascii_lowercase (slice_index word 0) && list_all is_name_byte word))
+is_name word = nat_le 1 (length word) && (nat_le (length word) 16
+    && (is_ascii_lowercase (slice_index word 0) && list_all is_name_byte word))
 
 -- whether digits spell a width: 1 to 64 in decimal without a leading zero
 abbrev pub is_width : List ℕ → Bool

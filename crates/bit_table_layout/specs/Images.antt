@@ -40,10 +40,12 @@ line_of_rows l rows = image_line (length rows) (image_bytes l rows)
 -- a list of so many rows of the layout with these image bytes has these numbers, and there is no other
 abbrev pub HasOnlyNumbers : LayoutShape → ℕ → List ℕ → List Row → Type 0
 HasOnlyNumbers l count bytes rows =
-    (others : List Row) → are_rows l others ≡ true → length others ≡ count → image_bytes l others ≡ bytes → all_numbers others ≡ all_numbers rows
+    (others : List Row) → are_rows l others ≡ true → length others ≡ count → image_bytes l others ≡ bytes
+    → all_numbers others ≡ all_numbers rows
 
 -- images of one layout are equal exactly if the rows' numbers are
 abbrev pub ImagesTellNumbers : Type 0
 ImagesTellNumbers =
-    (l : LayoutShape) → is_layout l ≡ true → (rows others : List Row) → are_rows l rows ≡ true → are_rows l others ≡ true
+    (l : LayoutShape) → is_layout l ≡ true → (rows others : List Row)
+    → are_rows l rows ≡ true → are_rows l others ≡ true
     → (line_of_rows l rows ≡ line_of_rows l others) ↔ (all_numbers rows ≡ all_numbers others)

@@ -32,7 +32,8 @@ is_field f = is_name f.name && (nat_le 1 f.width && nat_le f.width 64)
 
 -- whether fields make a layout: each is one, their names differ, and a row has 1 to 256 bits
 abbrev pub make_layout : List FieldShape → Bool
-make_layout fields = list_all is_field fields && (names_differ fields && (nat_le 1 (row_width fields) && nat_le (row_width fields) 256))
+make_layout fields = list_all is_field fields && (names_differ fields
+    && (nat_le 1 (row_width fields) && nat_le (row_width fields) 256))
 
 -- a layout is one by its fields
 abbrev pub is_layout : LayoutShape → Bool

@@ -30,4 +30,5 @@ numbers_from rule (f ∷ fs) bits = number_from rule f (take f.width bits) ∷ n
 abbrev pub rows_from : LayoutShape → ℕ → List Bool → List Row
 rows_from l zero bits = []
 rows_from l (suc count) bits =
-    new_row (numbers_from l.rule l.fields (take (row_width l.fields) bits)) ∷ rows_from l count (drop (row_width l.fields) bits)
+    new_row (numbers_from l.rule l.fields (take (row_width l.fields) bits))
+    ∷ rows_from l count (drop (row_width l.fields) bits)

@@ -96,9 +96,9 @@ impl Command {
     /// Reads the command that a line spells over a layout: `insert p v..` or `image`.
     ///
     /// Words are separated by spaces, tabs and carriage returns; every other byte, the line end too, belongs to a word.
-    /// A row number is one or more digits, a value the same with one `-` in front if wanted, both taken by value however
-    /// long they are. Refused as `Form` exactly where the line spells no command, which is decided before memory is
-    /// taken.
+    /// A row number is one or more digits, a value the same with one `-` in front if wanted, both taken by value
+    /// however long they are. Refused as `Form` exactly where the line spells no command, which is decided before
+    /// memory is taken.
     pub fn parse(alloc: Global, layout: &Layout, line: &[u8]) -> Result<Command, Fault>
         ensures ok { IfOk result (λ command. option_map cut_off (command_of layout.now line.now) ≡ Some command) }
         ensures refused { IsErrOf result (Fault.Refused Cause.Form) ↔ (command_of layout.now line.now ≡ None) }
@@ -120,7 +120,8 @@ impl Command {
 
 /// Reads an insertion behind its first word: a row number and one value for each of so many fields.
 fn read_insert(alloc: Global, fields: usize, mut words: Words) -> Result<Command, Fault>
-    ensures ok { IfOk result (λ command. option_map cut_off (insert_with fields (words_left words.entry)) ≡ Some command) }
+    ensures ok { IfOk result (λ command.
+        option_map cut_off (insert_with fields (words_left words.entry)) ≡ Some command) }
     ensures refused { IsErrOf result (Fault.Refused Cause.Form) ↔ (insert_with fields (words_left words.entry) ≡ None) }
     ensures err { IfErr result (λ e. (e ≡ Fault.Refused Cause.Form) ⊎ (e ≡ Fault.Memory)) }
 {

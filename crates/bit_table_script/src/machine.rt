@@ -1,5 +1,6 @@
 //! A run of lines through a machine that answers them.
-ghost use Rattle.std.specs.Prelude.{◌≡◌, ℕ, ◌-◌, ◌^◌, ◌<◌, ◌↔◌, List, [], ◌∷◌, ◌++◌, Option, false, IfOk, OnOk, IfSome, IsErrOf, IsTrue, length};
+ghost use Rattle.std.specs.Prelude.{◌≡◌, ℕ, ◌-◌, ◌^◌, ◌<◌, ◌↔◌, List, [], ◌∷◌, ◌++◌, Option, false};
+ghost use Rattle.std.specs.Prelude.{IfOk, OnOk, IfSome, IsErrOf, IsTrue, length};
 ghost use Rattle.std.specs.Io.KnownBytes.{Appends, IsAtEnd, Keeps};
 ghost use Rattle.bit_table_script.specs.Ends.{input_reader, input_failed, output_writer, output_failed};
 ghost use Rattle.bit_table_script.specs.Lines.{IsBeginning, lines, whole_lines};
@@ -22,13 +23,15 @@ pub trait LineMachine {
 
     /// Carries a line out and gives its answer, which is empty where the line asks for nothing.
     fn answer(&mut self, line: &[u8]) -> Result<Vec<u8>, AllocError>
-        ensures { IfOk result (λ text. (rest : List (List ℕ)) → answers self.old (line.now ∷ rest) ≡ text.items ++ answers self.new rest) };
+        ensures { IfOk result (λ text. (rest : List (List ℕ)) →
+            answers self.old (line.now ∷ rest) ≡ text.items ++ answers self.new rest) };
 
     /// No line has no answer.
     ghost none: { (m : Self) → answers m [] ≡ [] };
 
     /// Lines that follow change no answer that was given before.
-    ghost goes_on: { (m : Self) (front back : List (List ℕ)) → IsBeginning (answers m front) (answers m (front ++ back)) };
+    ghost goes_on: { (m : Self) (front back : List (List ℕ)) →
+        IsBeginning (answers m front) (answers m (front ++ back)) };
 }
 
 /// Carries a line out and writes its answer.
@@ -38,14 +41,16 @@ fn carry_out<M: LineMachine, W: Write>(
     output: &mut Output<W>,
 ) -> Result<(), RunError>
     requires { output_failed output.old ≡ false }
-    ensures answered { OnOk result (Appends (W.contents (output_writer output.old)) (W.contents (output_writer output.new))
-        (M.answers machine.old (line.now ∷ []))) }
+    ensures answered { OnOk result (Appends (W.contents (output_writer output.old))
+        (W.contents (output_writer output.new)) (M.answers machine.old (line.now ∷ []))) }
     ensures next { OnOk result ((rest : List (List ℕ)) → M.answers machine.old (line.now ∷ rest)
         ≡ M.answers machine.old (line.now ∷ []) ++ M.answers machine.new rest) }
     ensures read { IsErrOf result RunError.Read → ⊥ }
     ensures write { IsErrOf result RunError.Write →
-        AppendsPart (W.contents (output_writer output.old)) (W.contents (output_writer output.new)) (M.answers machine.old (line.now ∷ [])) }
-    ensures memory { IsErrOf result RunError.Memory → Keeps (W.contents (output_writer output.old)) (W.contents (output_writer output.new)) }
+        AppendsPart (W.contents (output_writer output.old)) (W.contents (output_writer output.new))
+        (M.answers machine.old (line.now ∷ [])) }
+    ensures memory { IsErrOf result RunError.Memory →
+        Keeps (W.contents (output_writer output.old)) (W.contents (output_writer output.new)) }
     ensures failed { IsErrOf result RunError.Write ↔ IsTrue (output_failed output.new) }
 {
     let text = machine.answer(line).map_err(|_| RunError::Memory)?;
@@ -62,13 +67,16 @@ fn feed<M: LineMachine, W: Write>(
     requires { output_failed output.old ≡ false }
     ensures going { OnOk result ((answers : List (List ℕ) → List ℕ) (start : Option (List ℕ)) (text : List ℕ) →
         Going answers (M.answers machine.old) start (W.contents (output_writer output.old)) text line.old.items →
-        Going answers (M.answers machine.new) start (W.contents (output_writer output.new)) (text ++ piece.now) line.new.items) }
+        Going answers (M.answers machine.new) start (W.contents (output_writer output.new))
+        (text ++ piece.now) line.new.items) }
     ensures read { IsErrOf result RunError.Read → ⊥ }
-    ensures write { IsErrOf result RunError.Write → (answers : List (List ℕ) → List ℕ) (start : Option (List ℕ)) (text : List ℕ) →
+    ensures write { IsErrOf result RunError.Write →
+        (answers : List (List ℕ) → List ℕ) (start : Option (List ℕ)) (text : List ℕ) →
         Going answers (M.answers machine.old) start (W.contents (output_writer output.old)) text line.old.items →
         ((front back : List (List ℕ)) → IsBeginning (answers front) (answers (front ++ back))) →
         AppendsPart start (W.contents (output_writer output.new)) (answers (whole_lines (text ++ piece.now))) }
-    ensures memory { IsErrOf result RunError.Memory → (answers : List (List ℕ) → List ℕ) (start : Option (List ℕ)) (text : List ℕ) →
+    ensures memory { IsErrOf result RunError.Memory →
+        (answers : List (List ℕ) → List ℕ) (start : Option (List ℕ)) (text : List ℕ) →
         Going answers (M.answers machine.old) start (W.contents (output_writer output.old)) text line.old.items →
         AppendsFirstLines answers start (W.contents (output_writer output.new)) (text ++ piece.now) }
     ensures failed { IsErrOf result RunError.Write ↔ IsTrue (output_failed output.new) }
@@ -99,7 +107,8 @@ pub fn drive<M: LineMachine, R: Read, W: Write>(
 
     // The answers to all lines that the reader gives, however it cuts them, went out.
     ensures done { OnOk result (IfSome (R.remaining (input_reader input.old)) (λ text.
-        Appends (W.contents (output_writer output.old)) (W.contents (output_writer output.new)) (M.answers machine.old (lines text)))) }
+        Appends (W.contents (output_writer output.old)) (W.contents (output_writer output.new))
+        (M.answers machine.old (lines text)))) }
     ensures ended { OnOk result (IsAtEnd (R.remaining (input_reader input.new))) }
 
     // What went out before a fault.

@@ -49,7 +49,8 @@ impl<R: Read> Input<R> {
     /// Reads once into `piece`, and answers how many bytes came: none at the end.
     pub(crate) fn read(&mut self, piece: &mut [u8]) -> Result<usize, RunError>
         ensures bound { ReadsAtMost result piece.new }
-        ensures bytes { ReadConsumes (R.remaining (input_reader self.old)) (R.remaining (input_reader self.new)) result piece.new }
+        ensures bytes { ReadConsumes (R.remaining (input_reader self.old)) (R.remaining (input_reader self.new))
+            result piece.new }
         ensures ok { OnOk result (input_failed self.new ≡ input_failed self.old) }
         ensures err { OnErr result (input_failed self.new ≡ true) }
         ensures fault { IfErr result (λ e. e ≡ RunError.Read) }
@@ -105,9 +106,11 @@ impl<W: Write> Output<W> {
 
     /// Writes all the bytes, in as many calls as the writer wants.
     pub(crate) fn put(&mut self, bytes: &[u8]) -> Result<(), RunError>
-        ensures all { OnOk result (Appends (W.contents (output_writer self.old)) (W.contents (output_writer self.new)) bytes.now) }
+        ensures all { OnOk result (Appends (W.contents (output_writer self.old))
+            (W.contents (output_writer self.new)) bytes.now) }
         ensures ok { OnOk result (output_failed self.new ≡ output_failed self.old) }
-        ensures part { OnErr result (AppendsPart (W.contents (output_writer self.old)) (W.contents (output_writer self.new)) bytes.now) }
+        ensures part { OnErr result (AppendsPart (W.contents (output_writer self.old))
+            (W.contents (output_writer self.new)) bytes.now) }
         ensures err { OnErr result (output_failed self.new ≡ true) }
         ensures fault { IfErr result (λ e. e ≡ RunError.Write) }
     {

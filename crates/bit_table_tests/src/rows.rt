@@ -1,5 +1,5 @@
 //! Worked scripts and their answers.
-use crate::fakes::answer_to;
+use crate::memory::answer_to;
 use crate::plain::plain_answer;
 use std::alloc::{AllocError, Global};
 use std::test::Fail;

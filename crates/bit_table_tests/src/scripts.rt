@@ -1,7 +1,7 @@
 //! Scripts that are thrown together, answered by a run and by the plain program.
 ghost use Rattle.std.specs.Prelude.{◌<◌, ◌≤◌, length};
 
-use crate::fakes::answer_to;
+use crate::memory::answer_to;
 use crate::plain::plain_answer;
 use std::alloc::{AllocError, Global};
 use std::test::Fail;

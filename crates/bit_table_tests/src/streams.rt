@@ -1,8 +1,8 @@
 //! A script read and answered in pieces, and runs that a fault ends.
 ghost use Rattle.std.specs.Prelude.{◌≤◌};
 
-use crate::fakes::{Cut, Narrow, Stop};
 use bit_table::{Input, Output, RunError, run};
+use bit_table_samples::{Cut, Narrow, Stop};
 use std::test::Fail;
 
 /// Two rows and their image. The last line has no line end.

@@ -1,6 +1,6 @@
 use Rattle.std.proofs.Common.{arith, rules}
 use Rattle.std.proofs.lemmas.Bool.Decides.{nat_tests}
-use Rattle.bit_addressing_memory.specs.Lent.{lent_span, lent_words}
+use Rattle.bit_addressing_span.specs.Lent.{lent_span, lent_words}
 use Rattle.bit_addressing_memory.specs.Memory.{indexed}
 use Rattle.bit_addressing.proofs.CarryWords.{carried_invert}
 use Rattle.bit_addressing.proofs.SpanBits.{carried_as, refused}

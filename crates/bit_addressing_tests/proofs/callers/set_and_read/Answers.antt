@@ -2,7 +2,7 @@ use Rattle.std.proofs.Common.{◌≡◌, ℕ, ◌<◌, ◌+◌, Bool, true, fals
 use Rattle.std.proofs.lemmas.Bool.{lt-ltb}
 use Rattle.std.proofs.lemmas.List.{get_or-set_same}
 use Rattle.bit_addressing_memory.specs.Memory.{entry, indexed}
-use Rattle.bit_addressing_memory.specs.Span.{Extent}
+use Rattle.bit_addressing_span.specs.Span.{Extent}
 use Rattle.bit_addressing.specs.declared.command.SpanCommand.TheVariants.{Read, Replace}
 use Rattle.bit_addressing.specs.declared.command.SpanReply.{SpanReply}
 use Rattle.bit_addressing.specs.declared.command.SpanReply.TheVariants.{Word, Bit, Done, Refused}

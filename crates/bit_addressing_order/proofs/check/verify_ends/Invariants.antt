@@ -1,7 +1,0 @@
-use Rattle.bit_addressing_order.specs.Verify.{AreGoodEnds}
-use Rattle.bit_addressing_order.proofs.check.verify_ends.Given as goal
-
--- the masks up to the ends so far are good
-abbrev pub invariant-loop-end : goal.invariant-loop-end
-invariant-loop-end g l =
-    AreGoodEnds g.R.BitRegister.BITS g.C.Positions.position g.C.OrderCandidate.masked l.end

@@ -1,0 +1,117 @@
+-- The parts of a span, a word each: where they lie, and a word of a memory read and written in its part.
+--
+-- `part_start`, `part_order`: where a part lies. `reads_part`, `stores_part`: one word read, and written back.
+use Rattle.std.proofs.Common.{◌≡◌, ℕ, zero, suc, ◌+◌, ◌-◌, ◌*◌, ◌/◌, ◌%◌, ◌<◌, ◌≤◌, Bool, List, length, get_or}
+use Rattle.std.proofs.Common.{set, min, true, false, not, sym, ap, ◌∙◌, inl, inr, arith, length-set}
+use Rattle.std.proofs.Math.Nat.{mul-le-mul_right}
+use Rattle.std.proofs.lemmas.Bool.{cases_eq}
+use Rattle.std.proofs.lemmas.Nat.{div-mul-add, mod-mul-add, div-add-mod', mod_below}
+use Rattle.bit_addressing_memory.specs.Memory.{entry, touched}
+use Rattle.bit_addressing_span.specs.Partial.{IsMasked, IsStored}
+use Rattle.bit_addressing_span.specs.Parts.{ReadsPart, StoresPart}
+use Rattle.bit_addressing_memory.proofs.EntryLemmas.{entry_read, entry-set_same, entry-set_other}
+
+-- a word of a span begins before the span's end
+pub part_start : (b head len k : ℕ) → k < touched b head len → 0 < b → k * b < head + len
+part_start b head zero k within some = absurd (omega arith)
+part_start b head (suc n) k within some =
+    let last : k ≤ (head + n) / b = omega arith in
+    let up : k * b ≤ (head + n) / b * b = mul-le-mul_right b last in
+    omega (arith, div-add-mod' (head + n) b)
+
+-- its part has bits, and lies in the word
+pub part_order : (b head len first : ℕ) → head < b → 0 < len → first < head + len
+    → (head - first < min (head + len - first) b) × (head - first < b)
+part_order b head len first low some before = (omega arith, omega arith)
+
+-- a span with a word has bits
+pub part_some : (b head len k : ℕ) → k < touched b head len → 0 < len
+part_some b head zero k within = absurd (omega arith)
+part_some b head (suc n) k within = omega arith
+
+-- the word j masked reads the memory there
+pub reads_part : {R : Type 0} (b : ℕ) (digit : R → ℕ → Bool) (words : List R) (j : ℕ) (x word : R) (from upto : ℕ)
+    → j < length words → x ≡ get_or words j x → IsMasked b digit x word from upto
+    → ReadsPart b digit words j word from upto
+reads_part b digit words j x word from upto within e is = record {
+  inside = λ i low high small. is.inside i low high small ∙ entry_read b digit words j i x small within e;
+  below = is.below;
+  above = is.above;
+}
+
+-- the word j with its part stored writes the memory there, and nowhere else
+pub stores_part : {R : Type 0} (b : ℕ) (digit : R → ℕ → Bool) (words : List R) (j : ℕ) (x w : R) (from upto : ℕ)
+    (now : ℕ → Bool) → j < length words → x ≡ get_or words j x → from ≤ upto → upto ≤ b → 0 < b
+    → IsStored b digit x w from upto now
+    → StoresPart b digit words (set words j w) (j * b + from) (upto - from) (λ k. now (from + k))
+stores_part b digit words j x w from upto now within e order short some is =
+    let same = λ (p : ℕ) (row : p / b ≡ j) (kept : digit w (p % b) ≡ digit x (p % b)).
+    let place : j * b + p % b ≡ p = ap (λ q. q * b + p % b) (sym row) ∙ div-add-mod' p b in
+    entry-set_same b digit words j w p row within
+    ∙ kept
+    ∙ entry_read b digit words j (p % b) x (mod_below p b some) within e
+    ∙ ap (entry b digit words) place in
+    record {
+      there = λ k small.
+          let i : ℕ = from + k in
+          let low : i < b = omega arith in
+          let place : j * b + i ≡ j * b + from + k = omega arith in
+          ap (entry b digit (set words j w)) (sym place)
+          ∙ entry-set_same b digit words j w (j * b + i) (div-mul-add j b i low) within
+          ∙ ap (digit w) (mod-mul-add j b i low)
+          ∙ is.inside i (omega arith) (omega arith) low;
+      below = λ p before. elim (cases_eq (p / b) j) [
+        | inl row ↦
+            let place : j * b + p % b ≡ p = ap (λ q. q * b + p % b) (sym row) ∙ div-add-mod' p b in
+            same p row (is.below (p % b) (omega arith) (mod_below p b some))
+        | inr other ↦ entry-set_other b digit words j w p other
+      ];
+      above = λ p after. elim (cases_eq (p / b) j) [
+        | inl row ↦
+            let place : j * b + p % b ≡ p = ap (λ q. q * b + p % b) (sym row) ∙ div-add-mod' p b in
+            same p row (is.above (p % b) (omega arith) (mod_below p b some))
+        | inr other ↦ entry-set_other b digit words j w p other
+      ];
+      words = length-set words j w;
+    }
+
+-- the same entries by another name
+pub stores_as : {R : Type 0} (b : ℕ) (digit : R → ℕ → Bool) (before after : List R) (place n : ℕ) (x y : ℕ → Bool)
+    → StoresPart b digit before after place n x → ((k : ℕ) → k < n → x k ≡ y k)
+    → StoresPart b digit before after place n y
+stores_as b digit before after place n x y is same = record {
+  there = λ k small. is.there k small ∙ same k small;
+  below = is.below;
+  above = is.above;
+  words = is.words;
+}
+
+-- a word without digits stored in a part
+pub stores_none : {R : Type 0} (b : ℕ) (digit : R → ℕ → Bool) (before after : List R) (place n from : ℕ) (value : R)
+    → StoresPart b digit before after place n (λ i. digit value (from + i)) → ((i : ℕ) → i < b → digit value i ≡ false)
+    → from + n ≤ b → StoresPart b digit before after place n (λ _. false)
+stores_none b digit before after place n from value is none within =
+    stores_as b digit before after place n (λ i. digit value (from + i)) (λ _. false) is
+    (λ i small. none (from + i) (omega arith))
+
+-- a word with each digit stored in a part
+pub stores_each : {R : Type 0} (b : ℕ) (digit : R → ℕ → Bool) (before after : List R) (place n from : ℕ) (value : R)
+    → StoresPart b digit before after place n (λ i. digit value (from + i)) → ((i : ℕ) → i < b → digit value i ≡ true)
+    → from + n ≤ b → StoresPart b digit before after place n (λ _. true)
+stores_each b digit before after place n from value is each within =
+    stores_as b digit before after place n (λ i. digit value (from + i)) (λ _. true) is
+    (λ i small. each (from + i) (omega arith))
+
+-- the word j flipped and stored in a part of itself
+pub stores_flipped : {R : Type 0} (b : ℕ) (digit : R → ℕ → Bool) (before after : List R) (place n from j : ℕ)
+    (x value : R) → StoresPart b digit before after place n (λ i. digit value (from + i))
+    → ((i : ℕ) → i < b → digit value i ≡ not (digit x i)) → x ≡ get_or before j x → j < length before
+    → from + n ≤ b → place ≡ j * b + from
+    → StoresPart b digit before after place n (λ i. not (entry b digit before (place + i)))
+stores_flipped b digit before after place n from j x value is turned e inside within at =
+    stores_as b digit before after place n (λ i. digit value (from + i)) (λ i. not (entry b digit before (place + i))) is
+    (λ i small.
+    let low : from + i < b = omega arith in
+    let here : j * b + (from + i) ≡ place + i = omega arith in
+    turned (from + i) low
+    ∙ ap not (entry_read b digit before j (from + i) x low inside e ∙ ap (entry b digit before) here))

@@ -1,0 +1,10 @@
+pub mod Domain
+pub mod Form
+pub mod Partial
+pub mod Shown
+pub mod Span
+pub mod Texts
+pub mod Words
+pub mod Written
+pub mod Lent
+pub mod Parts

@@ -1,0 +1,35 @@
+-- The parts of a span, a word each: where they are, and what reading and writing one is.
+--
+-- The part of word k: `part_from`, `part_upto`, `part_place`, `part_count`. A read: `ReadsPart`. A write: `StoresPart`.
+use Rattle.std.specs.Prelude.{ℕ, ◌+◌, ◌-◌, ◌*◌, ◌<◌, ◌≤◌, ◌≡◌, Bool, false, List, length, min}
+use Rattle.bit_addressing_memory.specs.Memory.{entry}
+use Rattle.bit_addressing_span.specs.Span.{Extent}
+
+-- the index at which a span's part of its word k begins: the head in the first word, 0 in each other
+abbrev pub part_from : ℕ → Extent → ℕ → ℕ
+part_from b span k = span.head - k * b
+
+-- the end of that part: the edge of the word, or the end of the span where that comes first
+abbrev pub part_upto : ℕ → Extent → ℕ → ℕ
+part_upto b span k = min (span.head + span.len - k * b) b
+
+-- the place of the part's first bit in the memory
+abbrev pub part_place : ℕ → Extent → ℕ → ℕ
+part_place b span k = (span.word + k) * b + part_from b span k
+
+-- how many bits it has
+abbrev pub part_count : ℕ → Extent → ℕ → ℕ
+part_count b span k = part_upto b span k - part_from b span k
+
+-- the word has the entries of the memory's word j at the indices from one up to before another, and false at each other
+pub record ReadsPart {R : Type 0} (b : ℕ) (digit : R → ℕ → Bool) (words : List R) (j : ℕ) (word : R) (from upto : ℕ) : Type 0 where
+  pub inside : (i : ℕ) → from ≤ i → i < upto → i < b → digit word i ≡ entry b digit words (j * b + i)
+  pub below : (i : ℕ) → i < from → i < b → digit word i ≡ false
+  pub above : (i : ℕ) → upto ≤ i → i < b → digit word i ≡ false
+
+-- each entry of a memory is as before, but for the n entries from a place on, which are these; and as many words
+pub record StoresPart {R : Type 0} (b : ℕ) (digit : R → ℕ → Bool) (before after : List R) (place n : ℕ) (now : ℕ → Bool) : Type 0 where
+  pub there : (k : ℕ) → k < n → entry b digit after (place + k) ≡ now k
+  pub below : (p : ℕ) → p < place → entry b digit after p ≡ entry b digit before p
+  pub above : (p : ℕ) → place + n ≤ p → entry b digit after p ≡ entry b digit before p
+  pub words : length after ≡ length before

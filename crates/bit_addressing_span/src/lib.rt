@@ -1,0 +1,21 @@
+//! Spans of a memory's bits, their words as domains, and the parts of one word.
+#![tactic(auto)]
+
+mod cut;
+mod domain;
+mod domain_mut;
+mod domain_text;
+mod partial;
+mod partial_mut;
+mod span;
+mod span_error;
+mod stored;
+mod words;
+
+pub use domain::Domain;
+pub use domain_mut::DomainMut;
+pub use partial::PartialElement;
+pub use partial_mut::PartialElementMut;
+pub use span::{BitSpan, MAX_BITS};
+pub use span_error::BitSpanError;
+pub use words::DomainWords;

@@ -1,0 +1,132 @@
+//! The masked words of a domain, one after another, from both ends.
+
+ghost use Rattle.std.specs.Prelude.{◌≡◌, ◌<◌, ◌^◌, length, IfSome, Some};
+ghost use Rattle.std.specs.Iterator.{YieldsFirstBy, YieldsLastBy, item_count, UpTo};
+ghost use Rattle.std.specs.Iterator.SizeHint.{IsWithinCount};
+ghost use Rattle.bit_addressing_span.specs.Domain.{domain_numbers, option_numbers};
+ghost use Rattle.bit_addressing_span.specs.Words.{option_word};
+
+use crate::domain::Domain;
+use crate::partial::PartialElement;
+use bit_addressing_order::{BitOrder, BitRegister};
+use std::iter::FusedIterator;
+use std::marker::Model;
+
+/// The masked words of a domain; a contract sees it as the list of the numbers of those that are left.
+///
+/// It is exact in length, gives each word once from either end, and then `None` for good. In bitvec a
+/// domain is itself the iterator.
+#[derive(Drop)]
+pub struct DomainWords<'a, R: BitRegister> {
+    head: Option<R>,
+    body: &'a [R],
+    tail: Option<R>,
+}
+
+impl<'a, R: BitRegister> Model for DomainWords<'a, R> {
+    ghost use Rattle.std.specs.Prelude.{ℕ, List, ◌<◌, ◌^◌, length};
+    ghost use Rattle.bit_addressing_span.specs.Words.{words_left};
+
+    ghost Value = { List ℕ };
+
+    ghost view = { λ words. words_left R.number words.head words.body.now words.tail };
+
+    ghost invariant = { λ words. length (words_left R.number words.head words.body.now words.tail) < 2 ^ 64 };
+}
+
+impl<'a, R: BitRegister, O: BitOrder<R>> Domain<'a, R, O> {
+    /// The masked words of the domain, in order. A number counts them.
+    pub fn words(self) -> DomainWords<'a, R>
+        requires { length (domain_numbers R.number O.masked self) < 2 ^ 64 }
+        ensures { result ≡ domain_numbers R.number O.masked self.entry }
+    {
+        match self {
+            Domain::Enclave(part) => DomainWords {
+                head: Some(part.load_value()),
+                body: &[],
+                tail: None,
+            },
+            Domain::Region { head, body, tail } => DomainWords {
+                head: load_part(head),
+                body,
+                tail: load_part(tail),
+            },
+        }
+    }
+}
+
+// The masked word of a part, where there is one.
+fn load_part<'a, R: BitRegister, O: BitOrder<R>>(
+    part: Option<PartialElement<'a, R, O>>,
+) -> Option<R>
+    ensures { option_word R.number result ≡ option_numbers R.number O.masked part.entry }
+{
+    match part {
+        Some(part) => Some(part.load_value()),
+        None => None,
+    }
+}
+
+impl<'a, R: BitRegister> Iterator for DomainWords<'a, R> {
+    type Item = R;
+
+    ghost next_gives = { YieldsFirstBy R.number (λ rest. rest) };
+
+    ghost remaining = { item_count (λ rest. rest) };
+
+    fn next(&mut self) -> Option<R> {
+        let head = self.head;
+        if let Some(word) = head {
+            self.head = None;
+            return Some(word);
+        }
+        let body = self.body;
+        if body.len() > 0 {
+            self.body = &body[1..];
+            return Some(body[0]);
+        }
+        let tail = self.tail;
+        self.tail = None;
+        tail
+    }
+
+    fn size_hint(&self) -> (usize, Option<usize>)
+        ensures lower { IsWithinCount result.0 (item_count (λ rest. rest) self.now) }
+        ensures upper { IfSome result.1 (UpTo (item_count (λ rest. rest) self.now)) }
+        ensures exact { result ≡ (length self.now, Some (length self.now)) }
+    {
+        let len = self.len();
+        (len, Some(len))
+    }
+}
+
+impl<'a, R: BitRegister> DoubleEndedIterator for DomainWords<'a, R> {
+    ghost next_back_gives = { YieldsLastBy R.number (λ rest. rest) };
+
+    fn next_back(&mut self) -> Option<R> {
+        let tail = self.tail;
+        if let Some(word) = tail {
+            self.tail = None;
+            return Some(word);
+        }
+        let body = self.body;
+        let n = body.len();
+        if n > 0 {
+            self.body = &body[..n - 1];
+            return Some(body[n - 1]);
+        }
+        let head = self.head;
+        self.head = None;
+        head
+    }
+}
+
+impl<'a, R: BitRegister> ExactSizeIterator for DomainWords<'a, R> {
+    fn len(&self) -> usize {
+        let heads = self.head.is_some() as usize;
+        let tails = self.tail.is_some() as usize;
+        heads + self.body.len() + tails
+    }
+}
+
+impl<'a, R: BitRegister> FusedIterator for DomainWords<'a, R> {}

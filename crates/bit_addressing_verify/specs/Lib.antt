@@ -1,0 +1,4 @@
+pub mod Verify
+pub mod VerifyLemmas
+pub mod VerifySteps
+pub mod Words

@@ -1,0 +1,11 @@
+//! The tests of layouts, numbers and images: known lines, and what they read as.
+#![tactic(auto)]
+
+#[cfg(test)]
+mod image_lines;
+#[cfg(test)]
+mod layout_lines;
+#[cfg(test)]
+mod line_words;
+#[cfg(test)]
+mod numbers;

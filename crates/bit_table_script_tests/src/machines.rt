@@ -1,0 +1,36 @@
+//! A machine that fails when it is told to.
+ghost use Rattle.std.specs.Prelude.{◌≡◌, ◌∷◌, ◌++◌, [], refl};
+ghost use Rattle.std.specs.List.{flat_map};
+ghost use Rattle.std.proofs.lemmas.List.Concat.{flat_map-append};
+ghost use Rattle.bit_table_script.specs.Lines.{IsBeginning};
+
+use bit_table::LineMachine;
+use std::alloc::{AllocError, Global};
+
+/// Answers each line by the line and a line end, and finds no memory once `until_fault` more lines are answered.
+#[derive(Drop)]
+pub struct Echo {
+    pub alloc: Global,
+    pub until_fault: usize,
+}
+
+impl LineMachine for Echo {
+    ghost answers = { λ m lines. flat_map (λ line. line ++ 10 ∷ []) lines };
+
+    ghost none = { λ m. refl };
+
+    ghost goes_on = { λ m front back. record {
+      rest = flat_map (λ line. line ++ 10 ∷ []) back;
+      joined = flat_map-append (λ line. line ++ 10 ∷ []) front back;
+    } };
+
+    fn answer(&mut self, line: &[u8]) -> Result<Vec<u8>, AllocError> {
+        if self.until_fault == 0 {
+            return Err(AllocError);
+        }
+        self.until_fault -= 1;
+        let mut text = Vec::from_slice(self.alloc, line)?;
+        text.push(b'\n')?;
+        Ok(text)
+    }
+}

@@ -1,0 +1,175 @@
+//! Runs, however the reader and the writer cut them, and runs that a fault ends.
+ghost use Rattle.std.specs.Prelude.{◌≡◌, ◌<◌, ◌≤◌, ◌∷◌, ◌++◌, [], IfOk};
+ghost use Rattle.std.specs.List.{flat_map};
+ghost use Rattle.bit_table_script.specs.Lines.{lines};
+
+use crate::machines::Echo;
+use bit_table::{Input, Output, RunError, drive};
+use bit_table_samples::{Cut, Narrow, Stop};
+use std::alloc::Global;
+use std::test::Fail;
+
+const SCRIPT: &[u8; 12] = b"a\n\r\nbc\n\nlast";
+
+const ANSWER: &[u8; 13] = b"a\n\r\nbc\n\nlast\n";
+
+/// A machine that answers every line.
+fn echo(alloc: Global) -> Echo {
+    Echo {
+        alloc,
+        until_fault: usize::MAX,
+    }
+}
+
+#[test]
+fn answers_however_it_is_cut(rt: HostRuntime) -> Result<(), Fail> {
+    for piece in 1..16 {
+        let mut machine = echo(rt.alloc());
+        let mut input = Input::new(Cut {
+            rest: SCRIPT.as_slice(),
+            first: 0,
+            piece,
+            until_fault: usize::MAX,
+        });
+        let mut output = Output::new(Vec::new(rt.alloc()));
+        let result = drive(rt.alloc(), &mut machine, &mut input, &mut output);
+        assert_eq!(rt; result, Ok(()));
+        assert!(rt; !input.failed());
+        assert!(rt; !output.failed());
+        assert!(rt; input.into_inner().rest.is_empty());
+        assert_eq!(rt;
+            output.into_inner().as_slice(),
+            ANSWER.as_slice(),
+            "in pieces of {piece}"
+        );
+    }
+    Ok(())
+}
+
+#[test]
+fn answers_lines_longer_than_a_piece(rt: HostRuntime) -> Result<(), Fail> {
+    let mut text = Vec::new(rt.alloc());
+    for _ in 0..9000 {
+        text.push(b'x')?;
+    }
+    text.extend_from_slice(b"\ny")?;
+    let mut input = Input::new(text.as_slice());
+    let mut output = Output::new(Vec::new(rt.alloc()));
+    drive(rt.alloc(), &mut echo(rt.alloc()), &mut input, &mut output)?;
+    let written = output.into_inner();
+    text.push(b'\n')?;
+    assert_eq!(rt; written.as_slice(), text.as_slice());
+    Ok(())
+}
+
+/// How many bytes of the answer are due once so many bytes of the script were read.
+fn due(read: usize) -> usize
+    ensures { result ≤ 8 }
+{
+    match read {
+        0..=1 => 0,
+        2..=3 => 2,
+        4..=6 => 4,
+        7 => 7,
+        _ => 8,
+    }
+}
+
+#[test]
+fn a_read_fault_ends_it(rt: HostRuntime) -> Result<(), Fail> {
+    for read in 0..13 {
+        let mut input = Input::new(Cut {
+            rest: SCRIPT.as_slice(),
+            first: 0,
+            piece: 3,
+            until_fault: read,
+        });
+        let mut output = Output::new(Vec::new(rt.alloc()));
+        let result = drive(rt.alloc(), &mut echo(rt.alloc()), &mut input, &mut output);
+        assert_eq!(rt; result, Err(RunError::Read));
+        assert!(rt; input.failed());
+        assert!(rt; !output.failed());
+        assert_eq!(rt;
+            output.into_inner().as_slice(),
+            &ANSWER[..due(read)],
+            "at {read}"
+        );
+    }
+    Ok(())
+}
+
+#[test]
+fn a_write_fault_ends_it(rt: HostRuntime) -> Result<(), Fail> {
+    for stop in [Stop::Fails, Stop::TakesNone] {
+        for most in [1, 3] {
+            for room in 0..15usize {
+                let mut input = Input::new(SCRIPT.as_slice());
+                let mut output = Output::new(Narrow {
+                    taken: Vec::new(rt.alloc()),
+                    most,
+                    room,
+                    stop,
+                });
+                let result = drive(rt.alloc(), &mut echo(rt.alloc()), &mut input, &mut output);
+                let is_cut = room < ANSWER.len();
+                assert_eq!(rt; result, if is_cut { Err(RunError::Write) } else { Ok(()) });
+                assert_eq!(rt; output.failed(), is_cut);
+                assert!(rt; !input.failed());
+                let Narrow {
+                    taken,
+                    most: _,
+                    room: _,
+                    stop: _,
+                } = output.into_inner();
+                let count = room.min(ANSWER.len());
+                assert_eq!(rt; taken.as_slice(), &ANSWER[..count], "{stop:?} after {room}");
+            }
+        }
+    }
+    Ok(())
+}
+
+#[test]
+fn want_of_memory_ends_it(rt: HostRuntime) -> Result<(), Fail> {
+    for (lines, due) in [(0, 0), (1, 2), (3, 7), (4, 8)] {
+        let mut machine = Echo {
+            alloc: rt.alloc(),
+            until_fault: lines,
+        };
+        let mut input = Input::new(SCRIPT.as_slice());
+        let mut output = Output::new(Vec::new(rt.alloc()));
+        let result = drive(rt.alloc(), &mut machine, &mut input, &mut output);
+        assert_eq!(rt; result, Err(RunError::Memory));
+        assert!(rt; !input.failed());
+        assert!(rt; !output.failed());
+        assert_eq!(rt;
+            output.into_inner().as_slice(),
+            &ANSWER[..due],
+            "after {lines} lines"
+        );
+    }
+    Ok(())
+}
+
+/// What the contract of a run says of a reader and a writer that tell their bytes.
+fn answered(alloc: Global, script: &[u8], most: usize) -> Result<Vec<u8>, RunError>
+    requires { 0 < most }
+    ensures { IfOk result (λ text. text.items ≡ flat_map (λ line. line ++ 10 ∷ []) (lines script.now)) }
+{
+    let mut input = Input::new(Cut {
+        rest: script,
+        first: 0,
+        piece: most,
+        until_fault: usize::MAX,
+    });
+    let mut output = Output::new(Vec::new(alloc));
+    drive(alloc, &mut echo(alloc), &mut input, &mut output)?;
+    Ok(output.into_inner())
+}
+
+#[test]
+fn is_proved_of_fakes_too(rt: HostRuntime) -> Result<(), Fail> {
+    let text = answered(rt.alloc(), b"a\nb", 2)?;
+    assert_eq!(rt; text.as_slice(), b"a\nb\n".as_slice());
+    Ok(())
+}

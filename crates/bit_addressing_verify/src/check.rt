@@ -153,13 +153,7 @@ fn wanted_mask<R: BitRegister, C: OrderCandidate<R>>(
     requires { lower from.now ≤ upper R.BITS upto.now }
     ensures { R.number result ≡ masks_from R.BITS C.position from.now upto.now }
 {
-    let first = match from {
-        Some(index) => Some(index.into_inner()),
-        None => None,
-    };
-    let end = match upto {
-        Some(end) => Some(end.into_inner()),
-        None => None,
-    };
+    let first = from.as_ref().map(|index| index.into_inner());
+    let end = upto.as_ref().map(|end| end.into_inner());
     mask_from_at::<R, C>(first, end)
 }

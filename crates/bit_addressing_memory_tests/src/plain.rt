@@ -1,20 +1,30 @@
 //! Memory as a plain list of bits, made from its words with no order of the crates.
 
+ghost use Rattle.std.specs.Prelude.{◌<◌};
+
 use bit_addressing::BitRegister;
 use bit_addressing_samples::Count;
 
 /// The bits of a memory of at most 256, and false past its end.
 pub fn listed<R: BitRegister>(count: Count, words: &[R]) -> [bool; 256] {
-    let bits = R::BITS as usize;
     let mut list = [false; 256];
     for place in 0..256usize {
-        let word = place / bits;
-        if word < words.len() {
-            let digit = count.digit(bits, place % bits);
-            list[place] = (words[word].value() >> digit) & 1 == 1;
-        }
+        list[place] = is_set(count, words, place);
     }
     list
+}
+
+// The bit at a place of a memory, and false past its end.
+fn is_set<R: BitRegister>(count: Count, words: &[R], place: usize) -> bool {
+    let bits = R::BITS as usize;
+    let word = place / bits;
+    word < words.len() && has_digit(words[word].value(), count.digit(bits, place % bits))
+}
+
+fn has_digit(number: u128, digit: usize) -> bool
+    requires { digit < 128 }
+{
+    (number >> digit) & 1 == 1
 }
 
 /// Fills a memory with digits that look like any.

@@ -35,6 +35,17 @@ fn words_of_a_region(rt: HostRuntime) -> Result<(), Fail> {
     assert_eq!(rt; front.next(), Some(0x34));
     assert_eq!(rt; front.next(), Some(0x06));
     assert_eq!(rt; front.next(), None);
+    let text = format!(in alloc; "{}", InHex(domain))?;
+    assert_eq!(rt; text.as_str(), "[10, 34, 6]");
+    Ok(())
+}
+
+#[test]
+fn parts_of_a_region(rt: HostRuntime) -> Result<(), Fail> {
+    let memory = [0x12u8, 0x34, 0x56];
+    let span = BitSpan::<u8, Lsb0>::new(0, BitIdx::new(4)?, 16)?;
+    assert!(rt; span.fits(memory.len()));
+    let domain = span.domain(&memory);
     assert!(rt; domain.enclave().is_none());
     let (head, body, tail) = domain.region().ok_or("region")?;
     let (first, from, count) = head.ok_or("head")?.into_bitslice();
@@ -45,8 +56,6 @@ fn words_of_a_region(rt: HostRuntime) -> Result<(), Fail> {
     let (from, upto) = tail.ok_or("tail")?.bounds();
     assert_eq!(rt; from.into_inner(), 0);
     assert_eq!(rt; upto.into_inner(), 4);
-    let text = format!(in alloc; "{}", InHex(domain))?;
-    assert_eq!(rt; text.as_str(), "[10, 34, 6]");
     Ok(())
 }
 

@@ -1,6 +1,21 @@
 //! The text of answers and of faults.
 use bit_table::{Cause, Fault, ImageBytes, Reply, RunError};
+use std::alloc::Global;
+use std::process::Abort;
 use std::test::Fail;
+
+// The word, the text and the answer line of a cause.
+fn check_cause(rt: &impl Abort, alloc: Global, cause: Cause, word: &str) -> Result<(), Fail> {
+    assert_eq!(rt; cause.word(), word);
+    assert_eq!(rt; format!(in alloc; "{cause}")?.as_str(), word);
+    check_line(rt, alloc, cause, word)
+}
+
+fn check_line(rt: &impl Abort, alloc: Global, cause: Cause, word: &str) -> Result<(), Fail> {
+    let line = format!(in alloc; "refused {word}\n")?;
+    assert_eq!(rt; cause.line(alloc)?.as_slice(), line.as_bytes());
+    Ok(())
+}
 
 #[test]
 fn names_causes(rt: HostRuntime) -> Result<(), Fail> {
@@ -14,10 +29,7 @@ fn names_causes(rt: HostRuntime) -> Result<(), Fail> {
         (Cause::Image, "image"),
         (Cause::Kept, "kept"),
     ] {
-        assert_eq!(rt; cause.word(), word);
-        assert_eq!(rt; format!(in rt.alloc(); "{cause}")?.as_str(), word);
-        let line = format!(in rt.alloc(); "refused {word}\n")?;
-        assert_eq!(rt; cause.line(rt.alloc())?.as_slice(), line.as_bytes());
+        check_cause(&rt, rt.alloc(), cause, word)?;
     }
     Ok(())
 }
@@ -40,21 +52,37 @@ fn shows_faults(rt: HostRuntime) -> Result<(), Fail> {
     Ok(())
 }
 
+// The bytes and the answer line of an image of so many rows.
+fn check_image(
+    rt: &impl Abort,
+    alloc: Global,
+    rows: usize,
+    bytes: &[u8],
+    line: &[u8],
+) -> Result<(), Fail> {
+    let image = ImageBytes::new(Vec::from_slice(alloc, bytes)?);
+    assert_eq!(rt; image.as_slice(), bytes);
+    let reply = Reply::Image { rows, bytes: image };
+    assert_eq!(rt; reply.line(alloc)?.as_slice(), line);
+    Ok(())
+}
+
 #[test]
 fn writes_replies(rt: HostRuntime) -> Result<(), Fail> {
-    assert_eq!(rt;
-        Reply::Done.line(rt.alloc())?.as_slice(),
-        b"ok\n".as_slice()
-    );
-    for (rows, bytes, line) in [
-        (2, b"\x01\xfe".as_slice(), b"2 01fe\n".as_slice()),
-        (0, b"".as_slice(), b"0\n".as_slice()),
-    ] {
-        let image = ImageBytes::new(Vec::from_slice(rt.alloc(), bytes)?);
-        assert_eq!(rt; image.as_slice(), bytes);
-        let reply = Reply::Image { rows, bytes: image };
-        assert_eq!(rt; reply.line(rt.alloc())?.as_slice(), line);
-    }
+    let alloc = rt.alloc();
+    assert_eq!(rt; Reply::Done.line(alloc)?.as_slice(), b"ok\n".as_slice());
+    check_image(
+        &rt,
+        alloc,
+        2,
+        b"\x01\xfe".as_slice(),
+        b"2 01fe\n".as_slice(),
+    )?;
+    check_image(&rt, alloc, 0, b"".as_slice(), b"0\n".as_slice())
+}
+
+#[test]
+fn shows_image_bytes(rt: HostRuntime) -> Result<(), Fail> {
     let image = ImageBytes::new(Vec::from_slice(rt.alloc(), b"\x01\xfe")?);
     assert_eq!(rt; format!(in rt.alloc(); "{image:?}")?.as_str(), "[1, 254]");
     assert_eq!(rt; image.into_vec().as_slice(), b"\x01\xfe".as_slice());

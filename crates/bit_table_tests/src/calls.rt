@@ -45,14 +45,17 @@ fn a_table_is_edited_and_told(rt: HostRuntime) -> Result<(), Fail> {
     Ok(())
 }
 
+/// A table with the one row 5 and -1.
+fn one_row(alloc: Global) -> Result<Table, Fail> {
+    let layout = Layout::parse(alloc, b"low a:u3 b:i4")?;
+    let mut table = Table::new(alloc, layout);
+    table.apply(&insertion(alloc, 0, [5, -1])?)?;
+    Ok(table)
+}
+
 #[test]
 fn a_table_refuses(rt: HostRuntime) -> Result<(), Fail> {
-    let layout = Layout::parse(rt.alloc(), b"low a:u3 b:i4")?;
-    let mut table = Table::new(rt.alloc(), layout);
-    assert_eq!(rt;
-        table.apply(&insertion(rt.alloc(), 0, [5, -1])?),
-        Ok(Reply::Done)
-    );
+    let mut table = one_row(rt.alloc())?;
     for (place, values, cause) in [
         (2, [8, 0], Cause::Row),
         (u64::MAX, [0, 0], Cause::Row),
@@ -60,22 +63,26 @@ fn a_table_refuses(rt: HostRuntime) -> Result<(), Fail> {
         (1, [0, -9], Cause::Value),
     ] {
         let command = insertion(rt.alloc(), place, values)?;
-        assert_eq!(rt;
-            table.apply(&command),
-            Err(Fault::Refused(cause)),
-            "{values:?}"
-        );
+        let answer = table.apply(&command);
+        assert_eq!(rt; answer, Err(Fault::Refused(cause)), "{values:?}");
     }
+    assert_eq!(rt; table.rows(), 1);
+    let image = image_of(rt.alloc(), 1, b"\x7d")?;
+    assert_eq!(rt; table.apply(&Command::Image), Ok(image));
+    Ok(())
+}
+
+#[test]
+fn a_table_refuses_one_value_for_two_fields(rt: HostRuntime) -> Result<(), Fail> {
+    let mut table = one_row(rt.alloc())?;
     let one_value = Command::Insert {
         place: 9,
         values: Values::new(Vec::from_slice(rt.alloc(), &[8])?),
     };
     assert_eq!(rt; table.apply(&one_value), Err(Fault::Refused(Cause::Form)));
     assert_eq!(rt; table.rows(), 1);
-    assert_eq!(rt;
-        table.apply(&Command::Image),
-        Ok(image_of(rt.alloc(), 1, b"\x7d")?)
-    );
+    let image = image_of(rt.alloc(), 1, b"\x7d")?;
+    assert_eq!(rt; table.apply(&Command::Image), Ok(image));
     Ok(())
 }
 

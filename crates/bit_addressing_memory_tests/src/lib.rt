@@ -3,8 +3,7 @@
 
 #[cfg(test)]
 mod lists;
-#[cfg(test)]
-mod memory_callers;
+pub mod memory_callers;
 #[cfg(test)]
 mod memory_rows;
 #[cfg(test)]

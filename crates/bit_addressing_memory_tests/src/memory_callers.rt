@@ -3,11 +3,10 @@
 ghost use Rattle.std.specs.Prelude.{◌≡◌, ◌≢◌, ℕ, ◌+◌, ◌*◌, ◌<◌, length, true, false};
 ghost use Rattle.bit_addressing_memory.specs.Memory.{entry, indexed};
 
-use bit_addressing::{BitOrder, BitRegister, Lsb0, read_entry, swap_entries, write_entry};
+use bit_addressing::{BitOrder, BitRegister, read_entry, write_entry};
 
-// Two neighbouring places are written, perhaps in one word. Both are known then, and all else is as it
-// was.
-fn write_two<R: BitRegister, O: BitOrder<R>>(
+/// Writes two neighbouring places, perhaps of one word. Both are known then, and all else is as it was.
+pub fn write_two<R: BitRegister, O: BitOrder<R>>(
     words: &mut [R],
     place: usize,
     bit: bool,
@@ -26,21 +25,11 @@ fn write_two<R: BitRegister, O: BitOrder<R>>(
     write_entry::<R, O>(words, next, next_bit);
 }
 
-// What is written is read.
-fn written_then_read<R: BitRegister, O: BitOrder<R>>(words: &mut [R], place: usize) -> bool
+/// Writes a place and reads it: what is written is read.
+pub fn written_then_read<R: BitRegister, O: BitOrder<R>>(words: &mut [R], place: usize) -> bool
     requires { place < length words.old * R.BITS }
     ensures { result ≡ true }
 {
     write_entry::<R, O>(words, place, true);
     read_entry::<R, O>(words, place)
-}
-
-#[test]
-fn neighbours_are_written(rt: HostRuntime) {
-    let mut words = [0xf0u8, 0x0f];
-    write_two::<u8, Lsb0>(&mut words, 7, false, 8, false);
-    assert_eq!(rt; words, [0x70, 0x0e]);
-    assert!(rt; written_then_read::<u8, Lsb0>(&mut words, 15));
-    swap_entries::<u8, Lsb0>(&mut words, 0, 4);
-    assert_eq!(rt; words, [0x61, 0x8e]);
 }

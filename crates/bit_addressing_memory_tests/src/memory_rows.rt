@@ -2,9 +2,10 @@
 
 ghost use Rattle.std.specs.Prelude.{◌+◌, ◌≤◌, ◌<◌};
 
+use crate::memory_callers::{write_two, written_then_read};
 use bit_addressing::{
     BitIdx, BitPtr, BitPtrRange, Dangling, EmptyRange, Limits, Lsb0, Msb0, copy_between,
-    copy_within, read_entry, replace_entry, swap_between, swap_within, write_entry,
+    copy_within, read_entry, replace_entry, swap_between, swap_entries, swap_within, write_entry,
 };
 use bit_addressing_samples::FifthStep;
 
@@ -207,4 +208,14 @@ fn a_range_gives_each_pointer_once(rt: HostRuntime) {
     assert!(rt; range.next().is_none());
     assert!(rt; BitPtrRange::<u8, Lsb0>::EMPTY.is_empty());
     assert!(rt; BitPtrRange::<u8, Lsb0>::default() == BitPtrRange::EMPTY);
+}
+
+#[test]
+fn neighbours_are_written(rt: HostRuntime) {
+    let mut words = [0xf0u8, 0x0f];
+    write_two::<u8, Lsb0>(&mut words, 7, false, 8, false);
+    assert_eq!(rt; words, [0x70, 0x0e]);
+    assert!(rt; written_then_read::<u8, Lsb0>(&mut words, 15));
+    swap_entries::<u8, Lsb0>(&mut words, 0, 4);
+    assert_eq!(rt; words, [0x61, 0x8e]);
 }

@@ -9,5 +9,4 @@ mod order_rows;
 mod places;
 #[cfg(test)]
 mod texts;
-#[cfg(test)]
-mod word_callers;
+pub mod word_callers;

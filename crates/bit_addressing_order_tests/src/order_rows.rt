@@ -1,6 +1,7 @@
 //! The worked rows of orders and of their verification.
 
 use crate::candidates::{AllAtZero, EmptyMask, EmptyTail, OtherSelector};
+use crate::word_callers::{entry, five, is_odd, with_entry, without_highest};
 use bit_addressing::{
     BitEnd, BitIdx, BitOrder, BitRegister, Lsb0, Msb0, OrderCandidate, OrderFault, WordFault,
     disjoint_masks, mask_from_at, select_from_at, verify, verify_for_type,
@@ -82,5 +83,16 @@ fn unlawful_candidates_are_told_their_first_fault(rt: HostRuntime) -> Result<(),
     let tail = OrderFault::Mask(Some(BitIdx::<u8>::new(4)?), None);
     assert_eq!(rt; verify_for_type::<u8, EmptyTail>(), Err(tail));
     assert_eq!(rt; verify::<EmptyTail>(), Err(WordFault::U8(tail)));
+    Ok(())
+}
+
+#[test]
+fn bits_are_read_and_written(rt: HostRuntime) -> Result<(), Fail> {
+    assert_eq!(rt; five(), 5);
+    assert_eq!(rt; without_highest(), 0x7f);
+    assert!(rt; is_odd());
+    let index = BitIdx::<u32>::new(1)?;
+    assert_eq!(rt; with_entry::<u32, Msb0>(0, index, true), 0x4000_0000);
+    assert!(rt; entry::<u32, Msb0>(0x4000_0000, index));
     Ok(())
 }

@@ -6,20 +6,19 @@ ghost use Rattle.bit_addressing_order.specs.Bits.{digit_at, with_digit, bits_in_
 ghost use Rattle.bit_addressing_order.specs.Law.{lower, upper};
 
 use bit_addressing::{BitEnd, BitIdx, BitMask, BitOrder, BitRegister, BitSel, Lsb0, Msb0};
-use std::test::Fail;
 
-// The bit of a word at an index.
+/// The bit of a word at an index.
 #[tactic(auto, using(bit_addressing_order::proofs::CallerLemmas::test_is_digit_at))]
-fn read_bit<R: BitRegister, O: BitOrder<R>>(word: R, index: BitIdx<R>) -> bool
+pub fn read_bit<R: BitRegister, O: BitOrder<R>>(word: R, index: BitIdx<R>) -> bool
     ensures { result ≡ digit_at (R.number word) (O.position index) }
 {
     let selected = word.and(index.select::<O>().into_inner());
     !selected.equals(R::ZERO)
 }
 
-// The word with the bit at an index made `bit`.
+/// The word with the bit at an index made `bit`.
 #[tactic(auto, using(bit_addressing_order::proofs::CallerLemmas::made_digits))]
-fn write_bit<R: BitRegister, O: BitOrder<R>>(word: R, index: BitIdx<R>, bit: bool) -> R
+pub fn write_bit<R: BitRegister, O: BitOrder<R>>(word: R, index: BitIdx<R>, bit: bool) -> R
     ensures { R.number result ≡ with_digit (R.number word) (O.position index) bit }
 {
     let selector = index.select::<O>().into_inner();
@@ -30,17 +29,17 @@ fn write_bit<R: BitRegister, O: BitOrder<R>>(word: R, index: BitIdx<R>, bit: boo
     }
 }
 
-// An entry of the word's list.
+/// An entry of the word's list.
 #[tactic(auto, using(bit_addressing_order::proofs::CallerLemmas::entries))]
-fn entry<R: BitRegister, O: BitOrder<R>>(word: R, index: BitIdx<R>) -> bool
+pub fn entry<R: BitRegister, O: BitOrder<R>>(word: R, index: BitIdx<R>) -> bool
     ensures { result ≡ slice_index_or (bits_in_order O.position R.BITS (R.number word)) index false }
 {
     read_bit::<R, O>(word, index)
 }
 
-// The word whose list has one entry written.
+/// The word whose list has one entry written.
 #[tactic(auto, using(bit_addressing_order::proofs::CallerLemmas::entries))]
-fn with_entry<R: BitRegister, O: BitOrder<R>>(word: R, index: BitIdx<R>, bit: bool) -> R
+pub fn with_entry<R: BitRegister, O: BitOrder<R>>(word: R, index: BitIdx<R>, bit: bool) -> R
     ensures { bits_in_order O.position R.BITS (R.number result)
         ≡ slice_set (bits_in_order O.position R.BITS (R.number word)) index bit }
 {
@@ -48,31 +47,24 @@ fn with_entry<R: BitRegister, O: BitOrder<R>>(word: R, index: BitIdx<R>, bit: bo
 }
 
 // At a register and an order that are known, so is the number.
-fn five() -> u8
+
+/// The word 1 with index 2 set, from the lowest digit on.
+pub fn five() -> u8
     ensures { result ≡ 5 }
 {
     write_bit::<u8, Lsb0>(1, BitIdx::new_unchecked(2), true)
 }
 
-fn without_highest() -> u8
+/// The word of ones with its first index cleared, from the highest digit on.
+pub fn without_highest() -> u8
     ensures { result ≡ 0x7f }
 {
     write_bit::<u8, Msb0>(0xff, BitIdx::new_unchecked(0), false)
 }
 
-fn is_odd() -> bool
+/// Whether the first index of 5 is set, from the lowest digit on.
+pub fn is_odd() -> bool
     ensures { result ≡ true }
 {
     read_bit::<u8, Lsb0>(5, BitIdx::new_unchecked(0))
-}
-
-#[test]
-fn bits_are_read_and_written(rt: HostRuntime) -> Result<(), Fail> {
-    assert_eq!(rt; five(), 5);
-    assert_eq!(rt; without_highest(), 0x7f);
-    assert!(rt; is_odd());
-    let index = BitIdx::<u32>::new(1)?;
-    assert_eq!(rt; with_entry::<u32, Msb0>(0, index, true), 0x4000_0000);
-    assert!(rt; entry::<u32, Msb0>(0x4000_0000, index));
-    Ok(())
 }

@@ -8,9 +8,10 @@ mod domain_texts;
 #[cfg(test)]
 mod domains;
 #[cfg(test)]
-mod part_sweeps;
+mod part_rows;
 #[cfg(test)]
-mod parts;
+mod part_sweeps;
+pub mod parts;
 #[cfg(test)]
 mod plain_words;
 #[cfg(test)]

@@ -6,12 +6,11 @@ ghost use Rattle.bit_addressing_span.specs.Partial.{IsMasked};
 ghost use Rattle.bit_addressing_span.specs.Parts.{part_from, part_place, part_count};
 ghost use Rattle.bit_addressing_span.specs.Written.{written_word, written_head, written_tail};
 
-use bit_addressing::{BitEnd, BitIdx, BitOrder, BitRegister, BitSpan, Lsb0, PartialElementMut};
-use std::test::Fail;
+use bit_addressing::{BitOrder, BitRegister, BitSpan, PartialElementMut};
 
-// What is loaded after a store is the value, masked.
+/// What is loaded after a store is the value, masked.
 #[tactic(auto, using(bit_addressing_span::proofs::StoredLemmas::stored_then_masked))]
-fn store_and_load<'a, R: BitRegister, O: BitOrder<R>>(
+pub fn store_and_load<'a, R: BitRegister, O: BitOrder<R>>(
     part: &mut PartialElementMut<'a, R, O>,
     value: R,
 ) -> R
@@ -22,9 +21,9 @@ fn store_and_load<'a, R: BitRegister, O: BitOrder<R>>(
     part.load_value()
 }
 
-// What a store answered restores the word, stored again.
+/// What a store answered restores the word, stored again.
 #[tactic(auto, using(bit_addressing_span::proofs::StoredLemmas::stored_back))]
-fn store_and_restore<'a, R: BitRegister, O: BitOrder<R>>(
+pub fn store_and_restore<'a, R: BitRegister, O: BitOrder<R>>(
     part: &mut PartialElementMut<'a, R, O>,
     value: R,
 )
@@ -35,8 +34,8 @@ fn store_and_restore<'a, R: BitRegister, O: BitOrder<R>>(
     part.store_value(was);
 }
 
-// Two words of a span written, one after the other: both are known, and all else.
-fn write_two<R: BitRegister, O: BitOrder<R>>(
+/// Two words of a span written, one after the other: both are known, and all else.
+pub fn write_two<R: BitRegister, O: BitOrder<R>>(
     span: BitSpan<R, O>,
     words: &mut [R],
     first: R,
@@ -61,31 +60,4 @@ fn write_two<R: BitRegister, O: BitOrder<R>>(
     let mut domain = span.domain_mut(words);
     domain.store_value(0, first);
     domain.store_value(1, second);
-}
-
-#[test]
-fn parts_are_restored(rt: HostRuntime) -> Result<(), Fail> {
-    let mut word = 0xa5u8;
-    {
-        let mut part = PartialElementMut::<u8, Lsb0>::new(
-            &mut word,
-            BitIdx::new_unchecked(1),
-            BitEnd::new_unchecked(7),
-        );
-        assert_eq!(rt; store_and_load(&mut part, 0xff), 0x7e);
-        store_and_restore(&mut part, 0x00);
-    }
-    assert_eq!(rt; word, 0xff);
-    Ok(())
-}
-
-#[test]
-fn two_words_are_written(rt: HostRuntime) -> Result<(), Fail> {
-    let mut memory = [0x12u8, 0x34, 0x56];
-    let span = BitSpan::<u8, Lsb0>::new(0, BitIdx::new(4)?, 8)?;
-    let (_, head, _) = span.raw_parts();
-    assert!(rt; span.elements() == 2 && head.into_inner() < 8);
-    write_two(span, &mut memory, 0xab, 0xcd);
-    assert_eq!(rt; memory, [0xa2, 0x3d, 0x56]);
-    Ok(())
 }

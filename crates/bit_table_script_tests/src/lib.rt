@@ -5,7 +5,6 @@
 mod answers;
 #[cfg(test)]
 mod commands;
-#[cfg(test)]
-mod machines;
+pub mod machines;
 #[cfg(test)]
 mod runs;

@@ -1,0 +1,32 @@
+//! Parts of words, stored, loaded and restored.
+
+use crate::parts::{store_and_load, store_and_restore, write_two};
+use bit_addressing::{BitEnd, BitIdx, BitSpan, Lsb0, PartialElementMut};
+use std::test::Fail;
+
+#[test]
+fn parts_are_restored(rt: HostRuntime) -> Result<(), Fail> {
+    let mut word = 0xa5u8;
+    {
+        let mut part = PartialElementMut::<u8, Lsb0>::new(
+            &mut word,
+            BitIdx::new_unchecked(1),
+            BitEnd::new_unchecked(7),
+        );
+        assert_eq!(rt; store_and_load(&mut part, 0xff), 0x7e);
+        store_and_restore(&mut part, 0x00);
+    }
+    assert_eq!(rt; word, 0xff);
+    Ok(())
+}
+
+#[test]
+fn two_words_are_written(rt: HostRuntime) -> Result<(), Fail> {
+    let mut memory = [0x12u8, 0x34, 0x56];
+    let span = BitSpan::<u8, Lsb0>::new(0, BitIdx::new(4)?, 8)?;
+    let (_, head, _) = span.raw_parts();
+    assert!(rt; span.elements() == 2 && head.into_inner() < 8);
+    write_two(span, &mut memory, 0xab, 0xcd);
+    assert_eq!(rt; memory, [0xa2, 0x3d, 0x56]);
+    Ok(())
+}

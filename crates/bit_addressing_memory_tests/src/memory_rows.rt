@@ -1,13 +1,10 @@
-//! Rows of entries, copies and pointers, and an order of a user's own against plain lists of bits.
-
-ghost use Rattle.std.specs.Prelude.{◌+◌, ◌≤◌, ◌<◌};
+//! Rows of entries, copies and pointers.
 
 use crate::memory_callers::{write_two, written_then_read};
 use bit_addressing::{
     BitIdx, BitPtr, BitPtrRange, Dangling, EmptyRange, Limits, Lsb0, Msb0, copy_between,
     copy_within, read_entry, replace_entry, swap_between, swap_entries, swap_within, write_entry,
 };
-use bit_addressing_samples::FifthStep;
 
 #[test]
 fn entries_are_read_and_replaced(rt: HostRuntime) {
@@ -53,93 +50,6 @@ fn bits_go_between_memories(rt: HostRuntime) {
     assert_eq!(rt; others, [0xc4]);
     swap_within::<u8, Lsb0>(&mut others, 0, 4, 4);
     assert_eq!(rt; others, [0x4c]);
-}
-
-// The list of bits of four bytes, each byte by its order's positions.
-fn listed(words: &[u8; 4]) -> [bool; 32] {
-    let mut list = [false; 32];
-    for place in 0..32usize {
-        let position = (5 * (place % 8) + 3) % 8;
-        list[place] = (words[place / 8] >> position) & 1 == 1;
-    }
-    list
-}
-
-// Whether a copy inside four bytes in that order is the copy inside their list.
-fn copies_as_a_list(source: usize, target: usize, len: usize) -> bool
-    requires from { source + len ≤ 32 }
-    requires to { target + len ≤ 32 }
-{
-    let mut words = [0x4eu8, 0xb1, 0x27, 0xd8];
-    let before = listed(&words);
-    let mut list = before;
-    for k in 0..len {
-        list[target + k] = before[source + k];
-    }
-    copy_within::<u8, FifthStep>(&mut words, source, target, len);
-    listed(&words) == list
-}
-
-// The same of two words of 64 bits, from bit 40 on: the list of the 64 bits round the words' border.
-fn copies_wide(source: usize, target: usize, len: usize) -> bool
-    requires from { source + len ≤ 64 }
-    requires to { target + len ≤ 64 }
-{
-    let mut words = [0x0123_4567_89ab_cdefu64, 0xfedc_ba98_7654_3210];
-    let before = listed_wide(&words);
-    let mut list = before;
-    for k in 0..len {
-        list[target + k] = before[source + k];
-    }
-    copy_within::<u64, FifthStep>(&mut words, 40 + source, 40 + target, len);
-    listed_wide(&words) == list
-}
-
-fn listed_wide(words: &[u64; 2]) -> [bool; 64] {
-    let mut list = [false; 64];
-    for k in 0..64usize {
-        let place = 40 + k;
-        let position = (5 * (place % 64) + 3) % 64;
-        list[k] = (words[place / 64] >> position) & 1 == 1;
-    }
-    list
-}
-
-// Whether bits in that order, taken to a memory in another and back by pointers, are as they were, and
-// the bit at the start is read, written and exchanged as in the list.
-fn acts_as_a_list(start: usize, len: usize) -> bool
-    requires { start + len < 32 }
-{
-    let mut words = [0x4eu8, 0xb1, 0x27, 0xd8];
-    let before = listed(&words);
-    let mut others = [0u64];
-    copy_between::<u8, FifthStep, u64, Msb0>(&words, start, &mut others, 30, len);
-    let bit = replace_entry::<u8, FifthStep>(&mut words, start, true);
-    let was = read_entry::<u64, Msb0>(&others, 30);
-    swap_between::<u8, FifthStep, u64, Msb0>(&mut words, start, &mut others, 30, len);
-    swap_between::<u8, FifthStep, u64, Msb0>(&mut words, start, &mut others, 30, len);
-    write_entry::<u8, FifthStep>(&mut words, start, bit);
-    copy_between::<u64, Msb0, u8, FifthStep>(&others, 30, &mut words, start, 0);
-    bit == before[start] && (len == 0 || was == bit) && listed(&words) == before
-}
-
-#[test]
-fn an_own_order_is_a_list(rt: HostRuntime) {
-    for start in 0..25usize {
-        for len in 0..25usize {
-            if start + len <= 32 {
-                assert!(rt;
-                    copies_as_a_list(start, 32 - len, len),
-                    "{start} to the end, {len}"
-                );
-                assert!(rt; copies_as_a_list(start, 0, len), "{start} to 0, {len}");
-                assert!(rt; copies_wide(start, 20, len), "{start} to 20, {len}, wide");
-            }
-            if start + len < 32 {
-                assert!(rt; acts_as_a_list(start, len), "{start}, {len}");
-            }
-        }
-    }
 }
 
 #[test]

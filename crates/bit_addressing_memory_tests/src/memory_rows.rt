@@ -59,20 +59,26 @@ fn pointers_are_whole_numbers(rt: HostRuntime) {
     let rows = [(0, 3, 5), (3, 4, 0), (-6, 2, 7), (-30, -1, 7), (100, 16, 1)];
     for (by, word, bit) in rows {
         let moved = start.wrapping_offset(by);
-        assert_eq!(rt; moved.address(), word, "by {by}");
-        assert_eq!(rt; moved.bit().into_inner(), bit, "by {by}");
+        assert_eq!(rt;
+            (moved.address(), moved.bit().into_inner()),
+            (word, bit),
+            "by {by}"
+        );
     }
+    let last = BitPtr::<u8, Msb0>::new(isize::MAX, BitIdx::MAX);
+    assert_eq!(rt; last.wrapping_add(1).address(), isize::MIN);
+}
+
+#[test]
+fn pointers_go_on_and_back(rt: HostRuntime) {
+    let start = BitPtr::<u8, Lsb0>::new(3, BitIdx::new_unchecked(5));
     let on = start.add(100);
     assert_eq!(rt; on.address(), 16);
-    assert_eq!(rt; on.offset_from(start), 100);
-    assert_eq!(rt; start.offset_from(on), -100);
+    assert_eq!(rt; (on.offset_from(start), start.offset_from(on)), (100, -100));
     assert!(rt; on.sub(100) == start);
     assert!(rt; on.offset(-100) == start);
     assert!(rt; start.wrapping_add(100).wrapping_sub(100) == start);
-    assert!(rt; start < on);
-    assert!(rt; BitPtr::<u8, Lsb0>::DANGLING < start);
-    let last = BitPtr::<u8, Msb0>::new(isize::MAX, BitIdx::MAX);
-    assert_eq!(rt; last.wrapping_add(1).address(), isize::MIN);
+    assert!(rt; BitPtr::<u8, Lsb0>::DANGLING < start && start < on);
 }
 
 #[test]
@@ -88,6 +94,13 @@ fn pointers_read_and_write(rt: HostRuntime) {
     assert_eq!(rt; words, [0x12, 0x35, 0x56]);
     first.copy_within(&mut words, other, 16);
     assert_eq!(rt; words, [0x12, 0x12, 0x35]);
+}
+
+#[test]
+fn pointers_copy_between_memories(rt: HostRuntime) {
+    let mut words = [0x12u8, 0x12, 0x35];
+    let first = BitPtr::<u8, Lsb0>::from_slice(&words);
+    let other = BitPtr::<u8, Lsb0>::new(1, BitIdx::new_unchecked(0));
     let mut wide = [0u16];
     let into = BitPtr::<u16, Msb0>::from_mut_slice(&mut wide);
     first.copy_to(&words, into, &mut wide, 8);
@@ -104,18 +117,21 @@ fn a_range_gives_each_pointer_once(rt: HostRuntime) {
     let end = BitPtr::<u8, Lsb0>::new(0, BitIdx::new_unchecked(2));
     let mut range = BitPtrRange::from_range(start..end);
     assert_eq!(rt; range.len(), 4);
-    assert!(rt; range.contains(&start));
-    assert!(rt; !range.contains(&end));
-    assert!(rt; range.start() == start);
-    assert!(rt; range.end() == end);
     assert!(rt; range.next() == Some(start));
     assert!(rt; range.next_back() == Some(start.add(3)));
     assert!(rt; range.next() == Some(start.add(1)));
     assert!(rt; range.next() == Some(start.add(2)));
     assert!(rt; range.is_empty());
-    assert!(rt; range.next().is_none());
-    assert!(rt; range.next_back().is_none());
-    assert!(rt; range.next().is_none());
+    assert!(rt; range.next().is_none() && range.next_back().is_none() && range.next().is_none());
+}
+
+#[test]
+fn a_range_holds_its_pointers(rt: HostRuntime) {
+    let start = BitPtr::<u8, Lsb0>::new(-1, BitIdx::new_unchecked(6));
+    let end = BitPtr::<u8, Lsb0>::new(0, BitIdx::new_unchecked(2));
+    let range = BitPtrRange::from_range(start..end);
+    assert!(rt; range.contains(&start) && !range.contains(&end));
+    assert!(rt; range.start() == start && range.end() == end);
     assert!(rt; BitPtrRange::<u8, Lsb0>::EMPTY.is_empty());
     assert!(rt; BitPtrRange::<u8, Lsb0>::default() == BitPtrRange::EMPTY);
 }

@@ -43,77 +43,87 @@ fn neighbours_tell_a_crossing(rt: HostRuntime) -> Result<(), Fail> {
 }
 
 #[test]
-fn places_have_their_limits(rt: HostRuntime) -> Result<(), Fail> {
+fn places_past_the_word_are_refused(rt: HostRuntime) {
     assert!(rt; BitIdx::<u64>::new(64).is_err());
-    assert_eq!(rt;
-        BitIdx::<u64>::new(200)
-            .map_err(|error| error.into_inner())
-            .err(),
-        Some(200)
-    );
+    let error = BitIdx::<u64>::new(200).map_err(|error| error.into_inner());
+    assert_eq!(rt; error.err(), Some(200));
     assert_eq!(rt; BitEnd::<u64>::new(65), None);
     assert_eq!(rt; BitPos::<u64>::new(64), None);
-    let last = BitIdx::<u64>::MAX;
-    assert_eq!(rt; last, BitIdx::new_unchecked(63));
-    assert_eq!(rt; BitIdx::<u64>::MIN, BitIdx::default());
-    let end = BitEnd::<u64>::MAX;
-    assert_eq!(rt; end, BitEnd::new_unchecked(64));
-    assert_eq!(rt; BitEnd::<u64>::MIN, BitEnd::default());
-    let position = BitPos::<u64>::MAX;
-    assert_eq!(rt; position, BitPos::new_unchecked(63));
-    assert_eq!(rt; BitPos::<u64>::MIN, BitPos::default());
-    Ok(())
 }
 
 #[test]
-fn ranges_come_from_both_ends(rt: HostRuntime) -> Result<(), Fail> {
+fn places_have_their_limits(rt: HostRuntime) {
+    let greatest = (
+        BitIdx::<u64>::MAX.into_inner(),
+        BitEnd::<u64>::MAX.into_inner(),
+        BitPos::<u64>::MAX.into_inner(),
+    );
+    assert_eq!(rt; greatest, (63, 64, 63));
+    assert_eq!(rt; BitIdx::<u64>::MIN, BitIdx::default());
+    assert_eq!(rt; BitEnd::<u64>::MIN, BitEnd::default());
+    assert_eq!(rt; BitPos::<u64>::MIN, BitPos::default());
+}
+
+#[test]
+fn ranges_of_indices_come_from_both_ends(rt: HostRuntime) -> Result<(), Fail> {
     let mut range = BitIdx::<u8>::new(3)?.range(BitEnd::new_unchecked(6));
     assert_eq!(rt; range.len(), 3);
     assert_eq!(rt; range.next(), Some(BitIdx::new_unchecked(3)));
     assert_eq!(rt; range.next_back(), Some(BitIdx::new_unchecked(5)));
     assert_eq!(rt; range.clone()?.next(), Some(BitIdx::new_unchecked(4)));
     assert_eq!(rt; range.next_back(), Some(BitIdx::new_unchecked(4)));
-    assert_eq!(rt; range.next(), None);
-    assert_eq!(rt; range.next_back(), None);
+    assert!(rt; range.next().is_none() && range.next_back().is_none());
     assert_eq!(rt; BitIdx::<u16>::range_all().count(), 16);
+    Ok(())
+}
+
+#[test]
+fn ranges_of_ends_come_from_both_ends(rt: HostRuntime) -> Result<(), Fail> {
     let mut ends = BitEnd::<u8>::range_from(BitIdx::new(6)?);
     assert_eq!(rt; ends.len(), 3);
     assert_eq!(rt; ends.next(), Some(BitEnd::new_unchecked(6)));
     assert_eq!(rt; ends.next_back(), Some(BitEnd::MAX));
     assert_eq!(rt; ends.next(), Some(BitEnd::new_unchecked(7)));
-    assert_eq!(rt; ends.next(), None);
-    let mut selectors = BitSel::<u8>::range_all();
-    assert_eq!(rt; selectors.len(), 8);
-    assert_eq!(rt;
-        selectors.next().map(|selector| selector.into_inner()),
-        Some(1)
-    );
-    assert_eq!(rt;
-        selectors.next_back().map(|selector| selector.into_inner()),
-        Some(128)
-    );
+    assert!(rt; ends.next().is_none());
     Ok(())
 }
 
 #[test]
+fn ranges_of_selectors_come_from_both_ends(rt: HostRuntime) {
+    let mut selectors = BitSel::<u8>::range_all();
+    assert_eq!(rt; selectors.len(), 8);
+    let first = selectors.next().map(|selector| selector.into_inner());
+    assert_eq!(rt; first, Some(1));
+    let last = selectors.next_back().map(|selector| selector.into_inner());
+    assert_eq!(rt; last, Some(128));
+}
+
+#[test]
 fn masks_are_sets_of_positions(rt: HostRuntime) -> Result<(), Fail> {
-    assert!(rt; BitSel::<u8>::new(0).is_none());
-    assert!(rt; BitSel::<u8>::new(0b0110).is_none());
     let fourth = BitSel::<u8>::new(0b1000).ok_or("one bit")?;
     let mut mask = BitMask::new(0b0000_0101u8);
     assert!(rt; !mask.test(fourth));
     mask.insert(fourth);
     assert!(rt; mask.test(fourth));
     assert_eq!(rt; mask.into_inner(), 0b0000_1101);
-    assert_eq!(rt; (!mask).into_inner(), 0b1111_0010);
-    assert_eq!(rt; (mask & 0b0000_0110).into_inner(), 0b0000_0100);
-    assert_eq!(rt; (mask | 0b1000_0000).into_inner(), 0b1000_1101);
     assert_eq!(rt; mask.combine(fourth), mask);
-    assert_eq!(rt; fourth.mask().into_inner(), 0b1000);
-    assert_eq!(rt;
-        BitPos::<u8>::new_unchecked(6).mask().into_inner(),
-        0b0100_0000
+    let others = (
+        (!mask).into_inner(),
+        (mask & 0b0000_0110).into_inner(),
+        (mask | 0b1000_0000).into_inner(),
     );
+    assert_eq!(rt; others, (0b1111_0010, 0b0000_0100, 0b1000_1101));
+    Ok(())
+}
+
+#[test]
+fn masks_are_made_of_selectors(rt: HostRuntime) -> Result<(), Fail> {
+    assert!(rt; BitSel::<u8>::new(0).is_none());
+    assert!(rt; BitSel::<u8>::new(0b0110).is_none());
+    let fourth = BitSel::<u8>::new(0b1000).ok_or("one bit")?;
+    assert_eq!(rt; fourth.mask().into_inner(), 0b1000);
+    let sixth = BitPos::<u8>::new_unchecked(6).mask();
+    assert_eq!(rt; sixth.into_inner(), 0b0100_0000);
     let twice = [fourth, BitIdx::new(0)?.select::<LocalBits>(), fourth];
     assert_eq!(rt; BitMask::sum(twice.iter().copied()).into_inner(), 0b1001);
     assert_eq!(rt; BitMask::sum(BitSel::<u8>::range_all()), BitMask::ALL);

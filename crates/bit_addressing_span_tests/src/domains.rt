@@ -14,25 +14,37 @@ impl<T: fmt::LowerHex> fmt::Display for InHex<T> {
     }
 }
 
-#[test]
-fn words_of_a_region(rt: HostRuntime) -> Result<(), Fail> {
-    let alloc = rt.alloc();
-    let memory = [0x12u8, 0x34, 0x56];
+// The bits 4 to before 20 of three bytes, from the lowest digit on.
+fn region(memory: &[u8; 3]) -> Result<Domain<u8, Lsb0>, Fail> {
     let span = BitSpan::<u8, Lsb0>::new(0, BitIdx::new(4)?, 16)?;
-    assert!(rt; span.fits(memory.len()));
-    let domain = span.domain(&memory);
-    let mut back = domain.words();
-    assert_eq!(rt; back.next_back(), Some(0x06));
-    assert_eq!(rt; back.next_back(), Some(0x34));
-    assert_eq!(rt; back.next_back(), Some(0x10));
-    assert_eq!(rt; back.next_back(), None);
-    let mut front = domain.words();
-    assert_eq!(rt; front.len(), 3);
-    assert_eq!(rt; front.next(), Some(0x10));
-    assert_eq!(rt; front.next(), Some(0x34));
-    assert_eq!(rt; front.next(), Some(0x06));
-    assert_eq!(rt; front.next(), None);
-    let text = format!(in alloc; "{}", InHex(domain))?;
+    if span.fits(memory.len()) {
+        Ok(span.domain(memory))
+    } else {
+        Err(Fail::from("fits"))
+    }
+}
+
+#[test]
+fn words_of_a_region_from_the_back(rt: HostRuntime) -> Result<(), Fail> {
+    let memory = [0x12u8, 0x34, 0x56];
+    let mut words = region(&memory)?.words();
+    for word in [0x06, 0x34, 0x10] {
+        assert_eq!(rt; words.next_back(), Some(word));
+    }
+    assert_eq!(rt; words.next_back(), None);
+    Ok(())
+}
+
+#[test]
+fn words_of_a_region_from_the_front(rt: HostRuntime) -> Result<(), Fail> {
+    let memory = [0x12u8, 0x34, 0x56];
+    let mut words = region(&memory)?.words();
+    assert_eq!(rt; words.len(), 3);
+    for word in [0x10, 0x34, 0x06] {
+        assert_eq!(rt; words.next(), Some(word));
+    }
+    assert_eq!(rt; words.next(), None);
+    let text = format!(in rt.alloc(); "{}", InHex(region(&memory)?))?;
     assert_eq!(rt; text.as_str(), "[10, 34, 6]");
     Ok(())
 }
@@ -40,20 +52,29 @@ fn words_of_a_region(rt: HostRuntime) -> Result<(), Fail> {
 #[test]
 fn parts_of_a_region(rt: HostRuntime) -> Result<(), Fail> {
     let memory = [0x12u8, 0x34, 0x56];
-    let span = BitSpan::<u8, Lsb0>::new(0, BitIdx::new(4)?, 16)?;
-    assert!(rt; span.fits(memory.len()));
-    let domain = span.domain(&memory);
+    let domain = region(&memory)?;
     assert!(rt; domain.enclave().is_none());
     let (head, body, tail) = domain.region().ok_or("region")?;
-    let (first, from, count) = head.ok_or("head")?.into_bitslice();
-    assert_eq!(rt; first, [0x12].as_slice());
-    assert_eq!(rt; from.into_inner(), 4);
-    assert_eq!(rt; count, 4);
     assert_eq!(rt; body, [0x34].as_slice());
+    let (words, from, count) = head.ok_or("head")?.into_bitslice();
+    assert_eq!(rt; words, [0x12].as_slice());
+    assert_eq!(rt; (from.into_inner(), count), (4, 4));
     let (from, upto) = tail.ok_or("tail")?.bounds();
-    assert_eq!(rt; from.into_inner(), 0);
-    assert_eq!(rt; upto.into_inner(), 4);
+    assert_eq!(rt; (from.into_inner(), upto.into_inner()), (0, 4));
     Ok(())
+}
+
+// What the enclave of a domain tells: its value, its mask and its bounds.
+fn enclave_numbers<O: BitOrder<u8>>(domain: Domain<u8, O>) -> Result<[u8; 4], Fail> {
+    let part = domain.enclave().ok_or("enclave")?;
+    let mask = part.mask().into_inner();
+    let (head, tail) = part.bounds();
+    Ok([
+        part.load_value(),
+        mask,
+        head.into_inner(),
+        tail.into_inner(),
+    ])
 }
 
 #[test]
@@ -61,21 +82,22 @@ fn enclave_is_read(rt: HostRuntime) -> Result<(), Fail> {
     let memory = [0xf0u8];
     let span = BitSpan::<u8, Lsb0>::new(0, BitIdx::new(2)?, 4)?;
     assert!(rt; span.fits(1));
-    let domain = span.domain(&memory);
-    assert!(rt; domain.region().is_none());
-    let part = domain.enclave().ok_or("enclave")?;
-    assert_eq!(rt; part.load_value(), 0x30);
-    assert_eq!(rt; part.mask().into_inner(), 0x3c);
-    assert_eq!(rt; part.head().into_inner(), 2);
-    assert_eq!(rt; part.tail().into_inner(), 6);
+    assert!(rt; span.domain(&memory).region().is_none());
+    assert_eq!(rt; enclave_numbers(span.domain(&memory))?, [0x30, 0x3c, 2, 6]);
     let reversed = BitSpan::<u8, Msb0>::new(0, BitIdx::new(2)?, 4)?;
     assert!(rt; reversed.fits(1));
-    let same = reversed.domain(&memory).enclave().ok_or("enclave")?;
-    assert_eq!(rt; same.load_value(), 0x30);
+    assert_eq!(rt;
+        enclave_numbers(reversed.domain(&memory))?,
+        [0x30, 0x3c, 2, 6]
+    );
+    Ok(())
+}
+
+#[test]
+fn no_bits_have_no_enclave(rt: HostRuntime) {
     let none = Domain::<u8, Lsb0>::default();
     assert!(rt; none.enclave().is_none());
     assert!(rt; none.region().is_some());
-    Ok(())
 }
 
 // Stores ones into indices 2 to 5 of a word, flips them, clears them and sets them. Answers what was

@@ -25,10 +25,8 @@ fn spans_without_bits(rt: HostRuntime) -> Result<(), Fail> {
     let highest = BitSpan::<u8, Lsb0>::new(9223372036854775807, BitIdx::new(0)?, 0)?;
     assert_eq!(rt; highest.elements(), 0);
     let empty = BitSpan::<u8, Msb0>::new(5, BitIdx::new(3)?, 0)?;
-    assert_eq!(rt; empty.elements(), 0);
-    assert_eq!(rt; empty.tail().into_inner(), 3);
-    assert!(rt; empty.fits(5));
-    assert!(rt; !empty.fits(4));
+    assert_eq!(rt; (empty.elements(), empty.tail().into_inner()), (0, 3));
+    assert_eq!(rt; (empty.fits(4), empty.fits(5)), (false, true));
     let none = BitSpan::<u8, Msb0>::default();
     assert!(rt; none == BitSpan::<u8, Msb0>::new(0, BitIdx::new(0)?, 0)?);
     assert!(rt; none != empty);
@@ -45,14 +43,16 @@ fn spans_have_words(rt: HostRuntime) -> Result<(), Fail> {
         (3, 1, 1, 4),
     ] {
         let span = BitSpan::<u8, Lsb0>::new(2, BitIdx::new(head)?, len)?;
-        assert_eq!(rt; span.elements(), elements);
-        assert_eq!(rt; span.tail().into_inner(), tail);
-        assert!(rt; span.fits(2 + elements));
-        assert!(rt; !span.fits(1 + elements));
+        assert_eq!(rt;
+            (span.elements(), span.tail().into_inner()),
+            (elements, tail)
+        );
+        assert_eq!(rt;
+            (span.fits(1 + elements), span.fits(2 + elements)),
+            (false, true)
+        );
         let (word, first, bits) = span.raw_parts();
-        assert_eq!(rt; word, 2);
-        assert_eq!(rt; first.into_inner(), head);
-        assert_eq!(rt; bits, len);
+        assert_eq!(rt; (word, first.into_inner(), bits), (2, head, len));
     }
     Ok(())
 }

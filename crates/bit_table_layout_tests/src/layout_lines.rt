@@ -9,14 +9,13 @@ fn reads_a_layout_line(rt: HostRuntime) -> Result<(), Fail> {
     let layout = Layout::parse(rt.alloc(), b" low\ta:u3  b_2:i64\r")?;
     assert_eq!(rt; layout.rule(), Rule::Low);
     assert_eq!(rt; layout.row_bits(), 67);
+    let rows = [("a", 3, false), ("b_2", 64, true)];
     let fields = layout.fields();
     assert_eq!(rt; fields.len(), 2);
-    assert_eq!(rt; fields[0].name(), "a");
-    assert_eq!(rt; fields[0].width(), 3);
-    assert!(rt; !fields[0].signed());
-    assert_eq!(rt; fields[1].name(), "b_2");
-    assert_eq!(rt; fields[1].width(), 64);
-    assert!(rt; fields[1].signed());
+    for place in 0..2 {
+        let field = &fields[place];
+        assert_eq!(rt; (field.name(), field.width(), field.signed()), rows[place]);
+    }
     Ok(())
 }
 

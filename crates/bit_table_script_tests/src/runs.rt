@@ -33,9 +33,8 @@ fn answers_however_it_is_cut(rt: HostRuntime) -> Result<(), Fail> {
         });
         let mut output = Output::new(Vec::new(rt.alloc()));
         let result = drive(rt.alloc(), &mut machine, &mut input, &mut output);
-        assert_eq!(rt; result, Ok(()));
-        assert!(rt; !input.failed());
-        assert!(rt; !output.failed());
+        let faults = (input.failed(), output.failed());
+        assert_eq!(rt; (result, faults), (Ok(()), (false, false)));
         assert!(rt; input.into_inner().rest.is_empty());
         assert_eq!(rt;
             output.into_inner().as_slice(),
@@ -86,9 +85,8 @@ fn a_read_fault_ends_it(rt: HostRuntime) -> Result<(), Fail> {
         });
         let mut output = Output::new(Vec::new(rt.alloc()));
         let result = drive(rt.alloc(), &mut echo(rt.alloc()), &mut input, &mut output);
-        assert_eq!(rt; result, Err(RunError::Read));
-        assert!(rt; input.failed());
-        assert!(rt; !output.failed());
+        let faults = (input.failed(), output.failed());
+        assert_eq!(rt; (result, faults), (Err(RunError::Read), (true, false)));
         assert_eq!(rt;
             output.into_inner().as_slice(),
             &ANSWER[..due(read)],
@@ -112,9 +110,9 @@ fn a_write_fault_ends_it(rt: HostRuntime) -> Result<(), Fail> {
                 });
                 let result = drive(rt.alloc(), &mut echo(rt.alloc()), &mut input, &mut output);
                 let is_cut = room < ANSWER.len();
-                assert_eq!(rt; result, if is_cut { Err(RunError::Write) } else { Ok(()) });
-                assert_eq!(rt; output.failed(), is_cut);
-                assert!(rt; !input.failed());
+                let wanted = if is_cut { Err(RunError::Write) } else { Ok(()) };
+                let faults = (input.failed(), output.failed());
+                assert_eq!(rt; (result, faults), (wanted, (false, is_cut)));
                 let Narrow {
                     taken,
                     most: _,
@@ -139,9 +137,8 @@ fn want_of_memory_ends_it(rt: HostRuntime) -> Result<(), Fail> {
         let mut input = Input::new(SCRIPT.as_slice());
         let mut output = Output::new(Vec::new(rt.alloc()));
         let result = drive(rt.alloc(), &mut machine, &mut input, &mut output);
-        assert_eq!(rt; result, Err(RunError::Memory));
-        assert!(rt; !input.failed());
-        assert!(rt; !output.failed());
+        let faults = (input.failed(), output.failed());
+        assert_eq!(rt; (result, faults), (Err(RunError::Memory), (false, false)));
         assert_eq!(rt;
             output.into_inner().as_slice(),
             &ANSWER[..due],

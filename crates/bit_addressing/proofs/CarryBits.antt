@@ -8,7 +8,8 @@ use Rattle.std.proofs.lemmas.Bool.Decides.{nat_tests}
 use Rattle.std.proofs.lemmas.List.{length-set, get_or-set_same, get_or-set_other}
 use Rattle.bit_addressing_memory.specs.Memory.{Copies, Swaps, Writes, entry, piece, touched}
 use Rattle.bit_addressing_span.specs.Span.{Extent}
-use Rattle.bit_addressing_memory.proofs.MemoryLemmas.{get_or-piece, length-piece, length-with_piece, with_piece_below, with_piece_inside}
+use Rattle.bit_addressing_memory.proofs.MemoryLemmas.{get_or-piece, length-piece, length-with_piece}
+use Rattle.bit_addressing_memory.proofs.MemoryLemmas.{with_piece_below, with_piece_inside}
 use Rattle.bit_addressing_memory.proofs.MemoryLemmas.{with_piece_above}
 use Rattle.bit_addressing.specs.Runs.{CarriesOut, IsOutside, span_bits, span_place}
 use Rattle.bit_addressing.specs.declared.command.SpanCommand.TheVariants.{Read, Replace, Swap, Copy}
@@ -30,7 +31,8 @@ carried_read b digit words span i p bit low fits small place is =
     let value : bit ≡ get_or (span_bits b digit words span) i false =
     is ∙ ap (entry b digit words) place ∙ sym (span_bit b digit words span i some small) in
     carried b digit words words span (Read i) (Bit bit) low fits (grind (arith, nat_tests)) (ap Bit value)
-    (length-span_bits b digit words span low fits) (λ j h. sym (span_bit b digit words span j some h)) (λ p _. refl) refl
+    (length-span_bits b digit words span low fits) (λ j h. sym (span_bit b digit words span j some h))
+    (λ p _. refl) refl
 
 pub carried_replace : {R : Type 0} (b : ℕ) (digit : R → ℕ → Bool) (before after : List R) (span : Extent) (i p : ℕ)
     (bit was : Bool) → span.head < b → span.word + touched b span.head span.len ≤ length before → i < span.len

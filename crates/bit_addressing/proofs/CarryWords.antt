@@ -62,7 +62,8 @@ same_below : (f g : ℕ → Bool) (n : ℕ) → ((i : ℕ) → i < n → f i ≡
     → map f (range_with_len 0 n) ≡ map g (range_with_len 0 n)
 same_below f g n same =
     let size = length-map-range_with_len f 0 n in
-    ext_get_or false (map f (range_with_len 0 n)) (map g (range_with_len 0 n)) (size ∙ sym (length-map-range_with_len g 0 n))
+    ext_get_or false (map f (range_with_len 0 n)) (map g (range_with_len 0 n))
+    (size ∙ sym (length-map-range_with_len g 0 n))
     (λ i h.
     let small : i < n = omega (arith, size) in
     get_or-map-range_with_len f 0 n i i false small (omega arith)
@@ -208,9 +209,11 @@ carried_word b digit before after span command k word stored now low fits within
 -- each of the writes of one word
 
 pub carried_store : {R : Type 0} (b : ℕ) (digit : R → ℕ → Bool) (before after : List R) (span : Extent) (k : ℕ)
-    (word was : R) → span.head < b → span.word + touched b span.head span.len ≤ length before → k < touched b span.head span.len
+    (word was : R) → span.head < b → span.word + touched b span.head span.len ≤ length before
+    → k < touched b span.head span.len
     → ReadsPart b digit before (span.word + k) was (part_from b span k) (part_upto b span k)
-    → StoresPart b digit before after (part_place b span k) (part_count b span k) (λ i. digit word (part_from b span k + i))
+    → StoresPart b digit before after (part_place b span k) (part_count b span k)
+    (λ i. digit word (part_from b span k + i))
     → CarriesOut b digit before after span (Store k word) (Word was)
 carried_store b digit before after span k word was low fits within reads stores =
     carried_word b digit before after span (Store k word) k was (λ i. digit word (part_from b span k + i))
@@ -225,7 +228,8 @@ carried_set b digit before after span k was low fits within reads stores =
     carried_word b digit before after span (Set k) k was (λ _. true) (λ _ _. true) low fits within
     refl refl refl reads stores (λ _ _. refl)
 
-pub carried_clear : {R : Type 0} (b : ℕ) (digit : R → ℕ → Bool) (before after : List R) (span : Extent) (k : ℕ) (was : R)
+pub carried_clear : {R : Type 0} (b : ℕ) (digit : R → ℕ → Bool) (before after : List R) (span : Extent) (k : ℕ)
+    (was : R)
     → span.head < b → span.word + touched b span.head span.len ≤ length before → k < touched b span.head span.len
     → ReadsPart b digit before (span.word + k) was (part_from b span k) (part_upto b span k)
     → StoresPart b digit before after (part_place b span k) (part_count b span k) (λ _. false)
@@ -234,7 +238,8 @@ carried_clear b digit before after span k was low fits within reads stores =
     carried_word b digit before after span (Clear k) k was (λ _. false) (λ _ _. false) low fits within
     refl refl refl reads stores (λ _ _. refl)
 
-pub carried_invert : {R : Type 0} (b : ℕ) (digit : R → ℕ → Bool) (before after : List R) (span : Extent) (k : ℕ) (was : R)
+pub carried_invert : {R : Type 0} (b : ℕ) (digit : R → ℕ → Bool) (before after : List R) (span : Extent) (k : ℕ)
+    (was : R)
     → span.head < b → span.word + touched b span.head span.len ≤ length before → k < touched b span.head span.len
     → ReadsPart b digit before (span.word + k) was (part_from b span k) (part_upto b span k)
     → StoresPart b digit before after (part_place b span k) (part_count b span k)

@@ -14,7 +14,8 @@ use Rattle.bit_addressing.specs.declared.command.SpanCommand.{SpanCommand}
 use Rattle.bit_addressing.specs.declared.command.SpanReply.{SpanReply}
 use Rattle.bit_addressing.specs.declared.command.SpanReply.TheVariants.{Refused}
 use Rattle.bit_addressing.specs.Own.{own_after, own_answer, own_answers, own_list, seen}
-use Rattle.bit_addressing.specs.Runs.{AreDisjoint, CarriesOut, IsInside, IsOutside, OrderOfSpansIsFree, Runs, commands_of, replies_of, span_at}
+use Rattle.bit_addressing.specs.Runs.{AreDisjoint, CarriesOut, IsInside, IsOutside, OrderOfSpansIsFree}
+use Rattle.bit_addressing.specs.Runs.{Runs, commands_of, replies_of, span_at}
 use Rattle.bit_addressing.specs.Runs.{span_bits, span_place}
 
 -- ---- lists with one more at their end

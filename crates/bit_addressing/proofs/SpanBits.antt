@@ -10,7 +10,8 @@ use Rattle.std.proofs.lemmas.List.{ext_get_or}
 use Rattle.bit_addressing_memory.specs.Memory.{entry, memory, touched}
 use Rattle.bit_addressing_memory.specs.Pointer.{LiesIn, Pointer, memory_place}
 use Rattle.bit_addressing_span.specs.Span.{Extent}
-use Rattle.bit_addressing_memory.proofs.MemoryLemmas.{entry_memory, get_or-piece, length-memory, length-piece, piece_none}
+use Rattle.bit_addressing_memory.proofs.MemoryLemmas.{entry_memory, get_or-piece, length-memory}
+use Rattle.bit_addressing_memory.proofs.MemoryLemmas.{length-piece, piece_none}
 use Rattle.bit_addressing_span.proofs.SpanLemmas.{touched-within}
 use Rattle.bit_addressing.specs.Own.{lies_in, own_after, own_answer, own_edit, own_reading, seen}
 use Rattle.bit_addressing.specs.Runs.{CarriesOut, IsOutside, span_bits, span_place}
@@ -56,7 +57,8 @@ length-span_bits b digit words span low fits = elim (cases_eq span.len 0) [
   | inl none ↦
       ap length (piece_none (memory b digit words) (span_place b span) span.len none) ∙ sym none
   | inr some ↦
-      let all : span_place b span + span.len ≤ length words * b = span_within b span (length words) low (omega arith) fits in
+      let all : span_place b span + span.len ≤ length words * b =
+      span_within b span (length words) low (omega arith) fits in
       length-piece (memory b digit words) (span_place b span) span.len (omega (arith, length-memory b digit words))
 ]
 

@@ -19,7 +19,8 @@ abbrev pub IsOwnFrom : {R : Type 0} → ℕ → (R → ℕ → Bool) → List R 
 IsOwnFrom b digit before k word n = (j : ℕ) → n ≤ j → j < b → digit word j ≡ entry b digit before (k * b + j)
 
 -- the words from low up to high are as the move leaves them, and the others are as before
-pub record Swept {R : Type 0} (b : ℕ) (digit : R → ℕ → Bool) (before now : List R) (source target len low high : ℕ) : Type 0 where
+pub record Swept {R : Type 0} (b : ℕ) (digit : R → ℕ → Bool) (before now : List R) (source target len low high : ℕ)
+    : Type 0 where
   pub written : (p : ℕ) → low * b ≤ p → p < high * b
       → entry b digit now p ≡ moved_bit b digit before source target len p
   pub below : (p : ℕ) → p < low * b → entry b digit now p ≡ entry b digit before p

@@ -8,7 +8,8 @@ use Rattle.std.specs.Prelude.{length, map, if◌then◌else◌, nat_le, nat_lt, 
 use Rattle.std.specs.List.{range_with_len}
 use Rattle.bit_addressing_memory.specs.Memory.{digits, piece, touched, with_piece}
 use Rattle.bit_addressing.specs.declared.command.SpanCommand.{SpanCommand}
-use Rattle.bit_addressing.specs.declared.command.SpanCommand.TheVariants.{Load, Store, Set, Clear, Invert, Read, Replace, Swap, Copy}
+use Rattle.bit_addressing.specs.declared.command.SpanCommand.TheVariants.{Load, Store, Set, Clear, Invert}
+use Rattle.bit_addressing.specs.declared.command.SpanCommand.TheVariants.{Read, Replace, Swap, Copy}
 use Rattle.bit_addressing.specs.declared.command.SpanReply.{SpanReply}
 use Rattle.bit_addressing.specs.declared.command.SpanReply.TheVariants.{Word, Bit, Done, Refused}
 
@@ -37,7 +38,8 @@ own_word b head bits k = map (own_digit b head bits k) (range_with_len 0 b)
 unfoldable pub over_word : ℕ → ℕ → ℕ → (ℕ → Bool → Bool) → List Bool → List Bool
 over_word b head k now bits =
     map
-    (λ i. if (head + i) / b == k then now ((head + i) % b) (slice_index_or bits i false) else slice_index_or bits i false)
+    (λ i. if (head + i) / b == k then now ((head + i) % b) (slice_index_or bits i false)
+    else slice_index_or bits i false)
     (range_with_len 0 (length bits))
 
 -- what a command with its numbers in range makes of the list

@@ -159,6 +159,14 @@ swaps_two b digit before now after p q bit other is_bit is_other wrote then = re
 
 pub ruleset between_steps = (copies_none, copies_more)
 
-pub ruleset within_steps = (copies_none, copies_more, not_yet_up, copies_none_down, copies_more_down, not_yet_down, copies_all_down)
+pub ruleset within_steps = (
+  copies_none,
+  copies_more,
+  not_yet_up,
+  copies_none_down,
+  copies_more_down,
+  not_yet_down,
+  copies_all_down,
+)
 
 pub ruleset swap_steps = (swaps_none, swaps_more)

@@ -7,10 +7,12 @@
 -- A list written over: `length-with_piece`, `with_piece_below`, `with_piece_inside`, `with_piece_above`.
 -- What a call leaves, as a list: `memory_written`, `memory_copied`.
 use Rattle.std.proofs.Common.{◌≡◌, ℕ, suc, ◌+◌, ◌-◌, ◌*◌, ◌/◌, ◌%◌, ◌<◌, ◌≤◌, Bool, false, List, [], ◌∷◌}
-use Rattle.std.proofs.Common.{◌++◌, length, map, take, drop, get_or, set, refl, sym, ap, ◌∙◌, inl, inr, arith, rules, length-append}
+use Rattle.std.proofs.Common.{◌++◌, length, map, take, drop, get_or, set, refl, sym}
+use Rattle.std.proofs.Common.{ap, ◌∙◌, inl, inr, arith, rules, length-append}
 use Rattle.std.proofs.Common.{length-set, add-one, get_or-set_same, get_or-set_other}
 use Rattle.std.proofs.lemmas.Bool.{cases_eq, cases_lt}
-use Rattle.std.proofs.lemmas.List.{append-nil, take-append-drop, length-take, length-take-le, length-drop, get_or_append_left, get_or-append_right}
+use Rattle.std.proofs.lemmas.List.{append-nil, take-append-drop, length-take, length-take-le}
+use Rattle.std.proofs.lemmas.List.{length-drop, get_or_append_left, get_or-append_right}
 use Rattle.std.proofs.lemmas.List.{take_at, drop_at, drop-drop, drop_more, take_all, same_lists, ext_get_or, places}
 use Rattle.std.proofs.lemmas.List.Concat.{flat_map-append}
 use Rattle.std.proofs.lemmas.List.FromFn.{length-map-range_with_len, get_or-map-range_with_len}
@@ -154,7 +156,8 @@ unfolding piece
 piece_all xs n e = take_all n xs (omega arith)
 
 join : {X : Type 0} (z : List X) (x y : ℕ) → take x z ++ take y (drop x z) ≡ take (x + y) z
-join z x y = same_lists (take x z ++ take y (drop x z)) (take (x + y) z) (search (rules, places)) (λ k d h. grind (arith, places))
+join z x y = same_lists (take x z ++ take y (drop x z)) (take (x + y) z) (search (rules, places))
+    (λ k d h. grind (arith, places))
 
 -- two pieces end to end
 pub piece_join : {X : Type 0} (xs : List X) (p x q y n : ℕ) → q ≡ p + x → n ≡ x + y

@@ -11,7 +11,8 @@ use Rattle.std.specs.Int.RustNames.{FitsSigned, unsigned_abs}
 use Rattle.bit_addressing_order.specs.Index.{IsOffset}
 use Rattle.bit_addressing_memory.proofs.PlaceLemmas.{word_within}
 use Rattle.bit_addressing_memory.specs.Pointer.{Pointer, StaysIn, whole_place}
-use Rattle.bit_addressing_memory.specs.PointerRange.{PointerRange, IsRange, bits_between, pointers-none, length-pointers, pointers_of, pointers-first}
+use Rattle.bit_addressing_memory.specs.PointerRange.{PointerRange, IsRange, bits_between, pointers-none}
+use Rattle.bit_addressing_memory.specs.PointerRange.{length-pointers, pointers_of, pointers-first}
 use Rattle.bit_addressing_memory.specs.PointerRange.{pointers-last, stays_here}
 
 -- words times bits, of a sum of word numbers
@@ -103,7 +104,8 @@ between_small x d b n e f few small =
     rw (between_value x d b n e f few small) (rw (unsigned_abs-mul d (pos b)) (omega arith))
 
 -- where a range has a bit, the places one on from its first pointer and one back from its end stay in
-pub first_stays : (b : ℕ) (s e : Pointer) → IsRange b s e → 0 < bits_between b s e → StaysIn b (whole_place b s +ℤ pos 1)
+pub first_stays : (b : ℕ) (s e : Pointer) → IsRange b s e → 0 < bits_between b s e
+    → StaysIn b (whole_place b s +ℤ pos 1)
 first_stays b s e is some =
     let here = stays_here b s.word s.bit is.bit is.word in
     let end = stays_here b e.word e.bit is.end_bit is.end_word in
@@ -147,7 +149,8 @@ pub gives_first : (b : ℕ) (range : PointerRange) (s e n p : Pointer) → IsRan
 gives_first b range s e n p is seen some same place =
     let len : bits_between b s e ≡ range.len = ap (λ (r : PointerRange). r.len) seen in
     let less : bits_between b s e ≡ bits_between b n e + 1 = omega (arith, ints, is.order) in
-    rw (← seen, same) (pointers-first b s.word s.bit (whole_place b n) (bits_between b s e) (bits_between b n e) is.bit less place)
+    rw (← seen, same) (pointers-first b s.word s.bit (whole_place b n) (bits_between b s e)
+    (bits_between b n e) is.bit less place)
 
 -- and its last after the others
 pub gives_last : (b : ℕ) (range : PointerRange) (s e l p : Pointer) → IsRange b s e
@@ -158,7 +161,8 @@ gives_last b range s e l p is seen some same place low =
     let len : bits_between b s e ≡ range.len = ap (λ (r : PointerRange). r.len) seen in
     let less : bits_between b s e ≡ bits_between b s l + 1 = omega (arith, ints, is.order) in
     let there : whole_place b l ≡ whole_place b s +ℤ pos (bits_between b s l) = omega (arith, ints, is.order) in
-    rw (← seen, same) (pointers-last b (whole_place b s) (bits_between b s e) (bits_between b s l) l.word l.bit low less there)
+    rw (← seen, same) (pointers-last b (whole_place b s) (bits_between b s e)
+    (bits_between b s l) l.word l.bit low less there)
 
 -- so there are fewer each time
 pub fewer_first : (b : ℕ) (range : PointerRange) (s e n : Pointer) → IsRange b s e

@@ -99,7 +99,8 @@ pub pointers-last : (b : ℕ) (z : ℤ) (n m : ℕ) (w : ℤ) (i : ℕ) → i < 
     → pointers b z n ≡ pointers b z m ++ record { word = w; bit = i } ∷ []
 pointers-last b z n m w i low e is =
     let more : n ≡ suc m = omega arith in
-    rw more (pointers-more b z m ∙ ap (λ p. pointers b z m ++ p ∷ []) (ap (pointer_at b) (sym is) ∙ pointer_at_place b w i low))
+    rw more (pointers-more b z m ∙ ap (λ p. pointers b z m ++ p ∷ [])
+    (ap (pointer_at b) (sym is) ∙ pointer_at_place b w i low))
 
 -- how many there are
 pub length-pointers : (b : ℕ) (z : ℤ) (n : ℕ) → length (pointers b z n) ≡ n

@@ -12,7 +12,8 @@ use Rattle.std.proofs.Math.Pow.{pow-lt}
 use Rattle.std.proofs.lemmas.Bool.{cases_eq, false≢true, eqb-true, eqb-false, eq-eqb, ne_eqb}
 use Rattle.std.proofs.lemmas.List.FromFn.{length-map-range_with_len, get_or-map-range_with_len, fill_by_all}
 use Rattle.std.proofs.lemmas.Nat.{or_lt, xor_lt}
-use Rattle.std.proofs.lemmas.Nat.Bits.{bit_at-lt, bit_at_or, bit_at_xor, bit_at-pow_same, bit_at-pow_other, same_from_bits, same_from_bits_below}
+use Rattle.std.proofs.lemmas.Nat.Bits.{bit_at-lt, bit_at_or, bit_at_xor, bit_at-pow_same, bit_at-pow_other}
+use Rattle.std.proofs.lemmas.Nat.Bits.{same_from_bits, same_from_bits_below}
 use Rattle.std.specs.Int.{bit_at}
 use Rattle.bit_addressing_order.proofs.Onto.{onto}
 use Rattle.bit_addressing_order.specs.Bits.{digit_at, with_digit, bits_in_order}

@@ -46,7 +46,8 @@ crowded (suc n) f within apart =
     let last = f (suc n) in
     let small : last ≤ n = omega (arith, within (suc n) (omega arith)) in
     let front : (i : ℕ) → i < suc n → f i ≤ n = λ i lt. omega (arith, within i (omega arith)) in
-    let kept : (i j : ℕ) → i < suc n → j < suc n → f i ≡ f j → i ≡ j = λ i j li lj. apart i j (omega arith) (omega arith) in
+    let kept : (i j : ℕ) → i < suc n → j < suc n → f i ≡ f j → i ≡ j =
+    λ i j li lj. apart i j (omega arith) (omega arith) in
     let missed : (i : ℕ) → i < suc n → f i ≢ last = λ i lt e.
     let same : i ≡ suc n = apart i (suc n) (omega arith) (omega arith) e in omega arith in
     crowded n (λ i. moved n last (f i))

@@ -6,7 +6,8 @@ use Rattle.std.proofs.Math.Pow.{pow-lt, pow_pos, pow_mono}
 use Rattle.std.proofs.lemmas.Nat.{pow-add}
 use Rattle.std.proofs.lemmas.Bool.{cases_lt}
 use Rattle.std.specs.Int.{bit_at}
-use Rattle.std.proofs.lemmas.Nat.Bits.{and_pow, ones_shr, bit_at-pow_same, bit_at-pow_other, bit_at-lt, bit_at_or, bit_at_and, bit_at_above}
+use Rattle.std.proofs.lemmas.Nat.Bits.{and_pow, ones_shr, bit_at-pow_same, bit_at-pow_other}
+use Rattle.std.proofs.lemmas.Nat.Bits.{bit_at-lt, bit_at_or, bit_at_and, bit_at_above}
 use Rattle.std.proofs.lemmas.Nat.Bits.{bit_at_lowest, bit_at-suc}
 use Rattle.bit_addressing_order.specs.Law.{IsSelector}
 

@@ -10,10 +10,12 @@ use Rattle.std.proofs.Math.Nat.{mul_assoc, mul_comm, mul-sub, mul-mod_left, mul-
 use Rattle.std.proofs.lemmas.Nat.{xor_lt, mul-mod, div-add-mod'}
 use Rattle.std.proofs.lemmas.Bool.{cases_lt, cases_eq, cases_order}
 use Rattle.std.specs.Int.{bit_at}
-use Rattle.std.proofs.lemmas.Nat.Bits.{bit_at_mask_inside, bit_at_mask_below, bit_at_mask_above, bit_at-pow_same, bit_at-pow_other, bit_at-lt}
+use Rattle.std.proofs.lemmas.Nat.Bits.{bit_at_mask_inside, bit_at_mask_below, bit_at_mask_above}
+use Rattle.std.proofs.lemmas.Nat.Bits.{bit_at-pow_same, bit_at-pow_other, bit_at-lt}
 use Rattle.std.proofs.lemmas.Nat.Bits.{bit_at_or, bit_at_and, bit_at_xor, bit_at-zero, same_from_bits}
 use Rattle.bit_addressing_register.specs.Registers.{IsRegisterSize}
-use Rattle.bit_addressing_order.specs.Law.{lower, upper, mask_from, selectors_from, masks_from, IsIndexBound, IsMaskOf, IsLawful}
+use Rattle.bit_addressing_order.specs.Law.{lower, upper, mask_from, selectors_from, masks_from}
+use Rattle.bit_addressing_order.specs.Law.{IsIndexBound, IsMaskOf, IsLawful}
 
 -- ---- masks made index by index
 
@@ -215,13 +217,15 @@ lawful_by_steps bits step start size odd = lawful_from_at bits (λ i. (step * i 
 -- ---- what the laws give
 
 -- the masks of two ranges of indices that don't meet have no digit in common
-pub masks_apart : (bits : ℕ) (at select : ℕ → ℕ) (mask : Option ℕ → Option ℕ → ℕ) (from upto later_from later_upto : Option ℕ)
+pub masks_apart : (bits : ℕ) (at select : ℕ → ℕ) (mask : Option ℕ → Option ℕ → ℕ)
+    (from upto later_from later_upto : Option ℕ)
     → IsLawful bits at select mask
     → IsIndexBound bits from → lower from ≤ upper bits upto → upper bits upto ≤ bits
     → IsIndexBound bits later_from → lower later_from ≤ upper bits later_upto → upper bits later_upto ≤ bits
     → upper bits upto ≤ lower later_from
     → bit_and (mask from upto) (mask later_from later_upto) ≡ 0
-masks_apart bits at select mask from upto later_from later_upto law bound order within later_bound later_order later_within apart =
+masks_apart bits at select mask from upto later_from later_upto law bound order within later_bound later_order
+    later_within apart =
     same_from_bits _ 0 (λ p.
     let first = law.masks from upto bound order within p in
     let second = law.masks later_from later_upto later_bound later_order later_within p in

@@ -109,7 +109,8 @@ pub stores_flipped : {R : Type 0} (b : ℕ) (digit : R → ℕ → Bool) (before
     → from + n ≤ b → place ≡ j * b + from
     → StoresPart b digit before after place n (λ i. not (entry b digit before (place + i)))
 stores_flipped b digit before after place n from j x value is turned e inside within at =
-    stores_as b digit before after place n (λ i. digit value (from + i)) (λ i. not (entry b digit before (place + i))) is
+    stores_as b digit before after place n (λ i. digit value (from + i))
+    (λ i. not (entry b digit before (place + i))) is
     (λ i small.
     let low : from + i < b = omega arith in
     let here : j * b + (from + i) ≡ place + i = omega arith in

@@ -1,5 +1,6 @@
 -- Numbers joined in a text: `joined-append`, `joined_more` and `cut_text`.
-use Rattle.std.proofs.Common.{◌≡◌, ℕ, Bool, true, false, List, [], ◌∷◌, ◌++◌, refl, sym, ap, ◌∙◌, append_assoc, append-nil}
+use Rattle.std.proofs.Common.{◌≡◌, ℕ, Bool, true, false, List, [], ◌∷◌, ◌++◌}
+use Rattle.std.proofs.Common.{refl, sym, ap, ◌∙◌, append_assoc, append-nil}
 use Rattle.bit_addressing_span.specs.Texts.{between, joined_text, begun_after}
 
 -- once begun, it stays so
@@ -14,7 +15,8 @@ joined-append text begun [] ys = refl
 joined-append text begun (n ∷ ns) ys =
     ap (λ rest. between begun ++ (text n ++ rest))
     (joined-append text true ns ys ∙ ap (λ b. joined_text text true ns ++ joined_text text b ys) (begun_on ns))
-    ∙ ap (λ rest. between begun ++ rest) (sym (append_assoc (text n) (joined_text text true ns) (joined_text text true ys)))
+    ∙ ap (λ rest. between begun ++ rest)
+    (sym (append_assoc (text n) (joined_text text true ns) (joined_text text true ys)))
     ∙ sym (append_assoc (between begun) (text n ++ joined_text text true ns) (joined_text text true ys))
 
 -- whether one is written, after two lists

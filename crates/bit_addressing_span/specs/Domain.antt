@@ -74,7 +74,8 @@ domain_region (Region head body tail) = Some (head, body, tail)
 
 -- the domain gives the bits of the span in these words, cut at the borders of words: it begins at the span's index,
 -- so its bits lie in its parts where they lie in these words
-pub record IsCutOf {R O : Type 0} {g : _} (b : ℕ) (digit : R → ℕ → Bool) (words : List R) (span : Extent) (d : Domain R O g)
+pub record IsCutOf {R O : Type 0} {g : _} (b : ℕ) (digit : R → ℕ → Bool) (words : List R) (span : Extent)
+    (d : Domain R O g)
     : Type 0 where
   pub bits : domain_bits b digit d ≡ piece (memory b digit words) (span.word * b + span.head) span.len
   pub start : 0 < span.len → domain_start d ≡ span.head

@@ -14,7 +14,8 @@ pub record IsMasked {R : Type 0} (b : ℕ) (digit : R → ℕ → Bool) (word re
   pub above : (i : ℕ) → upto ≤ i → i < b → digit result i ≡ false
 
 -- the result has these digits at the indices from `from` up to before `upto`, and each other digit is the word's
-pub record IsStored {R : Type 0} (b : ℕ) (digit : R → ℕ → Bool) (word result : R) (from upto : ℕ) (now : ℕ → Bool) : Type 0 where
+pub record IsStored {R : Type 0} (b : ℕ) (digit : R → ℕ → Bool) (word result : R) (from upto : ℕ) (now : ℕ → Bool)
+    : Type 0 where
   pub inside : (i : ℕ) → from ≤ i → i < upto → i < b → digit result i ≡ now i
   pub below : (i : ℕ) → i < from → i < b → digit result i ≡ digit word i
   pub above : (i : ℕ) → upto ≤ i → i < b → digit result i ≡ digit word i

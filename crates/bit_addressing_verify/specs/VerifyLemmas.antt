@@ -8,9 +8,11 @@ use Rattle.std.proofs.lemmas.Bool.{cases_lt, cases_eq, cases_order}
 use borrow.Author.Count.{below_more}
 use Rattle.bit_addressing_verify.specs.declared.fault.OrderFault.{OrderFault}
 use Rattle.bit_addressing_verify.specs.declared.fault.OrderFault.TheVariants.{Selector, Repeated, Mask}
-use Rattle.bit_addressing_verify.specs.Verify.{IsGoodIndex, AreGoodIndices, IsGoodMask, IsGoodRow, AreGoodRows, AreGoodEnds, AreGoodStarts}
+use Rattle.bit_addressing_verify.specs.Verify.{IsGoodIndex, AreGoodIndices, IsGoodMask, IsGoodRow}
+use Rattle.bit_addressing_verify.specs.Verify.{AreGoodRows, AreGoodEnds, AreGoodStarts}
 use Rattle.bit_addressing_verify.specs.Verify.{IsFirstFault}
-use Rattle.bit_addressing_verify.specs.VerifySteps.{AreWithin, IsIndexFault, IsRowFault, IsPairFault, IsEndFault, IsStartFault}
+use Rattle.bit_addressing_verify.specs.VerifySteps.{AreWithin, IsIndexFault, IsRowFault, IsPairFault}
+use Rattle.bit_addressing_verify.specs.VerifySteps.{IsEndFault, IsStartFault}
 use Rattle.bit_addressing_order.specs.Digits.{and_selector}
 use Rattle.bit_addressing_order.specs.OrderLaws.{IsMaskOf-mask_from, mask_from_is}
 
@@ -19,7 +21,8 @@ pub new_position : (at : ℕ → ℕ) (i met s : ℕ) → met ≡ mask_from at 0
     → (j : ℕ) → j < i → at j ≡ at i → ⊥
 new_position at i met s m e none j lt same =
     let off : bit_at met (at i) ≡ 0 = (and_selector met (at i) s e).0 none in
-    let on : bit_at (mask_from at 0 i) (at i) ≡ 1 = (mask_from_is at 0 i (at i)).1 (j, omega arith, omega arith, same) in
+    let on : bit_at (mask_from at 0 i) (at i) ≡ 1 =
+    (mask_from_is at 0 i (at i)).1 (j, omega arith, omega arith, same) in
     omega (arith, ap (λ n. bit_at n (at i)) m)
 
 -- the position of i is among those of the indices below
@@ -27,11 +30,13 @@ pub old_position : (at : ℕ → ℕ) (i met s : ℕ) → met ≡ mask_from at 0
     → (j : ℕ) × (j < i) × (at j ≡ at i)
 old_position at i met s m e some =
     let on : bit_at met (at i) ≡ 1 =
-    let off : bit_at met (at i) ≡ 0 → ⊥ = λ z. some ((and_selector met (at i) s e).1 z) in omega (arith, bit_at-lt met (at i)) in
+    let off : bit_at met (at i) ≡ 0 → ⊥ = λ z. some ((and_selector met (at i) s e).1 z) in
+    omega (arith, bit_at-lt met (at i)) in
     let w = (mask_from_is at 0 i (at i)).0 (ap (λ n. bit_at n (at i)) (sym m) ∙ on) in
     (w.0, omega arith, w.3)
 
-pub more_met : (at : ℕ → ℕ) (i met s : ℕ) → met ≡ mask_from at 0 i → s ≡ 2 ^ at i → bit_or met s ≡ mask_from at 0 (i + 1)
+pub more_met : (at : ℕ → ℕ) (i met s : ℕ) → met ≡ mask_from at 0 i → s ≡ 2 ^ at i
+    → bit_or met s ≡ mask_from at 0 (i + 1)
 more_met at i met s m e =
     let last : i ≡ 0 + i = omega arith in
     let more : suc i ≡ i + 1 = omega arith in
@@ -40,13 +45,15 @@ more_met at i met s m e =
 pub ruleset index_steps = (new_position, old_position, more_met)
 
 -- a fault of one index is the first where the indices below are good
-pub first_of_index : {R : Type 0} (bits : ℕ) (at select : ℕ → ℕ) (mask : Option ℕ → Option ℕ → ℕ) (i : ℕ) (e : OrderFault R)
+pub first_of_index : {R : Type 0} (bits : ℕ) (at select : ℕ → ℕ) (mask : Option ℕ → Option ℕ → ℕ) (i : ℕ)
+    (e : OrderFault R)
     → i < bits → AreGoodIndices at select i → IsIndexFault at select i e → IsFirstFault bits at select mask e
 first_of_index bits at select mask i (Selector k) lt good h = rw h.0 (lt, good, h.1)
 first_of_index bits at select mask i (Repeated k) lt good h = rw h.0 (lt, good, h.1, h.2)
 first_of_index bits at select mask i (Mask f u) lt good h = absurd h
 
-pub good_more : (at select : ℕ → ℕ) (i : ℕ) → AreGoodIndices at select i → IsGoodIndex at select i → AreGoodIndices at select (i + 1)
+pub good_more : (at select : ℕ → ℕ) (i : ℕ) → AreGoodIndices at select i → IsGoodIndex at select i
+    → AreGoodIndices at select (i + 1)
 good_more at select i good here = below_more (IsGoodIndex at select) i good here
 
 -- a mask is right exactly where its number is that of the mask made one index at a time
@@ -105,7 +112,8 @@ pair_of_row bits at mask f (Selector k) lt good h = absurd h
 pair_of_row bits at mask f (Repeated k) lt good h = absurd h
 
 any_mask : (bits : ℕ) (at : ℕ → ℕ) (mask : Option ℕ → Option ℕ → ℕ)
-    → AreGoodRows bits at mask bits → AreGoodEnds bits at mask (bits + 1) → AreGoodStarts bits at mask bits → IsGoodMask bits at mask None None
+    → AreGoodRows bits at mask bits → AreGoodEnds bits at mask (bits + 1) → AreGoodStarts bits at mask bits
+    → IsGoodMask bits at mask None None
     → (from upto : Option ℕ) → IsIndexBound bits from → lower from ≤ upper bits upto → upper bits upto ≤ bits
     → IsGoodMask bits at mask from upto
 any_mask bits at mask rows ends starts whole None None i le small = whole
@@ -114,7 +122,8 @@ any_mask bits at mask rows ends starts whole (Some f) None i le small = starts f
 any_mask bits at mask rows ends starts whole (Some f) (Some u) i le small = rows f i u le (omega arith)
 
 module _ {R : Type 0} (bits : ℕ) (at select : ℕ → ℕ) (mask : Option ℕ → Option ℕ → ℕ) where
-  pub first_of_pair : (e : OrderFault R) → AreGoodIndices at select bits → IsPairFault bits at mask e → IsFirstFault bits at select mask e
+  pub first_of_pair : (e : OrderFault R) → AreGoodIndices at select bits → IsPairFault bits at mask e
+      → IsFirstFault bits at select mask e
   first_of_pair (Mask (Some f) (Some u)) good h = (good, h.0, h.1, h.2, h.3, h.4, h.5)
   first_of_pair (Mask (Some f) None) good h = absurd h
   first_of_pair (Mask None u) good h = absurd h
@@ -139,14 +148,16 @@ module _ {R : Type 0} (bits : ℕ) (at select : ℕ → ℕ) (mask : Option ℕ 
 
   pub not_lawful : (e : OrderFault R) → IsFirstFault bits at select mask e → IsLawful bits at select mask → ⊥
   not_lawful (Selector i) h law = h.2 (law.selects i h.0)
-  not_lawful (Repeated i) h law = let w = h.3 in let same : w.0 ≡ i = law.one_to_one w.0 i (omega arith) h.0 w.2 in omega (arith, same)
+  not_lawful (Repeated i) h law = let w = h.3 in
+      let same : w.0 ≡ i = law.one_to_one w.0 i (omega arith) h.0 w.2 in omega (arith, same)
   not_lawful (Mask (Some f) (Some u)) h law = h.6 (law.masks (Some f) (Some u) h.1 h.2 h.3)
   not_lawful (Mask None (Some u)) h law = h.4 (law.masks None (Some u) tt (omega arith) h.2)
   not_lawful (Mask (Some f) None) h law = h.5 (law.masks (Some f) None h.3 (omega arith) (omega arith))
   not_lawful (Mask None None) h law = h.4 (law.masks None None tt (omega arith) (omega arith))
 
 pub lawful_from_checks : (bits : ℕ) (at select : ℕ → ℕ) (mask : Option ℕ → Option ℕ → ℕ)
-    → AreWithin bits at bits → AreGoodIndices at select bits → AreGoodRows bits at mask bits → AreGoodEnds bits at mask (bits + 1)
+    → AreWithin bits at bits → AreGoodIndices at select bits → AreGoodRows bits at mask bits
+    → AreGoodEnds bits at mask (bits + 1)
     → AreGoodStarts bits at mask bits → IsGoodMask bits at mask None None → IsLawful bits at select mask
 lawful_from_checks bits at select mask within good rows ends starts whole = record {
   in_range = within;

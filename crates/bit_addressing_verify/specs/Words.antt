@@ -39,10 +39,12 @@ IsFirstWordFault of_u8 of_u16 of_u32 of_u64 of_usize (U32 fault) =
 IsFirstWordFault of_u8 of_u16 of_u32 of_u64 of_usize (U64 fault) =
     IsLawfulThere of_u8 × IsLawfulThere of_u16 × IsLawfulThere of_u32 × IsFirstFaultThere of_u64 fault
 IsFirstWordFault of_u8 of_u16 of_u32 of_u64 of_usize (Usize fault) =
-    IsLawfulThere of_u8 × IsLawfulThere of_u16 × IsLawfulThere of_u32 × IsLawfulThere of_u64 × IsFirstFaultThere of_usize fault
+    IsLawfulThere of_u8 × IsLawfulThere of_u16 × IsLawfulThere of_u32 × IsLawfulThere of_u64
+    × IsFirstFaultThere of_usize fault
 
 -- the answer is `Ok` exactly where the candidate is lawful at each register, else its first fault
-abbrev pub VerifiesEach : Result (Unit {0}) WordFault → Candidate → Candidate → Candidate → Candidate → Candidate → Type 0
+abbrev pub VerifiesEach : Result (Unit {0}) WordFault → Candidate → Candidate → Candidate → Candidate → Candidate
+    → Type 0
 VerifiesEach answer of_u8 of_u16 of_u32 of_u64 of_usize =
     (IsOk answer ↔ AreLawful of_u8 of_u16 of_u32 of_u64 of_usize)
     × IfErr answer (IsFirstWordFault of_u8 of_u16 of_u32 of_u64 of_usize)

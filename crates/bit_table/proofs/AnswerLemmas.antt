@@ -67,6 +67,7 @@ pub refused_text : (t : TableShape) (line : List ℕ) (c : Cause) → spelled_ca
     → refusal_text c ≡ answer_by (spelled_cause t (command_of t.layout line)) (Some t) line
 refused_text t line c h = ap (λ o. answer_by o (Some t) line) (sym h)
 
-pub refused_state : (t new : TableShape) (line : List ℕ) (c : Cause) → spelled_cause t (command_of t.layout line) ≡ Some c → new ≡ t
+pub refused_state : (t new : TableShape) (line : List ℕ) (c : Cause)
+    → spelled_cause t (command_of t.layout line) ≡ Some c → new ≡ t
     → state_with new ≡ after_by (spelled_cause t (command_of t.layout line)) (state_with t) line
 refused_state t new line c h e = ap state_with e ∙ ap (λ o. after_by o (state_with t) line) (sym h)

@@ -1,6 +1,7 @@
 -- A byte of eight bits that are read one by one.
 use Rattle.std.proofs.Common.{◌≡◌, ℕ, ◌+◌, ◌-◌, ◌*◌, ◌^◌, ◌<◌, ◌≤◌, zero, suc, Bool, false, cond, List, []}
-use Rattle.std.proofs.Common.{◌∷◌, ◌++◌, length, get_or, take, drop, map, reverse, replicate, refl, sym, ap, ◌∙◌, arith, pow_mono}
+use Rattle.std.proofs.Common.{◌∷◌, ◌++◌, length, get_or, take, drop, map, reverse}
+use Rattle.std.proofs.Common.{replicate, refl, sym, ap, ◌∙◌, arith, pow_mono}
 use Rattle.std.proofs.Common.{add-one, length-append, length-take, get_or-take, get_or-drop}
 use Rattle.std.specs.List.{range_with_len}
 use Rattle.std.proofs.lemmas.List.{length-reverse, length-replicate, reverse-append, replicate_more}

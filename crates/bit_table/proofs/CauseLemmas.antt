@@ -35,10 +35,12 @@ not-false : (b : Bool) → not b ≡ false → b ≡ true
 not-false true e = refl
 not-false false e = cc
 
-pub is_accepted : (l : LayoutShape) (n p : ℕ) (vs : List ℤ) → command_cause l n false (Insert p vs) ≡ None → IsAccepted l n p vs
+pub is_accepted : (l : LayoutShape) (n p : ℕ) (vs : List ℤ) → command_cause l n false (Insert p vs) ≡ None
+    → IsAccepted l n p vs
 unfolding command_cause
 is_accepted l n p vs e =
-    let h = no_cause (not (length vs == length l.fields)) (nat_lt n p) (not (take_all l.fields vs)) (nat_lt MAX_BITS ((n + 1) * row_width l.fields)) e in
+    let h = no_cause (not (length vs == length l.fields)) (nat_lt n p) (not (take_all l.fields vs))
+    (nat_lt MAX_BITS ((n + 1) * row_width l.fields)) e in
     let same : (length vs == length l.fields) ≡ true = not-false _ h.0 in
     let low : nat_lt n p ≡ false = h.1 in
     let fits : nat_lt MAX_BITS ((n + 1) * row_width l.fields) ≡ false = h.3 in

@@ -1,5 +1,6 @@
 -- A command that is kept cut off is refused, edits and answers as the one that its words spell.
-use Rattle.std.proofs.Common.{◌≡◌, ◌-◌, ◌*◌, ◌^◌, ◌<◌, ◌≤◌, length, map, Option, Some, None, Ok, Err, Result, MatchOption}
+use Rattle.std.proofs.Common.{◌≡◌, ◌-◌, ◌*◌, ◌^◌, ◌<◌, ◌≤◌, length, map, Option}
+use Rattle.std.proofs.Common.{Some, None, Ok, Err, Result, MatchOption}
 use Rattle.std.proofs.Common.{IsOkUnless, arith, refl, subst}
 use Rattle.std.specs.Prelude.{option_map}
 use Rattle.bit_table_layout.specs.Layouts.{row_width}
@@ -11,7 +12,8 @@ use Rattle.bit_table_script.specs.declared.command.Command.{Command}
 use Rattle.bit_table_script.specs.declared.command.Command.TheVariants.{Insert, Image}
 use Rattle.bit_table_script.specs.declared.reply.Reply.{Reply}
 use Rattle.bit_table_script.specs.Commands.{cut_off, cut_place, cut_value}
-use Rattle.bit_table_script.proofs.CallerLemmas.{take_all-cut_value, cut_value-all_taken, length-cut_value, cut_place-below, cut_place-within}
+use Rattle.bit_table_script.proofs.CallerLemmas.{take_all-cut_value, cut_value-all_taken, length-cut_value}
+use Rattle.bit_table_script.proofs.CallerLemmas.{cut_place-below, cut_place-within}
 use Rattle.bit_table.specs.Tables.{TableShape, IsTable}
 use Rattle.bit_table.specs.Causes.{command_cause, cause_in}
 use Rattle.bit_table.proofs.CauseLemmas.{is_accepted}

@@ -1,6 +1,7 @@
 -- The bits of one field and of a row of fields, added one by one.
 use Rattle.std.proofs.Common.{◌≡◌, ℕ, zero, suc, ◌+◌, ◌-◌, ◌<◌, ◌≤◌, Bool, false, List, [], ◌∷◌, ◌++◌, length}
-use Rattle.std.proofs.Common.{get_or, take, reverse, ℤ, sym, refl, ap, ap₂, ◌∙◌, arith, length-append, length-take, append_assoc}
+use Rattle.std.proofs.Common.{get_or, take, reverse, ℤ, sym, refl, ap, ap₂, ◌∙◌}
+use Rattle.std.proofs.Common.{arith, length-append, length-take, append_assoc}
 use Rattle.std.specs.List.{range_with_len}
 use Rattle.std.proofs.lemmas.List.{take_more, take_all, get_or-map, get_or-reverse, length-reverse, append-nil}
 use Rattle.std.proofs.lemmas.List.FromFn.{length-range_with_len, get_or-range_with_len, get_or-map-range_with_len}

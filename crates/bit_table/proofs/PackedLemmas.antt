@@ -1,10 +1,12 @@
 -- Bits that lie packed in bytes.
 use Rattle.std.proofs.Common.{◌≡◌, ◌≢◌, ℕ, ◌+◌, ◌-◌, ◌/◌, ◌%◌, ◌^◌, ◌<◌, ◌≤◌, ◌==◌, nat_lt, Bool}
-use Rattle.std.proofs.Common.{true, false, cond, List, [], ◌∷◌, ◌++◌, length, get_or, take, drop, set, refl, sym, ap, ◌∙◌, inl, inr}
+use Rattle.std.proofs.Common.{true, false, cond, List, [], ◌∷◌, ◌++◌, length, get_or}
+use Rattle.std.proofs.Common.{take, drop, set, refl, sym, ap, ◌∙◌, inl, inr}
 use Rattle.std.proofs.Common.{arith, slice_index, length-drop, get_or-drop}
 use Rattle.std.specs.Int.{bit_at}
 use Rattle.std.proofs.lemmas.Grind.{common_steps}
-use Rattle.std.proofs.lemmas.List.FromFn.{length-map-range_with_len, get_or-map-range_with_len, map-range_with_len_more, fill_by_all}
+use Rattle.std.proofs.lemmas.List.FromFn.{length-map-range_with_len, get_or-map-range_with_len}
+use Rattle.std.proofs.lemmas.List.FromFn.{map-range_with_len_more, fill_by_all}
 use Rattle.std.specs.Prelude.{bit_and}
 use Rattle.std.proofs.lemmas.List.{get_or_append_left, get_or_past, get_or_read, take_more}
 use Rattle.std.proofs.lemmas.Bool.{cases_eq}

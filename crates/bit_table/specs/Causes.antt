@@ -1,5 +1,6 @@
 -- Which cause refuses a line.
-use Rattle.std.specs.Prelude.{ℕ, ◌+◌, ◌*◌, ◌==◌, not, nat_lt, is_some, false, Bool, List, [], ◌∷◌, length, Option, Some, None}
+use Rattle.std.specs.Prelude.{ℕ, ◌+◌, ◌*◌, ◌==◌, not, nat_lt, is_some, false, Bool}
+use Rattle.std.specs.Prelude.{List, [], ◌∷◌, length, Option, Some, None}
 use Rattle.std.specs.Prelude.{if◌then◌else◌}
 use Rattle.bit_table_layout.specs.declared.layout.TheConstants.{MAX_BITS}
 use Rattle.bit_table_layout.specs.Layouts.{LayoutShape, row_width, layout_of}

@@ -1,5 +1,6 @@
 -- The answer to a script.
-use Rattle.std.specs.Prelude.{ℕ, ◌==◌, not, Bool, List, [], ◌∷◌, ◌++◌, length, codes, Option, Some, None, option_map, if◌then◌else◌}
+use Rattle.std.specs.Prelude.{ℕ, ◌==◌, not, Bool, List, [], ◌∷◌, ◌++◌, length, codes}
+use Rattle.std.specs.Prelude.{Option, Some, None, option_map, if◌then◌else◌}
 use Rattle.bit_table_layout.specs.Words.{words}
 use Rattle.bit_table_layout.specs.Layouts.{layout_of}
 use Rattle.bit_table_script.specs.declared.cause.Cause.{Cause}

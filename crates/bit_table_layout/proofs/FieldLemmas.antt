@@ -3,7 +3,8 @@ use Rattle.std.proofs.Common.{◌≡◌, inl, inr, ◌||◌, ℕ, ◌+◌, ◌-�
 use Rattle.std.proofs.Common.{◌∷◌, length, take, drop, get_or, Option, Some, None, arith, refl, sym, ap, ◌∙◌, subst}
 use Rattle.std.specs.List.{position_or_len}
 use Rattle.std.proofs.lemmas.List.{take_all, drop_all}
-use Rattle.std.proofs.lemmas.Bool.{cases_Bool, cond-false, cond-true, and_from, and_parts, le-leb, leb-true, eqb-false, not-true}
+use Rattle.std.proofs.lemmas.Bool.{cases_Bool, cond-false, cond-true, and_from, and_parts}
+use Rattle.std.proofs.lemmas.Bool.{le-leb, leb-true, eqb-false, not-true}
 use Rattle.bit_table_layout.proofs.NumeralLemmas.{number-positive}
 use Rattle.bit_table_layout.specs.Numerals.{number_of}
 use Rattle.bit_table_layout.specs.Fields.{FieldShape, is_name, is_width, name_part, kind_part, field_from, field_of}

@@ -1,13 +1,17 @@
 -- The bytes of bits, and the numbers that an image tells.
 use Rattle.std.proofs.Common.{◌≡◌, ◌≢◌, inl, inr, ℕ, zero, suc, ◌+◌, ◌-◌, ◌*◌, ◌/◌, ◌%◌, ◌^◌, ◌<◌}
-use Rattle.std.proofs.Common.{◌≤◌, min, ltb, Bool, true, false, cond, List, [], ◌∷◌, ◌++◌, length, get_or, take, drop, reverse}
-use Rattle.std.proofs.Common.{replicate, refl, sym, ap, ap₂, ◌∙◌, arith, length-append, length-take, length-drop, get_or-take, get_or-drop}
+use Rattle.std.proofs.Common.{◌≤◌, min, ltb, Bool, true, false, cond, List, []}
+use Rattle.std.proofs.Common.{◌∷◌, ◌++◌, length, get_or, take, drop, reverse}
+use Rattle.std.proofs.Common.{replicate, refl, sym, ap, ap₂, ◌∙◌, arith, length-append}
+use Rattle.std.proofs.Common.{length-take, length-drop, get_or-take, get_or-drop}
 use Rattle.std.proofs.Common.{ext_get_or, pow_mono, mul-le-mul_left, add-mul}
 use Rattle.std.specs.Prelude.{◌==◌, decimal}
 use Rattle.std.specs.List.{flat_map}
 use Rattle.std.specs.Fmt.{digits as digits_in_base, digits_onto, digit_glyph}
-use Rattle.std.proofs.lemmas.Bool.{cases_lt, cases_eq, cases_order, cond-true, cond-false, cond_both, eq-eqb, ne_eqb, lt-ltb}
-use Rattle.std.proofs.lemmas.List.{append_cancel_left, reverse-reverse, length-reverse, length-replicate, length-map, get_or_past, same_from_push}
+use Rattle.std.proofs.lemmas.Bool.{cases_lt, cases_eq, cases_order, cond-true, cond-false}
+use Rattle.std.proofs.lemmas.Bool.{cond_both, eq-eqb, ne_eqb, lt-ltb}
+use Rattle.std.proofs.lemmas.List.{append_cancel_left, reverse-reverse, length-reverse, length-replicate}
+use Rattle.std.proofs.lemmas.List.{length-map, get_or_past, same_from_push}
 use Rattle.std.proofs.lemmas.List.{append_assoc, nil_from_length}
 use Rattle.std.proofs.lemmas.List.FromFn.{length-map-range_with_len, get_or-map-range_with_len}
 use Rattle.hex.specs.Hex.{encode_lower, decode_of, IsBytes}
@@ -17,7 +21,8 @@ use Rattle.bit_table_layout.specs.declared.layout.Rule.TheVariants.{Low, High}
 use Rattle.bit_table_layout.specs.Layouts.{LayoutShape, is_layout, row_width}
 use Rattle.bit_table_layout.specs.Rows.{Row, are_rows, row_bits, numbers_bits, table_bits, all_numbers}
 use Rattle.bit_table_layout.specs.Readings.{rows_from}
-use Rattle.bit_table_layout.specs.Images.{byte_of, bytes_of, image_bytes, image_line, line_of_rows, HasOnlyNumbers, ImagesTellNumbers}
+use Rattle.bit_table_layout.specs.Images.{byte_of, bytes_of, image_bytes, image_line, line_of_rows}
+use Rattle.bit_table_layout.specs.Images.{HasOnlyNumbers, ImagesTellNumbers}
 use Rattle.bit_table_layout.proofs.DigitLemmas.{binary-lt, binary-same}
 use Rattle.bit_table_layout.proofs.RowLemmas.{some_row_bits, length-table_bits, rows_from-table_bits}
 

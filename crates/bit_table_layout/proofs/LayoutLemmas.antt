@@ -9,7 +9,8 @@ use Rattle.std.proofs.lemmas.List.Sums.{sum_by-cons}
 use Rattle.bit_table_layout.specs.declared.layout.Rule.{Rule}
 use Rattle.bit_table_layout.specs.Words.{words}
 use Rattle.bit_table_layout.specs.Fields.{FieldShape, name_part, field_of}
-use Rattle.bit_table_layout.specs.Layouts.{row_width, has_name, names_differ, is_field, make_layout, fields_of, rule_of, layout_from, layout_in}
+use Rattle.bit_table_layout.specs.Layouts.{row_width, has_name, names_differ, is_field, make_layout}
+use Rattle.bit_table_layout.specs.Layouts.{fields_of, rule_of, layout_from, layout_in}
 use Rattle.bit_table_layout.specs.Layouts.{layout_of}
 use Rattle.bit_table_layout.specs.Steps.{names_word, fields_fit, words_fit}
 use Rattle.bit_table_layout.proofs.FieldLemmas.{IsFieldOf-from_Some}

@@ -1,7 +1,9 @@
 -- Numbers and rows as bits give them back.
 use Rattle.std.proofs.Common.{◌≡◌, ◌⊎◌, inl, inr, ℕ, suc, ◌+◌, ◌-◌, ◌*◌, ◌^◌, ◌<◌, ◌≤◌, Bool, true, false}
-use Rattle.std.proofs.Common.{◌&&◌, List, [], ◌∷◌, ◌++◌, length, map, reverse, take, drop, ℤ, pos, negsuc, ◌-ℤ◌, refl, sym, ap}
-use Rattle.std.proofs.Common.{ap₂, ◌∙◌, arith, length-append, length-drop, length-take-le, take_at, drop_at, take-append-drop, le-leb, lt-ltb}
+use Rattle.std.proofs.Common.{◌&&◌, List, [], ◌∷◌, ◌++◌, length, map, reverse}
+use Rattle.std.proofs.Common.{take, drop, ℤ, pos, negsuc, ◌-ℤ◌, refl, sym, ap}
+use Rattle.std.proofs.Common.{ap₂, ◌∙◌, arith, length-append, length-drop, length-take-le}
+use Rattle.std.proofs.Common.{take_at, drop_at, take-append-drop, le-leb, lt-ltb}
 use Rattle.std.proofs.Common.{ltb-true, leb-true}
 use Rattle.std.specs.Prelude.{nat_le, int_le, int_lt}
 use Rattle.std.specs.List.{list_all, range_with_len}
@@ -18,7 +20,8 @@ use Rattle.bit_table_layout.specs.Fields.{FieldShape, least, limit, takes, is_na
 use Rattle.bit_table_layout.specs.Layouts.{is_field, row_width}
 use Rattle.bit_table_layout.specs.Rows.{take_all, field_bits, numbers_bits}
 use Rattle.bit_table_layout.specs.Readings.{lowest_first, number_from_digits, number_from, numbers_from}
-use Rattle.bit_table_layout.proofs.DigitLemmas.{digits, binary-lt, binary-digits-pos, binary-digits-negsuc, digits-binary, digits-lacking}
+use Rattle.bit_table_layout.proofs.DigitLemmas.{digits, binary-lt, binary-digits-pos, binary-digits-negsuc}
+use Rattle.bit_table_layout.proofs.DigitLemmas.{digits-binary, digits-lacking}
 
 -- ---- one field
 

@@ -1,15 +1,18 @@
 -- Rows as bits give them back.
 use Rattle.std.proofs.Common.{◌≡◌, ℕ, zero, suc, ◌+◌, ◌-◌, ◌*◌, ◌≤◌, Bool, true, ◌&&◌, List, [], ◌∷◌, ◌++◌}
-use Rattle.std.proofs.Common.{length, take, drop, ℤ, refl, sym, ap, ap₂, ◌∙◌, arith, length-append, length-drop, length-take-le, take_at}
+use Rattle.std.proofs.Common.{length, take, drop, ℤ, refl, sym, ap, ap₂, ◌∙◌, arith}
+use Rattle.std.proofs.Common.{length-append, length-drop, length-take-le, take_at}
 use Rattle.std.proofs.Common.{drop_at, take-append-drop, mul-le-mul_right, leb-true}
 use Rattle.std.specs.Prelude.{nat_le}
 use Rattle.std.specs.List.{list_all}
 use Rattle.std.proofs.lemmas.Bool.{and_parts, and_from}
 use Rattle.std.proofs.lemmas.List.{nil_from_length, take-append-le, drop-append-le, take_all}
 use Rattle.bit_table_layout.specs.Layouts.{LayoutShape, is_field, is_layout, names_differ, row_width}
-use Rattle.bit_table_layout.specs.Rows.{Row, new_row, take_all as takes_all, is_row, are_rows, numbers_bits, row_bits, table_bits, all_numbers}
+use Rattle.bit_table_layout.specs.Rows.{Row, new_row, take_all as takes_all, is_row, are_rows}
+use Rattle.bit_table_layout.specs.Rows.{numbers_bits, row_bits, table_bits, all_numbers}
 use Rattle.bit_table_layout.specs.Readings.{numbers_from, rows_from}
-use Rattle.bit_table_layout.proofs.ReadingLemmas.{length-numbers_bits, numbers_from-numbers_bits, numbers_bits-numbers_from, take_all-numbers_from}
+use Rattle.bit_table_layout.proofs.ReadingLemmas.{length-numbers_bits, numbers_from-numbers_bits}
+use Rattle.bit_table_layout.proofs.ReadingLemmas.{numbers_bits-numbers_from, take_all-numbers_from}
 
 -- ---- layouts
 

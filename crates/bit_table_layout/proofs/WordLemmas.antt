@@ -8,7 +8,8 @@ use Rattle.std.proofs.lemmas.List.Sums.{prefix_len-le-length, passes_at_first}
 use Rattle.std.proofs.lemmas.Bool.{cases_Bool, cond-true, not-true}
 use Rattle.std.proofs.lemmas.Bool.Decides.{nat_tests}
 use Rattle.std.proofs.lemmas.List.Splits.{slice_split-cons_yes, slice_split-cons_no}
-use Rattle.bit_table_layout.proofs.PlaceLemmas.{position-hit, position-miss, position_in, position_in-None, position_in-Some, position_in-unwrap}
+use Rattle.bit_table_layout.proofs.PlaceLemmas.{position-hit, position-miss, position_in, position_in-None}
+use Rattle.bit_table_layout.proofs.PlaceLemmas.{position_in-Some, position_in-unwrap}
 use Rattle.bit_table_layout.proofs.PlaceLemmas.{whole_rest}
 use Rattle.bit_table_layout.specs.Words.{is_separator, has_bytes, words}
 

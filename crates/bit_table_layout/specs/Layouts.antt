@@ -1,5 +1,6 @@
 -- Layouts and the lines that spell them.
-use Rattle.std.specs.Prelude.{ℕ, ◌&&◌, not, nat_le, true, Bool, List, [], ◌∷◌, sum_by, codes, Option, Some, None, option_and_then}
+use Rattle.std.specs.Prelude.{ℕ, ◌&&◌, not, nat_le, true, Bool, List, [], ◌∷◌, sum_by}
+use Rattle.std.specs.Prelude.{codes, Option, Some, None, option_and_then}
 use Rattle.std.specs.Prelude.{option_map, if◌then◌else◌}
 use Rattle.std.specs.List.{list_any, list_all}
 use Rattle.std.specs.Str.{bytes_eq}

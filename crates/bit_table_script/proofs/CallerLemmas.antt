@@ -1,6 +1,7 @@
 -- What cutting off leaves of a command: it changes neither what a field takes nor what is out of range.
 use Rattle.std.proofs.Common.{◌≡◌, ℕ, ◌-◌, ◌^◌, ◌<◌, ◌≤◌, ◌==◌, ◌&&◌, nat_lt, Bool, true, false, cond, ℤ, pos}
-use Rattle.std.proofs.Common.{neg_ℤ, List, [], ◌∷◌, length, map, codes, None, Some, option_and_then, refl, sym, ap, ◌∙◌, arith}
+use Rattle.std.proofs.Common.{neg_ℤ, List, [], ◌∷◌, length, map, codes, None, Some}
+use Rattle.std.proofs.Common.{option_and_then, refl, sym, ap, ◌∙◌, arith}
 use Rattle.std.specs.Prelude.{int_lt, int_le, ◌<ℤ◌, ◌≤ℤ◌}
 use Rattle.std.specs.Int.{int_min, int_max}
 use Rattle.std.specs.List.{list_all}
@@ -17,7 +18,8 @@ use Rattle.bit_table_layout.specs.Fields.{FieldShape, takes, least, limit}
 use Rattle.bit_table_layout.specs.Layouts.{LayoutShape, is_field}
 use Rattle.bit_table_layout.specs.Rows.{take_all}
 use Rattle.bit_table_script.specs.declared.command.Command.TheVariants.{Insert}
-use Rattle.bit_table_script.specs.Commands.{whole_numbers_in, insert_from, insert_in, image_in, command_in, command_of, cut_value, cut_place}
+use Rattle.bit_table_script.specs.Commands.{whole_numbers_in, insert_from, insert_in, image_in}
+use Rattle.bit_table_script.specs.Commands.{command_in, command_of, cut_value, cut_place}
 
 -- v, or m where it is greater, or - m where it is less
 abbrev cut_at : ℕ → ℤ → ℤ

@@ -1,6 +1,7 @@
 -- The command that words spell, read word by word.
 use Rattle.std.proofs.Common.{◌≡◌, ◌≢◌, ℕ, zero, suc, ◌-◌, ◌==◌, ◌&&◌, Bool, true, false, cond, ℤ, List, [], ◌∷◌}
-use Rattle.std.proofs.Common.{length, map, Option, None, Some, option_map, option_and_then, is_some, IsSome, codes, refl, sym, ap, ◌∙◌, arith}
+use Rattle.std.proofs.Common.{length, map, Option, None, Some, option_map, option_and_then}
+use Rattle.std.proofs.Common.{is_some, IsSome, codes, refl, sym, ap, ◌∙◌, arith}
 use Rattle.std.specs.Str.{bytes_eq}
 use Rattle.std.proofs.lemmas.Bool.Decides.{nat_tests}
 use Rattle.bit_table_layout.specs.Numerals.{is_number, number_of, number_in, whole_number_in}
@@ -8,7 +9,8 @@ use Rattle.bit_table_layout.specs.Fields.{FieldShape}
 use Rattle.bit_table_layout.specs.Layouts.{LayoutShape}
 use Rattle.bit_table_script.specs.declared.command.Command.{Command}
 use Rattle.bit_table_script.specs.declared.command.Command.TheVariants.{Insert}
-use Rattle.bit_table_script.specs.Commands.{whole_numbers_in, insert_in, image_in, command_in, cut_value, cut_place, cut_off}
+use Rattle.bit_table_script.specs.Commands.{whole_numbers_in, insert_in, image_in, command_in}
+use Rattle.bit_table_script.specs.Commands.{cut_value, cut_place, cut_off}
 use Rattle.bit_table_script.specs.CommandSteps.{insert_with, have_values, kept_values}
 
 -- whether there are numbers, so many

@@ -7,7 +7,8 @@ use Rattle.bit_table_script.specs.Lines.{IsBeginning, lines, whole_lines}
 use Rattle.bit_table_script.specs.Streams.{AppendsPart}
 use Rattle.bit_table_script.specs.Runs.{AppendsFirstLines}
 use Rattle.bit_table_script.specs.Going.{Going}
-use Rattle.bit_table_script.proofs.LineLemmas.{lines-end, lines-more, whole_lines-end, whole_lines-more, HasLast, GrowsBy}
+use Rattle.bit_table_script.proofs.LineLemmas.{lines-end, lines-more, whole_lines-end}
+use Rattle.bit_table_script.proofs.LineLemmas.{whole_lines-more, HasLast, GrowsBy}
 
 -- what answers lists of lines
 abbrev Answers : Type 0

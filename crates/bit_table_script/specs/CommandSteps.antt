@@ -1,5 +1,6 @@
 -- The private steps of reading a command. No public clause cites this module.
-use Rattle.std.specs.Prelude.{ℕ, zero, suc, ◌==◌, ◌&&◌, true, false, is_some, ℤ, Bool, List, [], ◌∷◌, length, map, Option, Some}
+use Rattle.std.specs.Prelude.{ℕ, zero, suc, ◌==◌, ◌&&◌, true, false, is_some, ℤ}
+use Rattle.std.specs.Prelude.{Bool, List, [], ◌∷◌, length, map, Option, Some}
 use Rattle.std.specs.Prelude.{None, option_and_then, option_map, if◌then◌else◌}
 use Rattle.bit_table_layout.specs.Numerals.{number_in, whole_number_in}
 use Rattle.bit_table_script.specs.declared.command.Command.{Command}

@@ -1,5 +1,6 @@
 -- Commands as words spell them.
-use Rattle.std.specs.Prelude.{ℕ, ◌-◌, ◌^◌, ◌==◌, min, ℤ, pos, neg_ℤ, List, [], ◌∷◌, length, map, codes, Option, Some, None}
+use Rattle.std.specs.Prelude.{ℕ, ◌-◌, ◌^◌, ◌==◌, min, ℤ, pos, neg_ℤ, List, []}
+use Rattle.std.specs.Prelude.{◌∷◌, length, map, codes, Option, Some, None}
 use Rattle.std.specs.Prelude.{option_and_then, option_map, if◌then◌else◌}
 use Rattle.std.specs.Int.{int_min, int_max}
 use Rattle.std.specs.Str.{bytes_eq}

@@ -5,7 +5,8 @@ use Rattle.bit_addressing.specs.Runs.{span_place}
 use Rattle.bit_addressing.proofs.CarryBits.{carried_copy, copies_none, copy_out}
 use Rattle.bit_addressing.proofs.SpanBits.{lies_in_memory, place_fits, refused}
 use Rattle.bit_addressing.proofs.carry.copy.Goals as goal
-use Rattle.bit_addressing.proofs.carry.copy.Goals.{then-count-len-via-then-count-len, then-count-len-via-else-count-len+then-from-len}
+use Rattle.bit_addressing.proofs.carry.copy.Goals.{then-count-len-via-then-count-len}
+use Rattle.bit_addressing.proofs.carry.copy.Goals.{then-count-len-via-else-count-len+then-from-len}
 use Rattle.bit_addressing.proofs.carry.copy.Goals.{then-count-len-via-else-count-len+else-from-len+then-to-len}
 
 pub returns-then-count-len : goal.returns-then-count-len
@@ -13,7 +14,8 @@ returns-then-count-len g c =
     let parts = c.raw_parts-word.ensures in
     record {
       carried =
-          refused g.R.BitRegister.BITS (indexed g.R.BitRegister.number g.O.Positions.position) c.args.memory.now c.args.span
+          refused g.R.BitRegister.BITS (indexed g.R.BitRegister.number g.O.Positions.position) c.args.memory.now
+          c.args.span
           _ parts.index c.requires.fits
           (copy_out c.args.span.len c.args.from c.args.to c.args.count (elim c.then-count-len.branch [
             | then-count-len-via-then-count-len w ↦ inl (omega (arith, w.if-count-len.true))
@@ -67,6 +69,7 @@ returns g c =
     record {
       carried =
           carried_copy b (indexed g.R.BitRegister.number g.O.Positions.position) c.args.memory.now _ c.args.span
-          c.args.from c.args.to c.args.count _ _ c.raw_parts-word.ensures.index c.requires.fits (omega arith) (omega arith)
+          c.args.from c.args.to c.args.count _ _ c.raw_parts-word.ensures.index c.requires.fits (omega arith)
+          (omega arith)
           place target c.copy_within.ensures.copied;
     }

@@ -12,14 +12,16 @@ returns-then-i-len g c =
     let parts = c.raw_parts-word.ensures in
     record {
       carried =
-          refused g.R.BitRegister.BITS (indexed g.R.BitRegister.number g.O.Positions.position) c.args.memory.now c.args.span
+          refused g.R.BitRegister.BITS (indexed g.R.BitRegister.number g.O.Positions.position) c.args.memory.now
+          c.args.span
           _ parts.index c.requires.fits (grind (arith, nat_tests));
     }
 
 pub bit_at-requires : goal.bit_at-requires
 bit_at-requires g c =
     let parts = c.raw_parts-word.ensures in
-    place_fits g.R.BitRegister.BITS c.args.span _ _ c.args.i parts.word parts.head parts.index parts.within.1 (omega arith)
+    place_fits g.R.BitRegister.BITS c.args.span _ _ c.args.i parts.word parts.head parts.index parts.within.1
+    (omega arith)
 
 pub replace-requires : goal.replace-requires
 replace-requires g c =

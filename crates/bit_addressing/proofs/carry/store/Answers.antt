@@ -25,6 +25,6 @@ returns g c =
       carried =
           carried_as g.R.BitRegister.BITS (indexed g.R.BitRegister.number g.O.Positions.position) (lent_words d) _
           (lent_words c.store_value.new.self) _ (lent_span d) _ _ _ lent.words (search rules) lent.span
-          (carried_store _ _ _ _ _ c.args.k c.args.word _ d.index d.fits (omega (arith, c.len.ensures)) c.store_value.ensures.was
-          c.store_value.ensures.now);
+          (carried_store _ _ _ _ _ c.args.k c.args.word _ d.index d.fits (omega (arith, c.len.ensures))
+          c.store_value.ensures.was c.store_value.ensures.now);
     }

@@ -11,19 +11,22 @@ pub returns-then-i-len : goal.returns-then-i-len
 returns-then-i-len g c =
     record {
       carried =
-          refused g.R.BitRegister.BITS (indexed g.R.BitRegister.number g.O.Positions.position) c.args.memory.now c.args.span
+          refused g.R.BitRegister.BITS (indexed g.R.BitRegister.number g.O.Positions.position) c.args.memory.now
+          c.args.span
           _ c.raw_parts-word.ensures.index c.requires.fits (grind (arith, nat_tests, c.then-i-len.either));
     }
 
 pub bit_at-other-requires : goal.bit_at-other-requires
 bit_at-other-requires g c =
     let parts = c.raw_parts-word.ensures in
-    place_fits g.R.BitRegister.BITS c.args.span _ _ c.args.j parts.word parts.head parts.index parts.within.1 (omega arith)
+    place_fits g.R.BitRegister.BITS c.args.span _ _ c.args.j parts.word parts.head parts.index parts.within.1
+    (omega arith)
 
 pub bit_at-requires : goal.bit_at-requires
 bit_at-requires g c =
     let parts = c.raw_parts-word.ensures in
-    place_fits g.R.BitRegister.BITS c.args.span _ _ c.args.i parts.word parts.head parts.index parts.within.1 (omega arith)
+    place_fits g.R.BitRegister.BITS c.args.span _ _ c.args.i parts.word parts.head parts.index parts.within.1
+    (omega arith)
 
 pub swap_within-requires-clause-within : goal.swap_within-requires-clause-within
 swap_within-requires-clause-within g c =
@@ -46,7 +49,8 @@ returns g c =
     let other : memory_place b c.bit_at-other.result ≡ span_place b c.args.span + c.args.j = cc in
     record {
       carried =
-          carried_swap b (indexed g.R.BitRegister.number g.O.Positions.position) c.args.memory.now _ c.args.span c.args.i
+          carried_swap b (indexed g.R.BitRegister.number g.O.Positions.position) c.args.memory.now _ c.args.span
+          c.args.i
           c.args.j _ _ c.raw_parts-word.ensures.index c.requires.fits (omega arith) (omega arith) place other
           c.swap_within.ensures.swapped;
     }

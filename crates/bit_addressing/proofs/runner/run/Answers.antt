@@ -21,7 +21,8 @@ loop-k-preserved g c =
     let place : k < length c.loop-k.replies = omega arith in
     let reply = c.carry_out_at.result in
     let next = get_or c.args.commands.now k c.index-commands-k.result in
-    let one_read = get_or_default c.args.commands.now k c.index-commands-k-in-loop-k.result c.index-commands-k.result within in
+    let one_read = get_or_default c.args.commands.now k c.index-commands-k-in-loop-k.result
+    c.index-commands-k.result within in
     let carried = rw one_read at c.carry_out_at.ensures.carried in
     let commands = take k c.args.commands.now in
     let replies = take k c.loop-k.replies in

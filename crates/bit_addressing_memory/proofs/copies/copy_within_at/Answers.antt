@@ -14,6 +14,7 @@ down-preserved g c =
     let some : 0 < k = omega arith in
     let still = not_yet_down size digit c.args.words.now c.down.words from to c.args.len k some
     (c.requires.down c.if-upward.false) c.down.invariant in
-    let bit = c.read_at-bit-in-down.ensures.value ∙ ap (entry size digit c.down.words) c.after-in-down.ensures ∙ still in
+    let bit = c.read_at-bit-in-down.ensures.value ∙ ap (entry size digit c.down.words) c.after-in-down.ensures
+    ∙ still in
     copies_more_down size digit c.args.words.now c.down.words c.write_at-in-down.new.words from to c.args.len k _ _
     some (omega arith) c.after-in-down-2.ensures bit c.down.invariant c.write_at-in-down.ensures.written

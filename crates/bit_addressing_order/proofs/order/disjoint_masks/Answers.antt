@@ -7,4 +7,5 @@ returns-clause-disjoint g c =
     let first = c.mask-first.ensures in
     let later = c.mask-later.ensures in
     rw (first.value, later.value)
-    (masks_apart _ _ _ _ _ _ _ _ law first.from c.requires.order first.upto later.from c.requires.later_order later.upto c.requires.apart)
+    (masks_apart _ _ _ _ _ _ _ _ law first.from c.requires.order first.upto later.from c.requires.later_order
+    later.upto c.requires.apart)

@@ -1,7 +1,8 @@
 use Rattle.std.proofs.Common.{◌≡◌, ℕ, ◌+◌, ◌*◌, ◌/◌, ◌%◌, length, refl, ap, ◌∙◌, arith, length-append}
 use Rattle.std.proofs.lemmas.List.{length-map}
 use Rattle.bit_addressing_memory.specs.Memory.{indexed, touched}
-use Rattle.bit_addressing_span.proofs.CutLemmas.{bits_at_edge, bits_inside, last_within, last_below, last_place, placed, some_words}
+use Rattle.bit_addressing_span.proofs.CutLemmas.{bits_at_edge, bits_inside, last_within, last_below}
+use Rattle.bit_addressing_span.proofs.CutLemmas.{last_place, placed, some_words}
 use Rattle.bit_addressing_span.proofs.SpanLemmas.{touched-whole}
 use Rattle.bit_addressing_span.proofs.cut.cut_words.Goals as goal
 
@@ -9,25 +10,29 @@ pub part_before-requires-clause-inside : goal.part_before-requires-clause-inside
 part_before-requires-clause-inside g c inside =
     let from = c.into_inner-from.ensures in
     last_below g.R.BitRegister.BITS c.BITS-bits.result (c.into_inner-from.result + c.args.len)
-    (length c.args.words.now) c.BITS-bits.ensures (omega (arith, from.within)) (omega (arith, from.value, c.requires.within)) inside
+    (length c.args.words.now) c.BITS-bits.ensures (omega (arith, from.within))
+    (omega (arith, from.value, c.requires.within)) inside
 
 pub part_before-requires-2-clause-inside : goal.part_before-requires-2-clause-inside
 part_before-requires-2-clause-inside g c inside =
     let from = c.into_inner-from.ensures in
     last_below g.R.BitRegister.BITS c.BITS-bits.result (c.into_inner-from.result + c.args.len)
-    (length c.args.words.now) c.BITS-bits.ensures (omega (arith, from.within)) (omega (arith, from.value, c.requires.within)) inside
+    (length c.args.words.now) c.BITS-bits.ensures (omega (arith, from.within))
+    (omega (arith, from.value, c.requires.within)) inside
 
 pub words_between-requires-clause-within : goal.words_between-requires-clause-within
 words_between-requires-clause-within g c =
     let from = c.into_inner-from.ensures in
     last_within g.R.BitRegister.BITS c.BITS-bits.result (c.into_inner-from.result + c.args.len)
-    (length c.args.words.now) c.BITS-bits.ensures (omega (arith, from.within)) (omega (arith, from.value, c.requires.within))
+    (length c.args.words.now) c.BITS-bits.ensures (omega (arith, from.within))
+    (omega (arith, from.value, c.requires.within))
 
 pub words_between-requires-2-clause-within : goal.words_between-requires-2-clause-within
 words_between-requires-2-clause-within g c =
     let from = c.into_inner-from.ensures in
     last_within g.R.BitRegister.BITS c.BITS-bits.result (c.into_inner-from.result + c.args.len)
-    (length c.args.words.now) c.BITS-bits.ensures (omega (arith, from.within)) (omega (arith, from.value, c.requires.within))
+    (length c.args.words.now) c.BITS-bits.ensures (omega (arith, from.within))
+    (omega (arith, from.value, c.requires.within))
 
 pub part_of-requires-clause-inside : goal.part_of-requires-clause-inside
 part_of-requires-clause-inside g c =

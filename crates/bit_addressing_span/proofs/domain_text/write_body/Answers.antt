@@ -24,6 +24,7 @@ loop-word-preserved g c =
           let first = c.in_ok-write_between.ensures so_far.plain refl in
           let second = c.in_ok-write_word.ensures short first.plain refl in
           subst (λ bs. HasWritten took c.args.f.now bs c.write_word.new.f)
-          (joined_more (form_text c.args.form) c.args.begun c.loop-word.begun _ _ (number x) c.loop-word.invariant.0 all)
+          (joined_more (form_text c.args.form) c.args.begun c.loop-word.begun _ _ (number x)
+          c.loop-word.invariant.0 all)
           (has_written_append _ _ _ _ _ _ (has_written_append _ _ _ _ _ _ so_far first) second),
     )

@@ -15,5 +15,8 @@ returns g c =
     ∙ c.equals.ensures.0 c.if-not-equals.false ∙ alone in
     let none : bit_and (number c.args.met) (number c.into_inner-position.result) ≡ 0 =
     sym c.and.ensures ∙ c.equals-2.ensures.0 c.if-not-equals-2.false ∙ ap number c.ZERO.ensures
-    ∙ g.met.R.BitRegister.zero_is in
-    (c.or.ensures ∙ more_met at _ _ _ c.requires alone, (chosen, new_position at _ _ _ c.requires alone none), omega arith)
+    ∙ g.met.R.BitRegister.zero_is in (
+      c.or.ensures ∙ more_met at _ _ _ c.requires alone,
+      (chosen, new_position at _ _ _ c.requires alone none),
+      omega arith,
+    )

@@ -2,7 +2,8 @@ use Rattle.std.proofs.Common.{◌≡◌, Some, None, ◌∙◌, rules}
 use Rattle.std.specs.Prelude.{option_map}
 use Rattle.bit_table_script.specs.Commands.{command_of, cut_off}
 use Rattle.bit_table.proofs.CutLemmas.{refused_for, not_refused}
-use Rattle.bit_table.proofs.AnswerLemmas.{if_ok_weaker, on_ok_always, is_read, accepted_text, accepted_state, refused_text, refused_state}
+use Rattle.bit_table.proofs.AnswerLemmas.{if_ok_weaker, on_ok_always, is_read, accepted_text}
+use Rattle.bit_table.proofs.AnswerLemmas.{accepted_state, refused_text, refused_state}
 use Rattle.bit_table.proofs.session.carry_out.Goals as goal
 
 pub returns-in-Ok-apply-clause-text : goal.returns-in-Ok-apply-clause-text
@@ -13,7 +14,8 @@ returns-in-Ok-apply-clause-text c =
     let no_cause = not_refused _ c.apply.result c.in-Ok-apply.reply c.in-Ok-apply.is c.apply.ensures.cause in
     let read = is_read t c.args.line.now c.in-Ok.command None lawful kept no_cause in
     if_ok_weaker c.line-in-Ok-apply.result _ _
-    (λ text e. e ∙ accepted_text t c.args.line.now c.in-Ok.command c.in-Ok-apply.reply lawful read c.in-Ok-apply.ensures.reply)
+    (λ text e. e ∙ accepted_text t c.args.line.now c.in-Ok.command c.in-Ok-apply.reply lawful read
+    c.in-Ok-apply.ensures.reply)
     c.line-in-Ok-apply.ensures
 
 pub returns-in-Ok-apply-clause-state : goal.returns-in-Ok-apply-clause-state

@@ -1,7 +1,8 @@
 use Rattle.std.proofs.Common.{◌≡◌, None, Some, refl, sym, ap, ◌∙◌, arith}
 use Rattle.bit_table_layout.specs.WordsLeft.{words_left}
 use Rattle.bit_table_script.specs.CommandSteps.{insert_with}
-use Rattle.bit_table_script.proofs.CommandLemmas.{insert_refused-place, insert_refused-values, insert_kept, insert_is, have_values-some}
+use Rattle.bit_table_script.proofs.CommandLemmas.{insert_refused-place, insert_refused-values}
+use Rattle.bit_table_script.proofs.CommandLemmas.{insert_kept, insert_is, have_values-some}
 use Rattle.bit_table_script.proofs.command.read_insert.Goals as goal
 use Rattle.bit_table_script.proofs.command.read_insert.Goals.{then-not-is_number-via-then-not-is_number}
 use Rattle.bit_table_script.proofs.command.read_insert.Goals.{then-not-is_number-via-else-not-is_number+then-not-are_values}

@@ -1,6 +1,7 @@
 use Rattle.std.proofs.Common.{rules, take}
 use Rattle.std.proofs.lemmas.Result.{err_from_is_err_and, on_ok_weaker}
-use Rattle.bit_table_script.proofs.ReachedLemmas.{reached_start, reached_more, reached_end, reached_write, reached_write_last, took_more, took_none}
+use Rattle.bit_table_script.proofs.ReachedLemmas.{reached_start, reached_more, reached_end, reached_write}
+use Rattle.bit_table_script.proofs.ReachedLemmas.{reached_write_last, took_more, took_none}
 use Rattle.bit_table_script.proofs.machine.drive.Goals as goal
 
 pub reads-init : goal.reads-init

@@ -10,7 +10,8 @@ stepped-requires g c =
     let words = c.bits_back-words.result.0 in
     let fits : FitsSigned w64 words = search rules in
     let stays = rw (← c.raw_parts-word.ensures.word, ← c.raw_parts-word.ensures.bit) at c.requires.stays in
-    let sum = moved_fits g.R.BitRegister.BITS word words (neg_ℤ (pos c.args.count)) _ _ c.bits_back-words.ensures.offset stays in
+    let sum = moved_fits g.R.BitRegister.BITS word words (neg_ℤ (pos c.args.count)) _ _
+    c.bits_back-words.ensures.offset stays in
     record { fits = passed_fits word words c.raw_parts-word.ensures.word_fits fits sum }
 
 pub returns-clause-place : goal.returns-clause-place
@@ -20,5 +21,6 @@ returns-clause-place g c =
     let fits : FitsSigned w64 words = search rules in
     let same_word = to_z-of_z w64 word c.raw_parts-word.ensures.word_fits in
     let same_words = to_z-of_z w64 words fits in
-    let moved = moved_place g.R.BitRegister.BITS word words (neg_ℤ (pos c.args.count)) _ _ c.bits_back-words.ensures.offset in
+    let moved = moved_place g.R.BitRegister.BITS word words (neg_ℤ (pos c.args.count)) _ _
+    c.bits_back-words.ensures.offset in
     cc

@@ -1,4 +1,5 @@
-use Rattle.std.proofs.Common.{◌++◌, length, get_or, take, pos, SFits, sym, ap, ap₂, ◌∙◌, arith, rules, length-append, append_assoc}
+use Rattle.std.proofs.Common.{◌++◌, length, get_or, take, pos, SFits, sym, ap, ap₂}
+use Rattle.std.proofs.Common.{◌∙◌, arith, rules, length-append, append_assoc}
 use mir.Syntax.{w128}
 use Rattle.std.proofs.lemmas.Int.{to_z-of_z}
 use Rattle.bit_table_layout.specs.Rows.{field_bits, numbers_bits}

@@ -3,7 +3,8 @@ use Rattle.std.proofs.lemmas.Result.{err_from_is_err_and}
 use Rattle.bit_table_layout.specs.Words.{words}
 use Rattle.bit_table_layout.specs.WordsLeft.{words_left}
 use Rattle.bit_table_layout.specs.Layouts.{layout_of, rule_of, fields_of}
-use Rattle.bit_table_layout.proofs.LayoutLemmas.{layout_of-words, layout_of-no_rule, layout_of-no_fit, MakesLayout-from_fit, MakesLayout-of}
+use Rattle.bit_table_layout.proofs.LayoutLemmas.{layout_of-words, layout_of-no_rule, layout_of-no_fit}
+use Rattle.bit_table_layout.proofs.LayoutLemmas.{MakesLayout-from_fit, MakesLayout-of}
 use Rattle.bit_table_layout.proofs.layout.Layout.parse.Goals as goal
 
 -- what `?` passes on

@@ -4,7 +4,8 @@ use Rattle.bit_table_layout.specs.WordsLeft.{words_left}
 use Rattle.bit_table_script.specs.declared.cause.Cause.TheVariants.{Form}
 use Rattle.bit_table_script.specs.declared.cause.Fault.TheVariants.{Refused}
 use Rattle.bit_table_script.specs.Commands.{command_of, cut_off}
-use Rattle.bit_table_script.proofs.CommandLemmas.{command_in-none, command_in-insert, command_in-image, command_in-other, cut_off-image_in}
+use Rattle.bit_table_script.proofs.CommandLemmas.{command_in-none, command_in-insert, command_in-image}
+use Rattle.bit_table_script.proofs.CommandLemmas.{command_in-other, cut_off-image_in}
 use Rattle.bit_table_script.proofs.command.Command.parse.Goals as goal
 
 pub returns-in_default-clause-refused : goal.returns-in_default-clause-refused

@@ -1,6 +1,7 @@
 ghost use Rattle.std.specs.Prelude.{IsTrue};
 ghost use Rattle.bit_table_layout.specs.Layouts.{is_field};
 
+use crate::edges::ends_at;
 use bit_table::{Field, Layout, LayoutError, Rule};
 use std::test::Fail;
 
@@ -89,7 +90,7 @@ fn takes_the_middle(field: &Field, edges: [i128; 4]) -> bool
     requires { IsTrue (is_field field.now) }
 {
     let [below, least, greatest, past] = edges;
-    !field.takes(below) && field.takes(least) && field.takes(greatest) && !field.takes(past)
+    ends_at(field, least, below) && ends_at(field, greatest, past)
 }
 
 #[test]

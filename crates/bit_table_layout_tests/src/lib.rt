@@ -1,6 +1,7 @@
 //! The tests of layouts, numbers and images: known lines, and what they read as.
 #![tactic(auto)]
 
+pub mod edges;
 #[cfg(test)]
 mod image_lines;
 #[cfg(test)]

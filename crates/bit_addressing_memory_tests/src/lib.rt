@@ -3,7 +3,6 @@
 
 #[cfg(test)]
 mod lists;
-pub mod memory_callers;
 #[cfg(test)]
 mod memory_rows;
 #[cfg(test)]

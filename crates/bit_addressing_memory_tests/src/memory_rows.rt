@@ -1,10 +1,10 @@
 //! Rows of entries, copies and pointers.
 
-use crate::memory_callers::{write_two, written_then_read};
 use bit_addressing::{
     BitIdx, BitPtr, BitPtrRange, Dangling, EmptyRange, Limits, Lsb0, Msb0, copy_between,
     copy_within, read_entry, replace_entry, swap_between, swap_entries, swap_within, write_entry,
 };
+use bit_addressing_samples::memory_callers::{write_two, written_then_read};
 
 #[test]
 fn entries_are_read_and_replaced(rt: HostRuntime) {
@@ -13,9 +13,9 @@ fn entries_are_read_and_replaced(rt: HostRuntime) {
     assert!(rt; !read_entry::<u8, Msb0>(&words, 1));
     assert!(rt; read_entry::<u8, Msb0>(&words, 10));
     assert!(rt; !replace_entry::<u8, Lsb0>(&mut words, 8, true));
-    assert_eq!(rt; words, [0x12, 0x35, 0x56]);
+    assert!(rt; words == [0x12, 0x35, 0x56]);
     assert!(rt; replace_entry::<u8, Msb0>(&mut words, 17, false));
-    assert_eq!(rt; words, [0x12, 0x35, 0x16]);
+    assert!(rt; words == [0x12, 0x35, 0x16]);
 }
 
 #[test]
@@ -31,11 +31,11 @@ fn bits_are_copied_over_an_overlap(rt: HostRuntime) {
         if from <= 8 && to <= 8 {
             copy_within::<u8, Lsb0>(&mut words, from, to, 16);
         }
-        assert_eq!(rt; words, after, "{from} to {to}");
+        assert!(rt; words == after, "{from} to {to}");
     }
     let mut words = [0x12u8, 0x34, 0x56];
     copy_within::<u8, Msb0>(&mut words, 4, 0, 16);
-    assert_eq!(rt; words, [0x23, 0x45, 0x56]);
+    assert!(rt; words == [0x23, 0x45, 0x56]);
 }
 
 #[test]
@@ -43,13 +43,13 @@ fn bits_go_between_memories(rt: HostRuntime) {
     let from = [0x12u8, 0x34];
     let mut words = [0u64];
     copy_between::<u8, Msb0, u64, Lsb0>(&from, 0, &mut words, 4, 16);
-    assert_eq!(rt; words, [0x2c480]);
+    assert!(rt; words == [0x2c480]);
     let mut others = [0xffu8];
     swap_between::<u64, Lsb0, u8, Lsb0>(&mut words, 8, &mut others, 0, 8);
-    assert_eq!(rt; words, [0x2ff80]);
-    assert_eq!(rt; others, [0xc4]);
+    assert!(rt; words == [0x2ff80]);
+    assert!(rt; others == [0xc4]);
     swap_within::<u8, Lsb0>(&mut others, 0, 4, 4);
-    assert_eq!(rt; others, [0x4c]);
+    assert!(rt; others == [0x4c]);
 }
 
 #[test]
@@ -59,22 +59,21 @@ fn pointers_are_whole_numbers(rt: HostRuntime) {
     let rows = [(0, 3, 5), (3, 4, 0), (-6, 2, 7), (-30, -1, 7), (100, 16, 1)];
     for (by, word, bit) in rows {
         let moved = start.wrapping_offset(by);
-        assert_eq!(rt;
-            (moved.address(), moved.bit().into_inner()),
-            (word, bit),
+        assert!(rt;
+            (moved.address(), moved.bit().into_inner()) == (word, bit),
             "by {by}"
         );
     }
     let last = BitPtr::<u8, Msb0>::new(isize::MAX, BitIdx::MAX);
-    assert_eq!(rt; last.wrapping_add(1).address(), isize::MIN);
+    assert!(rt; last.wrapping_add(1).address() == isize::MIN);
 }
 
 #[test]
 fn pointers_go_on_and_back(rt: HostRuntime) {
     let start = BitPtr::<u8, Lsb0>::new(3, BitIdx::new_unchecked(5));
     let on = start.add(100);
-    assert_eq!(rt; on.address(), 16);
-    assert_eq!(rt; (on.offset_from(start), start.offset_from(on)), (100, -100));
+    assert!(rt; on.address() == 16);
+    assert!(rt; (on.offset_from(start), start.offset_from(on)) == (100, -100));
     assert!(rt; on.sub(100) == start);
     assert!(rt; on.offset(-100) == start);
     assert!(rt; start.wrapping_add(100).wrapping_sub(100) == start);
@@ -89,11 +88,11 @@ fn pointers_read_and_write(rt: HostRuntime) {
     assert!(rt; !first.read(&words));
     first.write(&mut words, true);
     assert!(rt; first.replace(&mut words, true));
-    assert_eq!(rt; words, [0x13, 0x34, 0x56]);
+    assert!(rt; words == [0x13, 0x34, 0x56]);
     first.swap_within(&mut words, other);
-    assert_eq!(rt; words, [0x12, 0x35, 0x56]);
+    assert!(rt; words == [0x12, 0x35, 0x56]);
     first.copy_within(&mut words, other, 16);
-    assert_eq!(rt; words, [0x12, 0x12, 0x35]);
+    assert!(rt; words == [0x12, 0x12, 0x35]);
 }
 
 #[test]
@@ -104,11 +103,11 @@ fn pointers_copy_between_memories(rt: HostRuntime) {
     let mut wide = [0u16];
     let into = BitPtr::<u16, Msb0>::from_mut_slice(&mut wide);
     first.copy_to(&words, into, &mut wide, 8);
-    assert_eq!(rt; wide, [0x4800]);
+    assert!(rt; wide == [0x4800]);
     other.copy_from(&mut words, into, &wide, 8);
-    assert_eq!(rt; words, [0x12, 0x12, 0x35]);
+    assert!(rt; words == [0x12, 0x12, 0x35]);
     first.swap(&mut words, into, &mut wide);
-    assert_eq!(rt; wide, [0x4800]);
+    assert!(rt; wide == [0x4800]);
 }
 
 #[test]
@@ -116,7 +115,7 @@ fn a_range_gives_each_pointer_once(rt: HostRuntime) {
     let start = BitPtr::<u8, Lsb0>::new(-1, BitIdx::new_unchecked(6));
     let end = BitPtr::<u8, Lsb0>::new(0, BitIdx::new_unchecked(2));
     let mut range = BitPtrRange::from_range(start..end);
-    assert_eq!(rt; range.len(), 4);
+    assert!(rt; range.len() == 4);
     assert!(rt; range.next() == Some(start));
     assert!(rt; range.next_back() == Some(start.add(3)));
     assert!(rt; range.next() == Some(start.add(1)));
@@ -140,8 +139,8 @@ fn a_range_holds_its_pointers(rt: HostRuntime) {
 fn neighbours_are_written(rt: HostRuntime) {
     let mut words = [0xf0u8, 0x0f];
     write_two::<u8, Lsb0>(&mut words, 7, false, 8, false);
-    assert_eq!(rt; words, [0x70, 0x0e]);
+    assert!(rt; words == [0x70, 0x0e]);
     assert!(rt; written_then_read::<u8, Lsb0>(&mut words, 15));
     swap_entries::<u8, Lsb0>(&mut words, 0, 4);
-    assert_eq!(rt; words, [0x61, 0x8e]);
+    assert!(rt; words == [0x61, 0x8e]);
 }

@@ -100,20 +100,16 @@ fn pointers_move_as_places(rt: HostRuntime) {
     for word in 0..6usize {
         for by in 0..141usize {
             for index in 0..8u8 {
-                assert!(rt; moves_bytes::<Lsb0>(word, index, by), "{word} {index} {by}");
-                assert!(rt; moves_bytes::<Msb0>(word, index, by), "{word} {index} {by}");
-                assert!(rt;
-                    moves_bytes::<FifthStep>(word, index, by),
-                    "{word} {index} {by}"
-                );
+                let moves = moves_bytes::<Lsb0>(word, index, by)
+                    && moves_bytes::<Msb0>(word, index, by)
+                    && moves_bytes::<FifthStep>(word, index, by);
+                assert!(rt; moves, "{word} {index} {by}");
             }
             for index in 0..64u8 {
-                assert!(rt; moves_wide::<Lsb0>(word, index, by), "{word} {index} {by}");
-                assert!(rt; moves_wide::<Msb0>(word, index, by), "{word} {index} {by}");
-                assert!(rt;
-                    moves_wide::<FifthStep>(word, index, by),
-                    "{word} {index} {by}"
-                );
+                let moves = moves_wide::<Lsb0>(word, index, by)
+                    && moves_wide::<Msb0>(word, index, by)
+                    && moves_wide::<FifthStep>(word, index, by);
+                assert!(rt; moves, "{word} {index} {by}");
             }
         }
     }
@@ -123,12 +119,12 @@ fn pointers_move_as_places(rt: HostRuntime) {
 fn word_numbers_wrap_round(rt: HostRuntime) {
     let first = BitPtr::<u64, FifthStep>::new(isize::MIN, BitIdx::MIN);
     let (word, bit) = first.wrapping_sub(1).to_raw_parts();
-    assert_eq!(rt; word, isize::MAX);
-    assert_eq!(rt; bit.into_inner(), 63);
+    assert!(rt; word == isize::MAX);
+    assert!(rt; bit.into_inner() == 63);
     let last = BitPtr::<u64, FifthStep>::new(isize::MAX, BitIdx::MAX);
     let (word, bit) = last.wrapping_offset(66).to_raw_parts();
-    assert_eq!(rt; word, isize::MIN + 1);
-    assert_eq!(rt; bit.into_inner(), 1);
+    assert!(rt; word == isize::MIN + 1);
+    assert!(rt; bit.into_inner() == 1);
 }
 
 #[test]
@@ -140,7 +136,7 @@ fn a_memory_begins_at_word_0(rt: HostRuntime) {
     assert!(rt; lies_at(BitPtr::<u8, FifthStep>::from_slice(&words), 800));
     assert!(rt; lies_at(BitPtr::<u8, Lsb0>::from_mut_slice(&mut words), 800));
     assert!(rt; lies_at(BitPtr::<u8, Msb0>::from_slice_mut(&mut words), 800));
-    assert_eq!(rt; words, [1, 2]);
+    assert!(rt; words == [1, 2]);
 }
 
 // Whether a range gives the pointers from a place up to before another, two from the front and one from

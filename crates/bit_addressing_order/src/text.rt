@@ -59,7 +59,8 @@ impl<R: BitRegister> fmt::Display for BitIdx<R> {
     ghost output = { λ value. Some (binary_text R.INDX value) };
 
     fn fmt<W: fmt::Write>(&self, f: &mut fmt::Formatter<W>) -> fmt::Result {
-        write_digits(self.into_inner() as u128, R::INDX, f)
+        let index = self.into_inner();
+        write_digits(index as u128, R::INDX, f)
     }
 }
 
@@ -87,7 +88,8 @@ impl<R: BitRegister> fmt::Display for BitEnd<R> {
     ghost output = { λ value. Some (binary_text (R.INDX + 1) value) };
 
     fn fmt<W: fmt::Write>(&self, f: &mut fmt::Formatter<W>) -> fmt::Result {
-        write_digits(self.into_inner() as u128, R::INDX + 1, f)
+        let end = self.into_inner();
+        write_digits(end as u128, R::INDX + 1, f)
     }
 }
 
@@ -115,7 +117,8 @@ impl<R: BitRegister> fmt::Display for BitPos<R> {
     ghost output = { λ value. Some (binary_text R.INDX value) };
 
     fn fmt<W: fmt::Write>(&self, f: &mut fmt::Formatter<W>) -> fmt::Result {
-        write_digits(self.into_inner() as u128, R::INDX, f)
+        let position = self.into_inner();
+        write_digits(position as u128, R::INDX, f)
     }
 }
 
@@ -143,7 +146,8 @@ impl<R: BitRegister> fmt::Display for BitSel<R> {
     ghost output = { λ value. Some (binary_text R.BITS (R.number value)) };
 
     fn fmt<W: fmt::Write>(&self, f: &mut fmt::Formatter<W>) -> fmt::Result {
-        write_digits(self.into_inner().value(), R::BITS, f)
+        let selected = self.into_inner();
+        write_digits(selected.value(), R::BITS, f)
     }
 }
 
@@ -171,7 +175,8 @@ impl<R: BitRegister> fmt::Display for BitMask<R> {
     ghost output = { λ value. Some (binary_text R.BITS (R.number value)) };
 
     fn fmt<W: fmt::Write>(&self, f: &mut fmt::Formatter<W>) -> fmt::Result {
-        write_digits(self.into_inner().value(), R::BITS, f)
+        let word = self.into_inner();
+        write_digits(word.value(), R::BITS, f)
     }
 }
 

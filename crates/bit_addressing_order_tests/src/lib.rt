@@ -9,4 +9,3 @@ mod order_rows;
 mod places;
 #[cfg(test)]
 mod texts;
-pub mod word_callers;

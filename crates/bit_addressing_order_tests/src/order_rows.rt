@@ -1,11 +1,11 @@
 //! The worked rows of orders and of their verification.
 
 use crate::candidates::{AllAtZero, EmptyMask, EmptyTail, OtherSelector};
-use crate::word_callers::{entry, five, is_odd, with_entry, without_highest};
 use bit_addressing::{
     BitEnd, BitIdx, BitOrder, BitRegister, Lsb0, Msb0, OrderCandidate, OrderFault, WordFault,
     disjoint_masks, mask_from_at, select_from_at, verify, verify_for_type,
 };
+use bit_addressing_samples::word_callers::{entry, five, is_odd, with_entry, without_highest};
 use bit_addressing_samples::{FifthStep, Flipped};
 use std::test::Fail;
 
@@ -17,10 +17,10 @@ fn first_three<O: BitOrder<u8>>() -> u8 {
 
 #[test]
 fn masks_of_a_users_orders(rt: HostRuntime) {
-    assert_eq!(rt; first_three::<Lsb0>(), 0b0000_0111);
-    assert_eq!(rt; first_three::<Msb0>(), 0b1110_0000);
-    assert_eq!(rt; first_three::<Flipped>(), 0b0111_0000);
-    assert_eq!(rt; first_three::<FifthStep>(), 0b0010_1001);
+    assert!(rt; first_three::<Lsb0>() == 0b0000_0111);
+    assert!(rt; first_three::<Msb0>() == 0b1110_0000);
+    assert!(rt; first_three::<Flipped>() == 0b0111_0000);
+    assert!(rt; first_three::<FifthStep>() == 0b0010_1001);
 }
 
 #[test]
@@ -34,24 +34,21 @@ fn positions_and_selectors_of_the_orders(rt: HostRuntime) -> Result<(), Fail> {
     ];
     for (index, least, most, flipped, fifth) in rows {
         let index = BitIdx::<u16>::new(index)?;
-        assert_eq!(rt; index.position::<Lsb0>().into_inner(), least);
-        assert_eq!(rt; index.position::<Msb0>().into_inner(), most);
-        assert_eq!(rt; index.position::<Flipped>().into_inner(), flipped);
-        assert_eq!(rt; index.position::<FifthStep>().into_inner(), fifth);
-        assert_eq!(rt; index.select::<Msb0>().into_inner().value(), 1 << most);
-        assert_eq!(rt; index.mask::<FifthStep>().into_inner().value(), 1 << fifth);
+        assert!(rt; index.position::<Lsb0>().into_inner() == least);
+        assert!(rt; index.position::<Msb0>().into_inner() == most);
+        assert!(rt; index.position::<Flipped>().into_inner() == flipped);
+        assert!(rt; index.position::<FifthStep>().into_inner() == fifth);
+        assert!(rt; index.select::<Msb0>().into_inner().value() == 1 << most);
+        assert!(rt; index.mask::<FifthStep>().into_inner().value() == 1 << fifth);
     }
     Ok(())
 }
 
 #[test]
 fn helpers_of_an_order(rt: HostRuntime) {
-    assert_eq!(rt; select_from_at::<u8, FifthStep>(2), 0b0010_0000);
-    assert_eq!(rt;
-        mask_from_at::<u8, FifthStep>(Some(1), Some(3)),
-        0b0010_0001
-    );
-    assert_eq!(rt; mask_from_at::<u8, FifthStep>(None, None), 0xff);
+    assert!(rt; select_from_at::<u8, FifthStep>(2) == 0b0010_0000);
+    assert!(rt; mask_from_at::<u8, FifthStep>(Some(1), Some(3)) == 0b0010_0001);
+    assert!(rt; mask_from_at::<u8, FifthStep>(None, None) == 0xff);
 }
 
 #[test]
@@ -59,40 +56,40 @@ fn masks_of_ranges_apart(rt: HostRuntime) -> Result<(), Fail> {
     let split = BitEnd::<u32>::new(9);
     let from = Some(BitIdx::<u32>::new(9)?);
     let (low, high) = disjoint_masks::<u32, Msb0>(None, split, from, None);
-    assert_eq!(rt; low.into_inner(), 0xff80_0000);
-    assert_eq!(rt; high.into_inner(), 0x007f_ffff);
+    assert!(rt; low.into_inner() == 0xff80_0000);
+    assert!(rt; high.into_inner() == 0x007f_ffff);
     Ok(())
 }
 
 #[test]
 fn lawful_orders_are_told_so(rt: HostRuntime) {
-    assert_eq!(rt; verify::<Lsb0>(), Ok(()));
-    assert_eq!(rt; verify::<Msb0>(), Ok(()));
-    assert_eq!(rt; verify::<Flipped>(), Ok(()));
-    assert_eq!(rt; verify::<FifthStep>(), Ok(()));
+    assert!(rt; verify::<Lsb0>() == Ok(()));
+    assert!(rt; verify::<Msb0>() == Ok(()));
+    assert!(rt; verify::<Flipped>() == Ok(()));
+    assert!(rt; verify::<FifthStep>() == Ok(()));
 }
 
 #[test]
 fn unlawful_candidates_are_told_their_first_fault(rt: HostRuntime) -> Result<(), Fail> {
     let repeated = OrderFault::Repeated(BitIdx::<u8>::new(1)?);
-    assert_eq!(rt; verify_for_type::<u8, AllAtZero>(), Err(repeated));
+    assert!(rt; verify_for_type::<u8, AllAtZero>() == Err(repeated));
     let selector = OrderFault::Selector(BitIdx::<u8>::new(3)?);
-    assert_eq!(rt; verify_for_type::<u8, OtherSelector>(), Err(selector));
+    assert!(rt; verify_for_type::<u8, OtherSelector>() == Err(selector));
     let mask = OrderFault::Mask(Some(BitIdx::<u8>::new(2)?), BitEnd::new(5));
-    assert_eq!(rt; verify_for_type::<u8, EmptyMask>(), Err(mask));
+    assert!(rt; verify_for_type::<u8, EmptyMask>() == Err(mask));
     let tail = OrderFault::Mask(Some(BitIdx::<u8>::new(4)?), None);
-    assert_eq!(rt; verify_for_type::<u8, EmptyTail>(), Err(tail));
-    assert_eq!(rt; verify::<EmptyTail>(), Err(WordFault::U8(tail)));
+    assert!(rt; verify_for_type::<u8, EmptyTail>() == Err(tail));
+    assert!(rt; verify::<EmptyTail>() == Err(WordFault::U8(tail)));
     Ok(())
 }
 
 #[test]
 fn bits_are_read_and_written(rt: HostRuntime) -> Result<(), Fail> {
-    assert_eq!(rt; five(), 5);
-    assert_eq!(rt; without_highest(), 0x7f);
+    assert!(rt; five() == 5);
+    assert!(rt; without_highest() == 0x7f);
     assert!(rt; is_odd());
     let index = BitIdx::<u32>::new(1)?;
-    assert_eq!(rt; with_entry::<u32, Msb0>(0, index, true), 0x4000_0000);
+    assert!(rt; with_entry::<u32, Msb0>(0, index, true) == 0x4000_0000);
     assert!(rt; entry::<u32, Msb0>(0x4000_0000, index));
     Ok(())
 }

@@ -18,8 +18,10 @@ fn offsets_round_down(rt: HostRuntime) -> Result<(), Fail> {
     ];
     for (index, by, words, there) in rows {
         let moved = BitIdx::<u16>::new(index)?.offset(by);
-        assert_eq!(rt; moved.0, words, "{index} by {by}");
-        assert_eq!(rt; moved.1.into_inner(), there, "{index} by {by}");
+        assert!(rt;
+            (moved.0, moved.1.into_inner()) == (words, there),
+            "{index} by {by}"
+        );
     }
     Ok(())
 }
@@ -35,9 +37,9 @@ fn neighbours_tell_a_crossing(rt: HostRuntime) -> Result<(), Fail> {
     for (index, above, over, below, under) in rows {
         let index = BitIdx::<u8>::new(index)?;
         let next = index.next();
-        assert_eq!(rt; (next.0.into_inner(), next.1), (above, over));
+        assert!(rt; (next.0.into_inner(), next.1) == (above, over));
         let prev = index.prev();
-        assert_eq!(rt; (prev.0.into_inner(), prev.1), (below, under));
+        assert!(rt; (prev.0.into_inner(), prev.1) == (below, under));
     }
     Ok(())
 }
@@ -46,9 +48,9 @@ fn neighbours_tell_a_crossing(rt: HostRuntime) -> Result<(), Fail> {
 fn places_past_the_word_are_refused(rt: HostRuntime) {
     assert!(rt; BitIdx::<u64>::new(64).is_err());
     let error = BitIdx::<u64>::new(200).map_err(|error| error.into_inner());
-    assert_eq!(rt; error.err(), Some(200));
-    assert_eq!(rt; BitEnd::<u64>::new(65), None);
-    assert_eq!(rt; BitPos::<u64>::new(64), None);
+    assert!(rt; error.err() == Some(200));
+    assert!(rt; BitEnd::<u64>::new(65) == None);
+    assert!(rt; BitPos::<u64>::new(64) == None);
 }
 
 #[test]
@@ -58,32 +60,32 @@ fn places_have_their_limits(rt: HostRuntime) {
         BitEnd::<u64>::MAX.into_inner(),
         BitPos::<u64>::MAX.into_inner(),
     );
-    assert_eq!(rt; greatest, (63, 64, 63));
-    assert_eq!(rt; BitIdx::<u64>::MIN, BitIdx::default());
-    assert_eq!(rt; BitEnd::<u64>::MIN, BitEnd::default());
-    assert_eq!(rt; BitPos::<u64>::MIN, BitPos::default());
+    assert!(rt; greatest == (63, 64, 63));
+    assert!(rt; BitIdx::<u64>::MIN == BitIdx::default());
+    assert!(rt; BitEnd::<u64>::MIN == BitEnd::default());
+    assert!(rt; BitPos::<u64>::MIN == BitPos::default());
 }
 
 #[test]
 fn ranges_of_indices_come_from_both_ends(rt: HostRuntime) -> Result<(), Fail> {
     let mut range = BitIdx::<u8>::new(3)?.range(BitEnd::new_unchecked(6));
-    assert_eq!(rt; range.len(), 3);
-    assert_eq!(rt; range.next(), Some(BitIdx::new_unchecked(3)));
-    assert_eq!(rt; range.next_back(), Some(BitIdx::new_unchecked(5)));
-    assert_eq!(rt; range.clone()?.next(), Some(BitIdx::new_unchecked(4)));
-    assert_eq!(rt; range.next_back(), Some(BitIdx::new_unchecked(4)));
+    assert!(rt; range.len() == 3);
+    assert!(rt; range.next() == Some(BitIdx::new_unchecked(3)));
+    assert!(rt; range.next_back() == Some(BitIdx::new_unchecked(5)));
+    assert!(rt; range.clone()?.next() == Some(BitIdx::new_unchecked(4)));
+    assert!(rt; range.next_back() == Some(BitIdx::new_unchecked(4)));
     assert!(rt; range.next().is_none() && range.next_back().is_none());
-    assert_eq!(rt; BitIdx::<u16>::range_all().count(), 16);
+    assert!(rt; BitIdx::<u16>::range_all().count() == 16);
     Ok(())
 }
 
 #[test]
 fn ranges_of_ends_come_from_both_ends(rt: HostRuntime) -> Result<(), Fail> {
     let mut ends = BitEnd::<u8>::range_from(BitIdx::new(6)?);
-    assert_eq!(rt; ends.len(), 3);
-    assert_eq!(rt; ends.next(), Some(BitEnd::new_unchecked(6)));
-    assert_eq!(rt; ends.next_back(), Some(BitEnd::MAX));
-    assert_eq!(rt; ends.next(), Some(BitEnd::new_unchecked(7)));
+    assert!(rt; ends.len() == 3);
+    assert!(rt; ends.next() == Some(BitEnd::new_unchecked(6)));
+    assert!(rt; ends.next_back() == Some(BitEnd::MAX));
+    assert!(rt; ends.next() == Some(BitEnd::new_unchecked(7)));
     assert!(rt; ends.next().is_none());
     Ok(())
 }
@@ -91,11 +93,11 @@ fn ranges_of_ends_come_from_both_ends(rt: HostRuntime) -> Result<(), Fail> {
 #[test]
 fn ranges_of_selectors_come_from_both_ends(rt: HostRuntime) {
     let mut selectors = BitSel::<u8>::range_all();
-    assert_eq!(rt; selectors.len(), 8);
+    assert!(rt; selectors.len() == 8);
     let first = selectors.next().map(|selector| selector.into_inner());
-    assert_eq!(rt; first, Some(1));
+    assert!(rt; first == Some(1));
     let last = selectors.next_back().map(|selector| selector.into_inner());
-    assert_eq!(rt; last, Some(128));
+    assert!(rt; last == Some(128));
 }
 
 #[test]
@@ -105,14 +107,14 @@ fn masks_are_sets_of_positions(rt: HostRuntime) -> Result<(), Fail> {
     assert!(rt; !mask.test(fourth));
     mask.insert(fourth);
     assert!(rt; mask.test(fourth));
-    assert_eq!(rt; mask.into_inner(), 0b0000_1101);
-    assert_eq!(rt; mask.combine(fourth), mask);
+    assert!(rt; mask.into_inner() == 0b0000_1101);
+    assert!(rt; mask.combine(fourth) == mask);
     let others = (
         (!mask).into_inner(),
         (mask & 0b0000_0110).into_inner(),
         (mask | 0b1000_0000).into_inner(),
     );
-    assert_eq!(rt; others, (0b1111_0010, 0b0000_0100, 0b1000_1101));
+    assert!(rt; others == (0b1111_0010, 0b0000_0100, 0b1000_1101));
     Ok(())
 }
 
@@ -121,13 +123,13 @@ fn masks_are_made_of_selectors(rt: HostRuntime) -> Result<(), Fail> {
     assert!(rt; BitSel::<u8>::new(0).is_none());
     assert!(rt; BitSel::<u8>::new(0b0110).is_none());
     let fourth = BitSel::<u8>::new(0b1000).ok_or("one bit")?;
-    assert_eq!(rt; fourth.mask().into_inner(), 0b1000);
+    assert!(rt; fourth.mask().into_inner() == 0b1000);
     let sixth = BitPos::<u8>::new_unchecked(6).mask();
-    assert_eq!(rt; sixth.into_inner(), 0b0100_0000);
+    assert!(rt; sixth.into_inner() == 0b0100_0000);
     let twice = [fourth, BitIdx::new(0)?.select::<LocalBits>(), fourth];
-    assert_eq!(rt; BitMask::sum(twice.iter().copied()).into_inner(), 0b1001);
-    assert_eq!(rt; BitMask::sum(BitSel::<u8>::range_all()), BitMask::ALL);
-    assert_eq!(rt; BitMask::<u8>::default(), BitMask::ZERO);
+    assert!(rt; BitMask::sum(twice.iter().copied()).into_inner() == 0b1001);
+    assert!(rt; BitMask::sum(BitSel::<u8>::range_all()) == BitMask::ALL);
+    assert!(rt; BitMask::<u8>::default() == BitMask::ZERO);
     Ok(())
 }
 
@@ -142,7 +144,7 @@ fn order_and_hash_go_by_number(rt: HostRuntime) -> Result<(), Fail> {
     assert!(rt; first < second);
     assert!(rt; first == first.clone()?);
     assert!(rt; BitIdx::<u8>::new(2)? < BitIdx::<u8>::new(3)?);
-    assert_eq!(rt; hash_of(&low), hash_of(&BitMask::new(0x0fu8)));
+    assert!(rt; hash_of(&low) == hash_of(&BitMask::new(0x0fu8)));
     Ok(())
 }
 
@@ -154,7 +156,7 @@ fn hash_of<T: Hash>(value: &T) -> u64 {
 
 #[test]
 fn words_that_hold_so_many_bits(rt: HostRuntime) {
-    assert_eq!(rt; bits_of::<u32>(), 32);
+    assert!(rt; bits_of::<u32>() == 32);
     // bits, words of u16, words of u64
     let rows = [
         (0, 0, 0),
@@ -166,11 +168,13 @@ fn words_that_hold_so_many_bits(rt: HostRuntime) {
         (usize::MAX, 1152921504606846976, 288230376151711744),
     ];
     for (bits, small, large) in rows {
-        assert_eq!(rt; elts::<u16>(bits), small, "{bits}");
-        assert_eq!(rt; elts::<u64>(bits), large, "{bits}");
+        assert!(rt;
+            (elts::<u16>(bits), elts::<u64>(bits)) == (small, large),
+            "{bits}"
+        );
     }
-    assert_eq!(rt; BitElement::new(7u8).elem, 7);
-    assert_eq!(rt; BitElement::<u8>::default(), BitElement { elem: 0 });
+    assert!(rt; BitElement::new(7u8).elem == 7);
+    assert!(rt; BitElement::<u8>::default() == BitElement { elem: 0 });
     assert!(rt; Lsb0 == Lsb0::default());
 }
 
@@ -180,9 +184,9 @@ fn calls_of_register<R: BitRegister>(
     sizes: (u8, u8, u8),
     name: &str,
 ) {
-    assert_eq!(rt; (R::BITS, R::INDX, R::MASK), sizes);
-    assert_eq!(rt; R::NAME, name);
-    assert_eq!(rt; R::type_name(), name);
+    assert!(rt; (R::BITS, R::INDX, R::MASK) == sizes);
+    assert!(rt; R::NAME == name);
+    assert!(rt; R::type_name() == name);
     assert!(rt; R::from_value(u128::MAX - 1).equals(R::ONE.not()));
     assert!(rt; R::ZERO.not().equals(R::ALL));
     assert!(rt; R::ONE.shl(R::MASK).shr(R::MASK).equals(R::ONE));

@@ -51,13 +51,13 @@ fn check_texts<T: fmt::Binary + fmt::Octal + fmt::LowerHex + fmt::UpperHex>(
     [binary, octal, lower, upper]: [&str; 4],
 ) -> Result<(), Fail> {
     let text = format!(in alloc; "{}", InBinary(domain))?;
-    assert_eq!(rt; text.as_str(), binary);
+    assert!(rt; text.as_str() == binary);
     let text = format!(in alloc; "{}", InOctal(domain))?;
-    assert_eq!(rt; text.as_str(), octal);
+    assert!(rt; text.as_str() == octal);
     let text = format!(in alloc; "{}", InLowerHex(domain))?;
-    assert_eq!(rt; text.as_str(), lower);
+    assert!(rt; text.as_str() == lower);
     let text = format!(in alloc; "{}", InUpperHex(domain))?;
-    assert_eq!(rt; text.as_str(), upper);
+    assert!(rt; text.as_str() == upper);
     Ok(())
 }
 
@@ -157,7 +157,7 @@ fn writable_domains_are_written(rt: HostRuntime) -> Result<(), Fail> {
     ];
     check_texts(&rt, rt.alloc(), &domain, texts)?;
     let domain: DomainMut<u8, Msb0> = Default::default();
-    assert_eq!(rt; domain.len(), 0);
+    assert!(rt; domain.len() == 0);
     let texts = ["[]", "[]", "[]", "[]"];
     check_texts(&rt, rt.alloc(), &domain, texts)
 }

@@ -29,9 +29,9 @@ fn words_of_a_region_from_the_back(rt: HostRuntime) -> Result<(), Fail> {
     let memory = [0x12u8, 0x34, 0x56];
     let mut words = region(&memory)?.words();
     for word in [0x06, 0x34, 0x10] {
-        assert_eq!(rt; words.next_back(), Some(word));
+        assert!(rt; words.next_back() == Some(word));
     }
-    assert_eq!(rt; words.next_back(), None);
+    assert!(rt; words.next_back() == None);
     Ok(())
 }
 
@@ -39,13 +39,13 @@ fn words_of_a_region_from_the_back(rt: HostRuntime) -> Result<(), Fail> {
 fn words_of_a_region_from_the_front(rt: HostRuntime) -> Result<(), Fail> {
     let memory = [0x12u8, 0x34, 0x56];
     let mut words = region(&memory)?.words();
-    assert_eq!(rt; words.len(), 3);
+    assert!(rt; words.len() == 3);
     for word in [0x10, 0x34, 0x06] {
-        assert_eq!(rt; words.next(), Some(word));
+        assert!(rt; words.next() == Some(word));
     }
-    assert_eq!(rt; words.next(), None);
+    assert!(rt; words.next() == None);
     let text = format!(in rt.alloc(); "{}", InHex(region(&memory)?))?;
-    assert_eq!(rt; text.as_str(), "[10, 34, 6]");
+    assert!(rt; text.as_str() == "[10, 34, 6]");
     Ok(())
 }
 
@@ -55,12 +55,12 @@ fn parts_of_a_region(rt: HostRuntime) -> Result<(), Fail> {
     let domain = region(&memory)?;
     assert!(rt; domain.enclave().is_none());
     let (head, body, tail) = domain.region().ok_or("region")?;
-    assert_eq!(rt; body, [0x34].as_slice());
+    assert!(rt; body == [0x34].as_slice());
     let (words, from, count) = head.ok_or("head")?.into_bitslice();
-    assert_eq!(rt; words, [0x12].as_slice());
-    assert_eq!(rt; (from.into_inner(), count), (4, 4));
+    assert!(rt; words == [0x12].as_slice());
+    assert!(rt; (from.into_inner(), count) == (4, 4));
     let (from, upto) = tail.ok_or("tail")?.bounds();
-    assert_eq!(rt; (from.into_inner(), upto.into_inner()), (0, 4));
+    assert!(rt; (from.into_inner(), upto.into_inner()) == (0, 4));
     Ok(())
 }
 
@@ -83,13 +83,10 @@ fn enclave_is_read(rt: HostRuntime) -> Result<(), Fail> {
     let span = BitSpan::<u8, Lsb0>::new(0, BitIdx::new(2)?, 4)?;
     assert!(rt; span.fits(1));
     assert!(rt; span.domain(&memory).region().is_none());
-    assert_eq!(rt; enclave_numbers(span.domain(&memory))?, [0x30, 0x3c, 2, 6]);
+    assert!(rt; enclave_numbers(span.domain(&memory))? == [0x30, 0x3c, 2, 6]);
     let reversed = BitSpan::<u8, Msb0>::new(0, BitIdx::new(2)?, 4)?;
     assert!(rt; reversed.fits(1));
-    assert_eq!(rt;
-        enclave_numbers(reversed.domain(&memory))?,
-        [0x30, 0x3c, 2, 6]
-    );
+    assert!(rt; enclave_numbers(reversed.domain(&memory))? == [0x30, 0x3c, 2, 6]);
     Ok(())
 }
 
@@ -121,12 +118,12 @@ fn write_enclave<O: BitOrder<u8>>(word: &mut u8) -> Result<[u8; 5], Fail> {
 fn enclave_is_written(rt: HostRuntime) -> Result<(), Fail> {
     let mut word = 0xf0;
     let answers = write_enclave::<Lsb0>(&mut word)?;
-    assert_eq!(rt; answers, [0x30, 0x30, 0x3c, 0x00, 0x00]);
-    assert_eq!(rt; word, 0xfc);
+    assert!(rt; answers == [0x30, 0x30, 0x3c, 0x00, 0x00]);
+    assert!(rt; word == 0xfc);
     let mut same = 0xf0;
     let same_answers = write_enclave::<Msb0>(&mut same)?;
-    assert_eq!(rt; same_answers, [0x30, 0x30, 0x3c, 0x00, 0x00]);
-    assert_eq!(rt; same, 0xfc);
+    assert!(rt; same_answers == [0x30, 0x30, 0x3c, 0x00, 0x00]);
+    assert!(rt; same == 0xfc);
     Ok(())
 }
 
@@ -139,17 +136,17 @@ fn enclave_is_left(rt: HostRuntime) -> Result<(), Fail> {
             BitIdx::new_unchecked(2),
             BitEnd::new_unchecked(6),
         );
-        assert_eq!(rt; part.store_value(0xff), 0x30);
+        assert!(rt; part.store_value(0xff) == 0x30);
     }
-    assert_eq!(rt; word, 0xfc);
+    assert!(rt; word == 0xfc);
     {
         let mut part = PartialElementMut::<u8, Lsb0>::new(
             &mut word,
             BitIdx::new_unchecked(2),
             BitEnd::new_unchecked(6),
         );
-        assert_eq!(rt; part.invert(), 0x3c);
+        assert!(rt; part.invert() == 0x3c);
     }
-    assert_eq!(rt; word, 0xc0);
+    assert!(rt; word == 0xc0);
     Ok(())
 }

@@ -11,7 +11,6 @@ mod domains;
 mod part_rows;
 #[cfg(test)]
 mod part_sweeps;
-pub mod parts;
 #[cfg(test)]
 mod plain_words;
 #[cfg(test)]

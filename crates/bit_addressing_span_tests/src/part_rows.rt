@@ -1,7 +1,7 @@
 //! Parts of words, stored, loaded and restored.
 
-use crate::parts::{store_and_load, store_and_restore, write_two};
 use bit_addressing::{BitEnd, BitIdx, BitSpan, Lsb0, PartialElementMut};
+use bit_addressing_samples::part_callers::{store_and_load, store_and_restore, write_two};
 use std::test::Fail;
 
 #[test]
@@ -13,10 +13,10 @@ fn parts_are_restored(rt: HostRuntime) -> Result<(), Fail> {
             BitIdx::new_unchecked(1),
             BitEnd::new_unchecked(7),
         );
-        assert_eq!(rt; store_and_load(&mut part, 0xff), 0x7e);
+        assert!(rt; store_and_load(&mut part, 0xff) == 0x7e);
         store_and_restore(&mut part, 0x00);
     }
-    assert_eq!(rt; word, 0xff);
+    assert!(rt; word == 0xff);
     Ok(())
 }
 
@@ -27,6 +27,6 @@ fn two_words_are_written(rt: HostRuntime) -> Result<(), Fail> {
     let (_, head, _) = span.raw_parts();
     assert!(rt; span.elements() == 2 && head.into_inner() < 8);
     write_two(span, &mut memory, 0xab, 0xcd);
-    assert_eq!(rt; memory, [0xa2, 0x3d, 0x56]);
+    assert!(rt; memory == [0xa2, 0x3d, 0x56]);
     Ok(())
 }

@@ -144,17 +144,17 @@ pub fn span_of<R: BitRegister, O: BitOrder<R>>(
 
 /// Two numbers are the same.
 pub fn same(rt: &impl Abort, what: &str, found: u128, wanted: u128) {
-    assert_eq!(rt; found, wanted, "{what}");
+    assert!(rt; found == wanted, "{what}");
 }
 
 /// Two counts are the same.
 pub fn same_count(rt: &impl Abort, what: &str, found: usize, wanted: usize) {
-    assert_eq!(rt; found, wanted, "{what}");
+    assert!(rt; found == wanted, "{what}");
 }
 
 /// Two answers are the same.
 pub fn same_answer(rt: &impl Abort, what: &str, found: bool, wanted: bool) {
-    assert_eq!(rt; found, wanted, "{what}");
+    assert!(rt; found == wanted, "{what}");
 }
 
 /// There is a word, of this number.

@@ -14,19 +14,19 @@ fn spans_are_refused(rt: HostRuntime) -> Result<(), Fail> {
     let both = BitSpan::<u8, Lsb0>::new(usize::MAX, zero, usize::MAX);
     assert!(rt; both == Err(BitSpanError::TooLong(usize::MAX)));
     let long_text = format!(in alloc; "{}", BitSpanError::TooLong(7))?;
-    assert_eq!(rt; long_text.as_str(), "span of 7 bits is too long");
+    assert!(rt; long_text.as_str() == "span of 7 bits is too long");
     let high_text = format!(in alloc; "{}", BitSpanError::TooHigh(8))?;
-    assert_eq!(rt; high_text.as_str(), "span at word 8 ends too high");
+    assert!(rt; high_text.as_str() == "span at word 8 ends too high");
     Ok(())
 }
 
 #[test]
 fn spans_without_bits(rt: HostRuntime) -> Result<(), Fail> {
     let highest = BitSpan::<u8, Lsb0>::new(9223372036854775807, BitIdx::new(0)?, 0)?;
-    assert_eq!(rt; highest.elements(), 0);
+    assert!(rt; highest.elements() == 0);
     let empty = BitSpan::<u8, Msb0>::new(5, BitIdx::new(3)?, 0)?;
-    assert_eq!(rt; (empty.elements(), empty.tail().into_inner()), (0, 3));
-    assert_eq!(rt; (empty.fits(4), empty.fits(5)), (false, true));
+    assert!(rt; (empty.elements(), empty.tail().into_inner()) == (0, 3));
+    assert!(rt; (empty.fits(4), empty.fits(5)) == (false, true));
     let none = BitSpan::<u8, Msb0>::default();
     assert!(rt; none == BitSpan::<u8, Msb0>::new(0, BitIdx::new(0)?, 0)?);
     assert!(rt; none != empty);
@@ -43,16 +43,10 @@ fn spans_have_words(rt: HostRuntime) -> Result<(), Fail> {
         (3, 1, 1, 4),
     ] {
         let span = BitSpan::<u8, Lsb0>::new(2, BitIdx::new(head)?, len)?;
-        assert_eq!(rt;
-            (span.elements(), span.tail().into_inner()),
-            (elements, tail)
-        );
-        assert_eq!(rt;
-            (span.fits(1 + elements), span.fits(2 + elements)),
-            (false, true)
-        );
+        assert!(rt; (span.elements(), span.tail().into_inner()) == (elements, tail));
+        assert!(rt; (span.fits(1 + elements), span.fits(2 + elements)) == (false, true));
         let (word, first, bits) = span.raw_parts();
-        assert_eq!(rt; (word, first.into_inner(), bits), (2, head, len));
+        assert!(rt; (word, first.into_inner(), bits) == (2, head, len));
     }
     Ok(())
 }

@@ -1,7 +1,6 @@
 //! The tests of the sweep, of moves and of runs over spans: the rows, every small move, and what callers know.
 #![tactic(auto)]
 
-pub mod callers;
 #[cfg(test)]
 mod moves;
 #[cfg(test)]

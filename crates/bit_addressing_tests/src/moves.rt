@@ -2,9 +2,9 @@
 
 ghost use Rattle.std.specs.Prelude.{◌+◌, ◌*◌, ◌<◌, ◌≤◌};
 
-use crate::callers::{move_list, move_within, own_array};
 use bit_addressing::mem::bits_of;
 use bit_addressing::{BitIdx, BitOrder, BitRegister, Lsb0, Msb0, read_bit};
+use bit_addressing_samples::callers::{move_list, move_within, own_array};
 use bit_addressing_samples::{FifthStep, Flipped};
 
 #[test]
@@ -18,7 +18,7 @@ fn moves_of_sixteen_bits(rt: HostRuntime) {
     for (target, after, most) in rows {
         let mut words = [0x12u8, 0x34, 0x56];
         let writes = move_within::<u8, Lsb0>(&mut words, 4, target, 16);
-        assert_eq!(rt; words, after, "to {target}");
+        assert!(rt; words == after, "to {target}");
         assert!(rt; writes <= most, "to {target}: {writes}");
     }
 }
@@ -27,13 +27,13 @@ fn moves_of_sixteen_bits(rt: HostRuntime) {
 fn moves_under_other_orders(rt: HostRuntime) {
     let mut words = [0x12u8, 0x34, 0x56];
     let writes = move_list::<u8, Flipped>(&mut words, 4, 0, 16);
-    assert_eq!(rt; words, [0x23, 0x45, 0x56]);
+    assert!(rt; words == [0x23, 0x45, 0x56]);
     assert!(rt; writes <= 2);
     let (words, writes) = own_array::<u8, FifthStep>(0x12, 0x34, 0x56);
-    assert_eq!(rt; words, [0x63, 0x41, 0x56]);
+    assert!(rt; words == [0x63, 0x41, 0x56]);
     assert!(rt; writes <= 2);
     let (words, writes) = own_array::<u8, Lsb0>(0x12, 0x34, 0x56);
-    assert_eq!(rt; words, [0x41, 0x63, 0x56]);
+    assert!(rt; words == [0x41, 0x63, 0x56]);
     assert!(rt; writes <= 2);
 }
 
@@ -90,9 +90,9 @@ fn first_fault<O: BitOrder<u8>>(before: [u8; 9]) -> Option<(usize, usize, usize)
 #[test]
 fn every_small_move_is_a_plain_copy(rt: HostRuntime) {
     let before = [0x12, 0x34, 0x56, 0x78, 0x9a, 0xbc, 0xde, 0xf0, 0x5b];
-    assert_eq!(rt; first_fault::<Lsb0>(before), None);
-    assert_eq!(rt; first_fault::<Msb0>(before), None);
-    assert_eq!(rt; first_fault::<Flipped>(before), None);
+    assert!(rt; first_fault::<Lsb0>(before) == None);
+    assert!(rt; first_fault::<Msb0>(before) == None);
+    assert!(rt; first_fault::<Flipped>(before) == None);
 }
 
 #[test]
@@ -119,9 +119,8 @@ fn some_moves_of_wide_words_are_plain_copies(rt: HostRuntime) {
             agrees::<u32, Msb0, 3>(before, source, target, len),
             agrees::<u32, Flipped, 3>(before, source, target, len),
         );
-        assert_eq!(rt;
-            agreed,
-            (true, true, true),
+        assert!(rt;
+            agreed == (true, true, true),
             "{source} to {target}, {len} bits"
         );
     }

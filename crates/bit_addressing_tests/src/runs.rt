@@ -3,11 +3,11 @@
 ghost use Rattle.std.specs.Prelude.{◌≡◌, IfOk};
 ghost use Rattle.bit_addressing_span.specs.Span.{extent};
 
-use crate::callers::set_and_read;
 use bit_addressing::{
     BitIdx, BitOrder, BitRegister, BitSpan, Lsb0, Msb0, SpanCommand, SpanReply, all_fit, disjoint,
     order_of_spans_is_free, run,
 };
+use bit_addressing_samples::callers::set_and_read;
 use std::process::Abort;
 use std::test::Fail;
 
@@ -50,7 +50,7 @@ fn byte_rows<O: BitOrder<u8>, A: Abort>(
         let mut replies = [SpanReply::Done];
         run_tested(rt, &mut memory, &spans, &[(number, command)], &mut replies);
         assert!(rt; replies == [reply], "row {k}");
-        assert_eq!(rt; memory, [after], "row {k}");
+        assert!(rt; memory == [after], "row {k}");
         if k < 7 {
             commands[k] = (number, command);
             wanted[k] = reply;
@@ -61,7 +61,7 @@ fn byte_rows<O: BitOrder<u8>, A: Abort>(
     let mut replies = [SpanReply::Done; 7];
     run_tested(rt, &mut memory, &spans, &commands, &mut replies);
     assert!(rt; replies == wanted);
-    assert_eq!(rt; memory, once);
+    assert!(rt; memory == once);
     Ok(())
 }
 
@@ -131,7 +131,7 @@ fn three_registers_of_a_device(rt: HostRuntime) -> Result<(), Fail> {
     let mut replies = [SpanReply::Done; 3];
     run_tested(&rt, &mut memory, &registers()?, &commands, &mut replies);
     assert!(rt; replies == wanted);
-    assert_eq!(rt; memory, [0x1234_5679, 0x6543_2ef0]);
+    assert!(rt; memory == [0x1234_5679, 0x6543_2ef0]);
     Ok(())
 }
 
@@ -178,7 +178,7 @@ fn registers_of_a_device(rt: HostRuntime) -> Result<(), Fail> {
     for k in 0..14 {
         assert!(rt; replies[k] == DIALOGUE[k].2, "command {k}");
     }
-    assert_eq!(rt; memory, [0x0454_5fff, 0x6543_1345]);
+    assert!(rt; memory == [0x0454_5fff, 0x6543_1345]);
     Ok(())
 }
 
@@ -209,11 +209,11 @@ fn order_of_two_spans(rt: HostRuntime) -> Result<(), Fail> {
 
     let (replies, after) = four_replies(&rt, 0xf0, [replace, invert, load, load_other])?;
     assert!(rt; replies == [replaced, inverted, loaded, loaded_other]);
-    assert_eq!(rt; after, 0x09);
+    assert!(rt; after == 0x09);
 
     let (replies, after) = four_replies(&rt, 0xf0, [invert, load_other, replace, load])?;
     assert!(rt; replies == [inverted, loaded_other, replaced, loaded]);
-    assert_eq!(rt; after, 0x09);
+    assert!(rt; after == 0x09);
     order_of_spans_is_free::<u8, Lsb0>();
     Ok(())
 }
@@ -230,7 +230,7 @@ fn a_bit_is_set_and_a_neighbour_read(rt: HostRuntime) -> Result<(), Fail> {
     assert!(rt; disjoint(&spans));
     assert!(rt; all_fit(&spans, memory.len()));
     set_and_read(&mut memory, &spans, &commands, &mut replies);
-    assert_eq!(rt; memory, [0xf9]);
+    assert!(rt; memory == [0xf9]);
     assert!(rt; replies == [SpanReply::Bit(false), SpanReply::Bit(true)]);
     Ok(())
 }
@@ -265,7 +265,7 @@ fn spans_are_disjoint(rt: HostRuntime) -> Result<(), Fail> {
             span::<u64, Lsb0>(one.0, one.1, one.2)?,
             span::<u64, Lsb0>(other.0, other.1, other.2)?,
         ];
-        assert_eq!(rt; disjoint(&spans), apart, "{} {} {}", one.0, one.1, one.2);
+        assert!(rt; disjoint(&spans) == apart, "{} {} {}", one.0, one.1, one.2);
     }
     Ok(())
 }

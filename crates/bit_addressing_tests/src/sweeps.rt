@@ -1,14 +1,14 @@
 //! Rows of a sweep.
 
-use crate::callers::put_ends;
 use bit_addressing::{Sweep, Way, way_for};
+use bit_addressing_samples::callers::put_ends;
 
 #[test]
 fn ways_of_a_move(rt: HostRuntime) {
     // source, target, way
     let rows = [(4, 0, Way::Up), (4, 4, Way::Up), (4, 5, Way::Down)];
     for (source, target, way) in rows {
-        assert_eq!(rt; way_for(source, target), way, "{source} to {target}");
+        assert!(rt; way_for(source, target) == way, "{source} to {target}");
     }
 }
 
@@ -16,20 +16,20 @@ fn ways_of_a_move(rt: HostRuntime) {
 fn a_sweep_counts_what_it_reads_and_writes(rt: HostRuntime) {
     let mut words = [0x12u8, 0x34, 0x56];
     let mut sweep = Sweep::new(&mut words, Way::Up);
-    assert_eq!(rt; sweep.way(), Way::Up);
-    assert_eq!(rt; (sweep.reads(), sweep.writes()), (0, 0));
-    assert_eq!(rt; sweep.read(2), 0x56);
-    assert_eq!(rt; sweep.read(0), 0x12);
+    assert!(rt; sweep.way() == Way::Up);
+    assert!(rt; (sweep.reads(), sweep.writes()) == (0, 0));
+    assert!(rt; sweep.read(2) == 0x56);
+    assert!(rt; sweep.read(0) == 0x12);
     sweep.put(0, 0xff);
-    assert_eq!(rt; sweep.read(0), 0xff);
+    assert!(rt; sweep.read(0) == 0xff);
     sweep.put(2, 0);
-    assert_eq!(rt; (sweep.reads(), sweep.writes()), (3, 2));
-    assert_eq!(rt; words, [0xff, 0x34, 0]);
+    assert!(rt; (sweep.reads(), sweep.writes()) == (3, 2));
+    assert!(rt; words == [0xff, 0x34, 0]);
 }
 
 #[test]
 fn a_sweep_goes_down(rt: HostRuntime) {
     let mut words = [1u32, 2, 3];
-    assert_eq!(rt; put_ends(&mut words, 7, 8), (1, 2));
-    assert_eq!(rt; words, [7, 8, 3]);
+    assert!(rt; put_ends(&mut words, 7, 8) == (1, 2));
+    assert!(rt; words == [7, 8, 3]);
 }

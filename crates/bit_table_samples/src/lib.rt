@@ -1,6 +1,13 @@
-//! What the tests of the table's crates share: a reader and a writer that fail when they are told to.
+//! What the tests of the table's crates share: a reader, a writer and a machine that fail when they are told to, and what
+//! callers of the table know.
 #![tactic(auto)]
 
+mod edges;
+mod machines;
+mod memory;
 mod streams;
 
+pub use edges::ends_at;
+pub use machines::Echo;
+pub use memory::answer_to;
 pub use streams::{Cut, Narrow, Stop};

@@ -28,16 +28,16 @@ fn refuses(table: &mut Table, command: &Command, cause: Cause) -> bool {
 fn a_table_is_edited_and_told(rt: HostRuntime) -> Result<(), Fail> {
     let layout = Layout::parse(rt.alloc(), b"low a:u3 b:i4")?;
     let mut table = Table::new(rt.alloc(), layout);
-    assert_eq!(rt; table.rows(), 0);
-    assert_eq!(rt; table.layout().row_bits(), 7);
-    assert_eq!(rt; table.layout().rule(), Rule::Low);
-    assert_eq!(rt; table.layout().fields().len(), 2);
+    assert!(rt; table.rows() == 0);
+    assert!(rt; table.layout().row_bits() == 7);
+    assert!(rt; table.layout().rule() == Rule::Low);
+    assert!(rt; table.layout().fields().len() == 2);
     assert!(rt; has_image(&mut table, 0, b""));
     for (place, values) in [(0, [2, 3]), (0, [5, -1])] {
         let command = insertion(rt.alloc(), place, values)?;
         assert!(rt; table.apply(&command) == Ok(Reply::Done), "{values:?}");
     }
-    assert_eq!(rt; table.rows(), 2);
+    assert!(rt; table.rows() == 2);
     assert!(rt; has_image(&mut table, 2, b"\x7d\x0d"));
     Ok(())
 }
@@ -62,7 +62,7 @@ fn a_table_refuses(rt: HostRuntime) -> Result<(), Fail> {
         let command = insertion(rt.alloc(), place, values)?;
         assert!(rt; refuses(&mut table, &command, cause), "{values:?}");
     }
-    assert_eq!(rt; table.rows(), 1);
+    assert!(rt; table.rows() == 1);
     assert!(rt; has_image(&mut table, 1, b"\x7d"));
     Ok(())
 }
@@ -75,7 +75,7 @@ fn a_table_refuses_one_value_for_two_fields(rt: HostRuntime) -> Result<(), Fail>
         values: Values::new(Vec::from_slice(rt.alloc(), &[8])?),
     };
     assert!(rt; refuses(&mut table, &one_value, Cause::Form));
-    assert_eq!(rt; table.rows(), 1);
+    assert!(rt; table.rows() == 1);
     assert!(rt; has_image(&mut table, 1, b"\x7d"));
     Ok(())
 }
@@ -86,9 +86,6 @@ fn a_script_runs(rt: HostRuntime) -> Result<(), Fail> {
     let mut output = Output::new(Vec::new(rt.alloc()));
     run(rt.alloc(), &mut input, &mut output)?;
     assert!(rt; input.into_inner().is_empty());
-    assert_eq!(rt;
-        output.into_inner().as_slice(),
-        b"ok\nok\n1 8d\n".as_slice()
-    );
+    assert!(rt; output.into_inner().as_slice() == b"ok\nok\n1 8d\n".as_slice());
     Ok(())
 }

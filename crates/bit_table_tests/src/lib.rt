@@ -1,9 +1,23 @@
-//! The tests of the table: worked scripts, faults in mid-stream, calls that find memory, and a plain second opinion.
+//! The tests of the table's crates: layouts, commands and images, worked scripts, faults in mid-stream, and a plain second
+//! opinion.
 #![tactic(auto)]
 
 #[cfg(test)]
+mod answers;
+#[cfg(test)]
 mod calls;
-pub mod memory;
+#[cfg(test)]
+mod commands;
+#[cfg(test)]
+mod image_lines;
+#[cfg(test)]
+mod layout_lines;
+#[cfg(test)]
+mod line_runs;
+#[cfg(test)]
+mod line_words;
+#[cfg(test)]
+mod numbers;
 #[cfg(test)]
 mod plain;
 #[cfg(test)]

@@ -1,6 +1,6 @@
 //! Worked scripts and their answers.
-use crate::memory::answer_to;
 use crate::plain::plain_answer;
+use bit_table_samples::answer_to;
 use std::alloc::{AllocError, Global};
 use std::test::Fail;
 
@@ -60,14 +60,12 @@ const ROWS: [Row; 11] = [
 #[test]
 fn answers_worked_scripts(rt: HostRuntime) -> Result<(), Fail> {
     for (script, answer) in ROWS {
-        assert_eq!(rt;
-            answer_to(rt.alloc(), script)?.as_slice(),
-            answer,
+        assert!(rt;
+            answer_to(rt.alloc(), script)?.as_slice() == answer,
             "{script:?}"
         );
-        assert_eq!(rt;
-            plain_answer(rt.alloc(), script)?.as_slice(),
-            answer,
+        assert!(rt;
+            plain_answer(rt.alloc(), script)?.as_slice() == answer,
             "{script:?}"
         );
     }
@@ -91,9 +89,8 @@ fn a_refused_line_changes_nothing(rt: HostRuntime) -> Result<(), Fail> {
         let mut answer = Vec::from_slice(rt.alloc(), b"ok\nok\nok\n")?;
         answer.extend_from_slice(refusal)?;
         answer.extend_from_slice(b"2 7d0d\n")?;
-        assert_eq!(rt;
-            answer_to(rt.alloc(), script.as_slice())?.as_slice(),
-            answer.as_slice(),
+        assert!(rt;
+            answer_to(rt.alloc(), script.as_slice())?.as_slice() == answer.as_slice(),
             "{line:?}"
         );
     }
@@ -155,9 +152,8 @@ const LONG_ROWS: [LongRow; 5] = [
 fn takes_numbers_of_any_length(rt: HostRuntime) -> Result<(), Fail> {
     for (before, fill, behind, answer) in LONG_ROWS {
         let script = long_script(rt.alloc(), before, fill, behind)?;
-        assert_eq!(rt;
-            answer_to(rt.alloc(), script.as_slice())?.as_slice(),
-            answer,
+        assert!(rt;
+            answer_to(rt.alloc(), script.as_slice())?.as_slice() == answer,
             "{before:?}"
         );
     }

@@ -1,8 +1,8 @@
 //! Scripts that are thrown together, answered by a run and by the plain program.
 ghost use Rattle.std.specs.Prelude.{◌<◌, ◌≤◌, length};
 
-use crate::memory::answer_to;
 use crate::plain::plain_answer;
+use bit_table_samples::answer_to;
 use std::alloc::{AllocError, Global};
 use std::test::Fail;
 
@@ -198,7 +198,7 @@ fn the_plain_program_agrees(rt: HostRuntime) -> Result<(), Fail> {
         let script = thrown(rt.alloc(), seed)?;
         let answer = answer_to(rt.alloc(), script.as_slice())?;
         let plain = plain_answer(rt.alloc(), script.as_slice())?;
-        assert_eq!(rt; answer.as_slice(), plain.as_slice(), "{seed}: {script:?}");
+        assert!(rt; answer.as_slice() == plain.as_slice(), "{seed}: {script:?}");
         answers.extend_from_slice(answer.as_slice())?;
     }
     for found in [

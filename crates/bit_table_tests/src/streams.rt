@@ -27,11 +27,10 @@ fn answers_however_it_is_cut(rt: HostRuntime) -> Result<(), Fail> {
             let mut output = Output::new(Vec::new(rt.alloc()));
             let result = run(rt.alloc(), &mut input, &mut output);
             let faults = (input.failed(), output.failed());
-            assert_eq!(rt; (result, faults), (Ok(()), (false, false)));
+            assert!(rt; (result, faults) == (Ok(()), (false, false)));
             assert!(rt; input.into_inner().rest.is_empty());
-            assert_eq!(rt;
-                output.into_inner().as_slice(),
-                ANSWER.as_slice(),
+            assert!(rt;
+                output.into_inner().as_slice() == ANSWER.as_slice(),
                 "cut at {first}, then each {piece}"
             );
         }
@@ -65,10 +64,9 @@ fn a_read_fault_ends_it(rt: HostRuntime) -> Result<(), Fail> {
             let mut output = Output::new(Vec::new(rt.alloc()));
             let result = run(rt.alloc(), &mut input, &mut output);
             let faults = (input.failed(), output.failed());
-            assert_eq!(rt; (result, faults), (Err(RunError::Read), (true, false)));
-            assert_eq!(rt;
-                output.into_inner().as_slice(),
-                &ANSWER[..due(read)],
+            assert!(rt; (result, faults) == (Err(RunError::Read), (true, false)));
+            assert!(rt;
+                output.into_inner().as_slice() == &ANSWER[..due(read)],
                 "after {read} bytes, each {piece}"
             );
         }
@@ -97,14 +95,17 @@ fn a_write_fault_ends_it(rt: HostRuntime) -> Result<(), Fail> {
                 let is_cut = count < ANSWER.len();
                 let wanted = if is_cut { Err(RunError::Write) } else { Ok(()) };
                 let faults = (input.failed(), output.failed());
-                assert_eq!(rt; (result, faults), (wanted, (false, is_cut)));
+                assert!(rt; (result, faults) == (wanted, (false, is_cut)));
                 let Narrow {
                     taken,
                     most: _,
                     room: _,
                     stop: _,
                 } = output.into_inner();
-                assert_eq!(rt; taken.as_slice(), &ANSWER[..count], "{stop:?} after {room}");
+                assert!(rt;
+                    taken.as_slice() == &ANSWER[..count],
+                    "{stop:?} after {room}"
+                );
             }
         }
     }

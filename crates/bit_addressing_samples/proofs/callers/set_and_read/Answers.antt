@@ -9,7 +9,7 @@ use Rattle.bit_addressing.specs.declared.command.SpanReply.TheVariants.{Word, Bi
 use Rattle.bit_addressing.specs.Own.{own_after, own_answer, own_answers, own_list, seen}
 use Rattle.bit_addressing.specs.Runs.{Runs, commands_of, replies_of, span_at, span_bits, span_place}
 use Rattle.bit_addressing.proofs.SpanBits.{length-span_bits, span_bit}
-use Rattle.bit_addressing_tests.proofs.callers.set_and_read.Goals as goal
+use Rattle.bit_addressing_samples.proofs.callers.set_and_read.Goals as goal
 
 -- the list after its first bit is set
 list_set : {R : Type 0} (b : ℕ) (digit : R → ℕ → Bool) (head : ℕ) (bits : List Bool) → 0 < length bits

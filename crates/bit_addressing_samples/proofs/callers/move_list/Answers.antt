@@ -1,7 +1,7 @@
 use Rattle.std.proofs.Common.{◌<◌, arith}
 use Rattle.bit_addressing_memory.specs.Memory.{indexed}
 use Rattle.bit_addressing_memory.proofs.MemoryLemmas.{memory_copied}
-use Rattle.bit_addressing_tests.proofs.callers.move_list.Goals as goal
+use Rattle.bit_addressing_samples.proofs.callers.move_list.Goals as goal
 
 pub returns-clause-moved : goal.returns-clause-moved
 returns-clause-moved g c =

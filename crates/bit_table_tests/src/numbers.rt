@@ -12,8 +12,10 @@ fn numbers_are_taken_by_value(rt: HostRuntime) {
         (b"340282366920938463463374607431768211456", 100),
     ];
     for (word, number) in rows {
-        assert!(rt; is_number(word), "at {word:?}");
-        assert_eq!(rt; number_up_to(word, 100), number, "at {word:?}");
+        assert!(rt;
+            is_number(word) && number_up_to(word, 100) == number,
+            "at {word:?}"
+        );
     }
     for word in [b"".as_slice(), b"-1", b"+1", b"1a", b" 1", b"1_000"] {
         assert!(rt; !is_number(word), "at {word:?}");
@@ -25,10 +27,10 @@ fn numbers_have_any_length(rt: HostRuntime) -> Result<(), Fail> {
     let most = 1 << 100;
     let nines = vec![in rt.alloc(); b'9'; 10_000]?;
     assert!(rt; is_number(&nines));
-    assert_eq!(rt; number_up_to(&nines, most), most);
+    assert!(rt; number_up_to(&nines, most) == most);
     let mut one = vec![in rt.alloc(); b'0'; 10_000]?;
     one.push(b'1')?;
     assert!(rt; is_number(&one));
-    assert_eq!(rt; number_up_to(&one, most), 1);
+    assert!(rt; number_up_to(&one, most) == 1);
     Ok(())
 }

@@ -3,9 +3,8 @@ ghost use Rattle.std.specs.Prelude.{◌≡◌, ◌<◌, ◌≤◌, ◌∷◌, �
 ghost use Rattle.std.specs.List.{flat_map};
 ghost use Rattle.bit_table_script.specs.Lines.{lines};
 
-use crate::machines::Echo;
 use bit_table::{Input, Output, RunError, drive};
-use bit_table_samples::{Cut, Narrow, Stop};
+use bit_table_samples::{Cut, Echo, Narrow, Stop};
 use std::alloc::Global;
 use std::test::Fail;
 
@@ -34,11 +33,10 @@ fn answers_however_it_is_cut(rt: HostRuntime) -> Result<(), Fail> {
         let mut output = Output::new(Vec::new(rt.alloc()));
         let result = drive(rt.alloc(), &mut machine, &mut input, &mut output);
         let faults = (input.failed(), output.failed());
-        assert_eq!(rt; (result, faults), (Ok(()), (false, false)));
+        assert!(rt; (result, faults) == (Ok(()), (false, false)));
         assert!(rt; input.into_inner().rest.is_empty());
-        assert_eq!(rt;
-            output.into_inner().as_slice(),
-            ANSWER.as_slice(),
+        assert!(rt;
+            output.into_inner().as_slice() == ANSWER.as_slice(),
             "in pieces of {piece}"
         );
     }
@@ -57,7 +55,7 @@ fn answers_lines_longer_than_a_piece(rt: HostRuntime) -> Result<(), Fail> {
     drive(rt.alloc(), &mut echo(rt.alloc()), &mut input, &mut output)?;
     let written = output.into_inner();
     text.push(b'\n')?;
-    assert_eq!(rt; written.as_slice(), text.as_slice());
+    assert!(rt; written.as_slice() == text.as_slice());
     Ok(())
 }
 
@@ -86,10 +84,9 @@ fn a_read_fault_ends_it(rt: HostRuntime) -> Result<(), Fail> {
         let mut output = Output::new(Vec::new(rt.alloc()));
         let result = drive(rt.alloc(), &mut echo(rt.alloc()), &mut input, &mut output);
         let faults = (input.failed(), output.failed());
-        assert_eq!(rt; (result, faults), (Err(RunError::Read), (true, false)));
-        assert_eq!(rt;
-            output.into_inner().as_slice(),
-            &ANSWER[..due(read)],
+        assert!(rt; (result, faults) == (Err(RunError::Read), (true, false)));
+        assert!(rt;
+            output.into_inner().as_slice() == &ANSWER[..due(read)],
             "at {read}"
         );
     }
@@ -112,7 +109,7 @@ fn a_write_fault_ends_it(rt: HostRuntime) -> Result<(), Fail> {
                 let is_cut = room < ANSWER.len();
                 let wanted = if is_cut { Err(RunError::Write) } else { Ok(()) };
                 let faults = (input.failed(), output.failed());
-                assert_eq!(rt; (result, faults), (wanted, (false, is_cut)));
+                assert!(rt; (result, faults) == (wanted, (false, is_cut)));
                 let Narrow {
                     taken,
                     most: _,
@@ -120,7 +117,10 @@ fn a_write_fault_ends_it(rt: HostRuntime) -> Result<(), Fail> {
                     stop: _,
                 } = output.into_inner();
                 let count = room.min(ANSWER.len());
-                assert_eq!(rt; taken.as_slice(), &ANSWER[..count], "{stop:?} after {room}");
+                assert!(rt;
+                    taken.as_slice() == &ANSWER[..count],
+                    "{stop:?} after {room}"
+                );
             }
         }
     }
@@ -138,10 +138,9 @@ fn want_of_memory_ends_it(rt: HostRuntime) -> Result<(), Fail> {
         let mut output = Output::new(Vec::new(rt.alloc()));
         let result = drive(rt.alloc(), &mut machine, &mut input, &mut output);
         let faults = (input.failed(), output.failed());
-        assert_eq!(rt; (result, faults), (Err(RunError::Memory), (false, false)));
-        assert_eq!(rt;
-            output.into_inner().as_slice(),
-            &ANSWER[..due],
+        assert!(rt; (result, faults) == (Err(RunError::Memory), (false, false)));
+        assert!(rt;
+            output.into_inner().as_slice() == &ANSWER[..due],
             "after {lines} lines"
         );
     }
@@ -167,6 +166,6 @@ fn answered(alloc: Global, script: &[u8], most: usize) -> Result<Vec<u8>, RunErr
 #[test]
 fn is_proved_of_fakes_too(rt: HostRuntime) -> Result<(), Fail> {
     let text = answered(rt.alloc(), b"a\nb", 2)?;
-    assert_eq!(rt; text.as_slice(), b"a\nb\n".as_slice());
+    assert!(rt; text.as_slice() == b"a\nb\n".as_slice());
     Ok(())
 }

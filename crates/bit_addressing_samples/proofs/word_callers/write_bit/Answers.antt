@@ -1,6 +1,6 @@
 use Rattle.std.proofs.Common.{◌≡◌, ◌^◌, ◌∙◌, ap}
 use Rattle.bit_addressing_order.proofs.CallerLemmas.{and_not_is_with_digit}
-use Rattle.bit_addressing_order_tests.proofs.word_callers.write_bit.Goals as goal
+use Rattle.bit_addressing_samples.proofs.word_callers.write_bit.Goals as goal
 
 pub returns-else-bit : goal.returns-else-bit
 returns-else-bit g c =

@@ -33,16 +33,12 @@ fn reads_commands(rt: HostRuntime) -> Result<(), Fail> {
             [FAR, -FAR],
         ),
     ] {
-        assert_eq!(rt;
-            Command::parse(rt.alloc(), &layout, line)?,
-            insertion(rt.alloc(), place, values)?,
+        assert!(rt;
+            Command::parse(rt.alloc(), &layout, line)? == insertion(rt.alloc(), place, values)?,
             "{line:?}"
         );
     }
-    assert_eq!(rt;
-        Command::parse(rt.alloc(), &layout, b" image")?,
-        Command::Image
-    );
+    assert!(rt; Command::parse(rt.alloc(), &layout, b" image")? == Command::Image);
     Ok(())
 }
 
@@ -67,9 +63,9 @@ fn reads_long_numbers(rt: HostRuntime) -> Result<(), Fail> {
         (b'0', b'1', 1, [1, -1]),
     ] {
         let line = long_line(rt.alloc(), fill, last)?;
-        assert_eq!(rt;
-            Command::parse(rt.alloc(), &layout, line.as_slice())?,
-            insertion(rt.alloc(), place, values)?
+        assert!(rt;
+            Command::parse(rt.alloc(), &layout, line.as_slice())?
+                == insertion(rt.alloc(), place, values)?
         );
     }
     Ok(())
@@ -98,9 +94,8 @@ fn refuses_other_lines(rt: HostRuntime) -> Result<(), Fail> {
         b"image 1".as_slice(),
         b"images".as_slice(),
     ] {
-        assert_eq!(rt;
-            Command::parse(rt.alloc(), &layout, line),
-            Err(Fault::Refused(Cause::Form)),
+        assert!(rt;
+            Command::parse(rt.alloc(), &layout, line) == Err(Fault::Refused(Cause::Form)),
             "{line:?}"
         );
     }
@@ -110,8 +105,8 @@ fn refuses_other_lines(rt: HostRuntime) -> Result<(), Fail> {
 #[test]
 fn keeps_values(rt: HostRuntime) -> Result<(), Fail> {
     let values = Values::new(Vec::from_slice(rt.alloc(), &[3, -1])?);
-    assert_eq!(rt; values.as_slice(), [3, -1].as_slice());
-    assert_eq!(rt; format!(in rt.alloc(); "{values:?}")?.as_str(), "[3, -1]");
-    assert_eq!(rt; values.into_vec().as_slice(), [3, -1].as_slice());
+    assert!(rt; values.as_slice() == [3, -1].as_slice());
+    assert!(rt; format!(in rt.alloc(); "{values:?}")?.as_str() == "[3, -1]");
+    assert!(rt; values.into_vec().as_slice() == [3, -1].as_slice());
     Ok(())
 }

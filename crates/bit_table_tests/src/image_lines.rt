@@ -10,7 +10,7 @@ fn image_lines_show_rows_and_bytes(rt: HostRuntime) -> Result<(), Fail> {
         (10, b"\xff\x00\xa5", "10 ff00a5"),
     ];
     for (count, bytes, line) in rows {
-        assert_eq!(rt; image::line(rt.alloc(), count, bytes)?.as_str(), line);
+        assert!(rt; image::line(rt.alloc(), count, bytes)?.as_str() == line);
     }
     Ok(())
 }

@@ -1,9 +1,9 @@
 //! The number texts of domains, worked out by hand.
 
-use bit_addressing::{BitIdx, BitSpan, Domain, DomainMut, Lsb0, Msb0};
-use std::alloc::Global;
+use crate::plain_words::span_of;
+use bit_addressing::{BitIdx, BitOrder, BitRegister, BitSpan, Domain, DomainMut, Lsb0, Msb0};
+use std::alloc::{AllocError, Global};
 use std::fmt;
-use std::process::Abort;
 use std::test::Fail;
 
 // What a domain writes in one of its four forms: the holes of a format string take integers alone.
@@ -43,103 +43,112 @@ impl<'a, T: fmt::UpperHex> fmt::Display for InUpperHex<'a, T> {
     }
 }
 
-// The four texts of a domain.
-fn check_texts<T: fmt::Binary + fmt::Octal + fmt::LowerHex + fmt::UpperHex>(
-    rt: &impl Abort,
+// Whether a domain is written so: in binary, in octal, and in hexadecimal with small and with capital letters.
+fn has_texts<T: fmt::Binary + fmt::Octal + fmt::LowerHex + fmt::UpperHex>(
     alloc: Global,
     domain: &T,
     [binary, octal, lower, upper]: [&str; 4],
-) -> Result<(), Fail> {
-    let text = format!(in alloc; "{}", InBinary(domain))?;
-    assert!(rt; text.as_str() == binary);
-    let text = format!(in alloc; "{}", InOctal(domain))?;
-    assert!(rt; text.as_str() == octal);
-    let text = format!(in alloc; "{}", InLowerHex(domain))?;
-    assert!(rt; text.as_str() == lower);
-    let text = format!(in alloc; "{}", InUpperHex(domain))?;
-    assert!(rt; text.as_str() == upper);
-    Ok(())
+) -> Result<bool, AllocError> {
+    let (in_binary, in_octal) = (InBinary(domain), InOctal(domain));
+    let (in_lower, in_upper) = (InLowerHex(domain), InUpperHex(domain));
+    let found = format!(in alloc; "{in_binary} {in_octal} {in_lower} {in_upper}")?;
+    let wanted = format!(in alloc; "{binary} {octal} {lower} {upper}")?;
+    Ok(found.as_str() == wanted.as_str())
+}
+
+// Whether the domain of so many places from one on is written so.
+fn span_has_texts<R: BitRegister, O: BitOrder<R>>(
+    alloc: Global,
+    memory: &[R],
+    start: usize,
+    len: usize,
+    texts: [&str; 4],
+) -> Result<bool, Fail> {
+    let bits = R::BITS as usize;
+    if !span_of::<R, O>(bits, start, len)?.fits(memory.len()) {
+        return Ok(false);
+    }
+    let span = span_of::<R, O>(bits, start, len)?;
+    Ok(has_texts(alloc, &span.domain(memory), texts)?)
 }
 
 #[test]
 fn regions_are_written(rt: HostRuntime) -> Result<(), Fail> {
     let memory = [0x1fu8, 0xab, 0xcd, 0x5e];
     // 0001 of the first word, its upper half; 1010_1011; 1100_1101; the lowest 4 digits of the last
-    let span = BitSpan::<u8, Lsb0>::new(0, BitIdx::new(4)?, 24)?;
-    assert!(rt; span.fits(4));
     let texts = [
         "[10000, 10101011, 11001101, 1110]",
         "[20, 253, 315, 16]",
         "[10, ab, cd, e]",
         "[10, AB, CD, E]",
     ];
-    check_texts(&rt, rt.alloc(), &span.domain(&memory), texts)?;
+    assert!(rt; span_has_texts::<u8, Lsb0>(rt.alloc(), &memory, 4, 24, texts)?);
     // from the highest digit on: the lower half of the first word, and the upper half of the last
-    let span = BitSpan::<u8, Msb0>::new(0, BitIdx::new(4)?, 24)?;
-    assert!(rt; span.fits(4));
     let texts = [
         "[1111, 10101011, 11001101, 1010000]",
         "[17, 253, 315, 120]",
         "[f, ab, cd, 50]",
         "[F, AB, CD, 50]",
     ];
-    check_texts(&rt, rt.alloc(), &span.domain(&memory), texts)?;
+    assert!(rt; span_has_texts::<u8, Msb0>(rt.alloc(), &memory, 4, 24, texts)?);
+    Ok(())
+}
+
+#[test]
+fn words_with_leading_zeros_are_written(rt: HostRuntime) -> Result<(), Fail> {
+    let memory = [0x12u8, 0x34, 0x56];
+    let texts = [
+        "[10000, 110100, 110]",
+        "[20, 64, 6]",
+        "[10, 34, 6]",
+        "[10, 34, 6]",
+    ];
+    assert!(rt; span_has_texts::<u8, Lsb0>(rt.alloc(), &memory, 4, 16, texts)?);
     Ok(())
 }
 
 #[test]
 fn whole_words_and_a_tail_are_written(rt: HostRuntime) -> Result<(), Fail> {
     let memory = [0x1fu8, 0xab, 0xcd, 0x5e];
-    let span = BitSpan::<u8, Lsb0>::new(1, BitIdx::new(0)?, 16)?;
-    assert!(rt; span.fits(4));
     let texts = ["[10101011, 11001101]", "[253, 315]", "[ab, cd]", "[AB, CD]"];
-    check_texts(&rt, rt.alloc(), &span.domain(&memory), texts)?;
+    assert!(rt; span_has_texts::<u8, Lsb0>(rt.alloc(), &memory, 8, 16, texts)?);
     // a tail alone
-    let span = BitSpan::<u8, Lsb0>::new(2, BitIdx::new(0)?, 3)?;
-    assert!(rt; span.fits(4));
     let texts = ["[101]", "[5]", "[5]", "[5]"];
-    check_texts(&rt, rt.alloc(), &span.domain(&memory), texts)
+    assert!(rt; span_has_texts::<u8, Lsb0>(rt.alloc(), &memory, 16, 3, texts)?);
+    Ok(())
 }
 
 #[test]
 fn enclaves_and_no_bits_are_written(rt: HostRuntime) -> Result<(), Fail> {
     let memory = [0xffffu16, 0x0bad];
     // the digits 3 to 10 of 0000_1011_1010_1101
-    let span = BitSpan::<u16, Lsb0>::new(1, BitIdx::new(3)?, 8)?;
-    assert!(rt; span.fits(2));
     let texts = ["[1110101000]", "[1650]", "[3a8]", "[3A8]"];
-    check_texts(&rt, rt.alloc(), &span.domain(&memory), texts)?;
+    assert!(rt; span_has_texts::<u16, Lsb0>(rt.alloc(), &memory, 19, 8, texts)?);
     // no bits, wherever they would begin
-    let span = BitSpan::<u16, Msb0>::new(1, BitIdx::new(7)?, 0)?;
-    assert!(rt; span.fits(2));
     let texts = ["[]", "[]", "[]", "[]"];
-    check_texts(&rt, rt.alloc(), &span.domain(&memory), texts)?;
-    let texts = ["[]", "[]", "[]", "[]"];
-    check_texts(&rt, rt.alloc(), &Domain::<u8, Lsb0>::default(), texts)?;
+    assert!(rt; span_has_texts::<u16, Msb0>(rt.alloc(), &memory, 23, 0, texts)?);
+    assert!(rt; has_texts(rt.alloc(), &Domain::<u8, Lsb0>::default(), texts)?);
     Ok(())
 }
 
 #[test]
 fn words_of_zeros_are_one_digit_each(rt: HostRuntime) -> Result<(), Fail> {
-    let zeros = [0u64, 0];
-    let span = BitSpan::<u64, Lsb0>::new(0, BitIdx::new(60)?, 68)?;
-    assert!(rt; span.fits(2));
     let texts = ["[0, 0]", "[0, 0]", "[0, 0]", "[0, 0]"];
-    check_texts(&rt, rt.alloc(), &span.domain(&zeros), texts)
+    assert!(rt; span_has_texts::<u64, Lsb0>(rt.alloc(), &[0, 0], 60, 68, texts)?);
+    Ok(())
 }
 
 #[test]
 fn widest_words_are_written(rt: HostRuntime) -> Result<(), Fail> {
     let memory = [u64::MAX, 0xfedc_ba98_7654_3210];
-    let span = BitSpan::<u64, Lsb0>::new(0, BitIdx::new(0)?, 72)?;
-    assert!(rt; span.fits(2));
     let texts = [
         "[1111111111111111111111111111111111111111111111111111111111111111, 10000]",
         "[1777777777777777777777, 20]",
         "[ffffffffffffffff, 10]",
         "[FFFFFFFFFFFFFFFF, 10]",
     ];
-    check_texts(&rt, rt.alloc(), &span.domain(&memory), texts)
+    assert!(rt; span_has_texts::<u64, Lsb0>(rt.alloc(), &memory, 0, 72, texts)?);
+    Ok(())
 }
 
 #[test]
@@ -155,9 +164,9 @@ fn writable_domains_are_written(rt: HostRuntime) -> Result<(), Fail> {
         "[10, b7, cd, e]",
         "[10, B7, CD, E]",
     ];
-    check_texts(&rt, rt.alloc(), &domain, texts)?;
+    assert!(rt; has_texts(rt.alloc(), &domain, texts)?);
     let domain: DomainMut<u8, Msb0> = Default::default();
-    assert!(rt; domain.len() == 0);
     let texts = ["[]", "[]", "[]", "[]"];
-    check_texts(&rt, rt.alloc(), &domain, texts)
+    assert!(rt; domain.len() == 0 && has_texts(rt.alloc(), &domain, texts)?);
+    Ok(())
 }

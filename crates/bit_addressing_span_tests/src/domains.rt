@@ -1,18 +1,7 @@
 //! Domains and parts of words: the rows.
 
 use bit_addressing::{BitEnd, BitIdx, BitOrder, BitSpan, Domain, Lsb0, Msb0, PartialElementMut};
-use std::fmt;
 use std::test::Fail;
-
-// What a domain writes in hexadecimal: a hole `{:x}` takes integers alone.
-#[derive(Drop)]
-struct InHex<T>(T);
-
-impl<T: fmt::LowerHex> fmt::Display for InHex<T> {
-    fn fmt<W: fmt::Write>(&self, f: &mut fmt::Formatter<W>) -> fmt::Result {
-        self.0.fmt(f)
-    }
-}
 
 // The bits 4 to before 20 of three bytes, from the lowest digit on.
 fn region(memory: &[u8; 3]) -> Result<Domain<u8, Lsb0>, Fail> {
@@ -44,8 +33,6 @@ fn words_of_a_region_from_the_front(rt: HostRuntime) -> Result<(), Fail> {
         assert!(rt; words.next() == Some(word));
     }
     assert!(rt; words.next() == None);
-    let text = format!(in rt.alloc(); "{}", InHex(region(&memory)?))?;
-    assert!(rt; text.as_str() == "[10, 34, 6]");
     Ok(())
 }
 

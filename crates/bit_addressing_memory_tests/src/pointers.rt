@@ -1,10 +1,11 @@
 //! Pointers moved and ranges of pointers, against places counted from word -100 on.
 
-ghost use Rattle.std.specs.Prelude.{◌≡◌, ◌<◌, ◌≤◌, pos, ◌+ℤ◌, ◌-ℤ◌, ◌*ℤ◌};
+ghost use Rattle.std.specs.Prelude.{◌<◌, ◌≤◌, pos, ◌+ℤ◌, ◌-ℤ◌, ◌*ℤ◌};
 ghost use Rattle.bit_addressing_memory.specs.Pointer.{StaysIn};
 
 use bit_addressing::{BitIdx, BitOrder, BitPtr, BitPtrRange, BitRegister, Limits, Lsb0, Msb0};
 use bit_addressing_samples::FifthStep;
+use bit_addressing_samples::memory_callers::moved_distance;
 use std::ops::{Bound, RangeBounds};
 use std::test::Fail;
 
@@ -13,18 +14,6 @@ fn lies_at<R: BitRegister, O: BitOrder<R>>(pointer: BitPtr<R, O>, place: u32) ->
     let bits = R::BITS as u32;
     let (word, bit) = pointer.raw_parts();
     word == (place / bits) as isize - 100 && bit.into_inner() as u32 == place % bits
-}
-
-// The distance back from where a pointer was moved to is what it was moved by.
-#[tactic(auto, using(std::proofs::lemmas::Int::ints))]
-fn moved_distance<R: BitRegister, O: BitOrder<R>>(word: isize, index: u8, by: isize) -> isize
-    requires index { index < R.BITS }
-    requires stays { StaysIn R.BITS (((word *ℤ pos R.BITS) +ℤ pos index) +ℤ by) }
-    ensures { result ≡ by }
-{
-    let bit = BitIdx::<R>::new_unchecked(index);
-    let far = BitPtr::<R, O>::new(word, bit).offset(by);
-    far.offset_from(BitPtr::new(word, bit))
 }
 
 // Whether a pointer is moved to a place, and tells the distance back.

@@ -1,9 +1,10 @@
 //! What a user of the crate proves from its contracts alone.
 
-ghost use Rattle.std.specs.Prelude.{◌≡◌, ◌≢◌, ℕ, ◌+◌, ◌*◌, ◌<◌, length, true, false};
+ghost use Rattle.std.specs.Prelude.{◌≡◌, ◌≢◌, ℕ, ◌+◌, ◌*◌, ◌<◌, pos, ◌+ℤ◌, ◌*ℤ◌, length, true, false};
 ghost use Rattle.bit_addressing_memory.specs.Memory.{entry, indexed};
+ghost use Rattle.bit_addressing_memory.specs.Pointer.{StaysIn};
 
-use bit_addressing::{BitOrder, BitRegister, read_entry, write_entry};
+use bit_addressing::{BitIdx, BitOrder, BitPtr, BitRegister, read_entry, write_entry};
 
 /// Writes two neighbouring places, perhaps of one word. Both are known then, and all else is as it was.
 pub fn write_two<R: BitRegister, O: BitOrder<R>>(
@@ -32,4 +33,16 @@ pub fn written_then_read<R: BitRegister, O: BitOrder<R>>(words: &mut [R], place:
 {
     write_entry::<R, O>(words, place, true);
     read_entry::<R, O>(words, place)
+}
+
+/// The distance back from where a pointer was moved to is what it was moved by.
+#[tactic(auto, using(std::proofs::lemmas::Int::ints))]
+pub fn moved_distance<R: BitRegister, O: BitOrder<R>>(word: isize, index: u8, by: isize) -> isize
+    requires index { index < R.BITS }
+    requires stays { StaysIn R.BITS (((word *ℤ pos R.BITS) +ℤ pos index) +ℤ by) }
+    ensures { result ≡ by }
+{
+    let bit = BitIdx::<R>::new_unchecked(index);
+    let far = BitPtr::<R, O>::new(word, bit).offset(by);
+    far.offset_from(BitPtr::new(word, bit))
 }

@@ -8,6 +8,6 @@ mod memory;
 mod streams;
 
 pub use edges::ends_at;
-pub use machines::Echo;
+pub use machines::{Echo, echoed};
 pub use memory::answer_to;
 pub use streams::{Cut, Narrow, Stop};

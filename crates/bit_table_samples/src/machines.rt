@@ -1,10 +1,11 @@
-//! A machine that fails when it is told to.
-ghost use Rattle.std.specs.Prelude.{◌≡◌, ◌∷◌, ◌++◌, [], refl};
+//! A machine that fails when it is told to, and a run through it.
+ghost use Rattle.std.specs.Prelude.{◌≡◌, ◌<◌, ◌∷◌, ◌++◌, [], IfOk, refl};
 ghost use Rattle.std.specs.List.{flat_map};
 ghost use Rattle.std.proofs.lemmas.List.Concat.{flat_map-append};
-ghost use Rattle.bit_table_script.specs.Lines.{IsBeginning};
+ghost use Rattle.bit_table_script.specs.Lines.{IsBeginning, lines};
 
-use bit_table::LineMachine;
+use crate::streams::Cut;
+use bit_table::{Input, LineMachine, Output, RunError, drive};
 use std::alloc::{AllocError, Global};
 
 /// Answers each line by the line and a line end, and finds no memory once `until_fault` more lines are answered.
@@ -33,4 +34,24 @@ impl LineMachine for Echo {
         text.push(b'\n')?;
         Ok(text)
     }
+}
+
+/// What a run of lines through `Echo` writes, read in pieces of at most `most` bytes: each line with a line end.
+pub fn echoed(alloc: Global, script: &[u8], most: usize) -> Result<Vec<u8>, RunError>
+    requires { 0 < most }
+    ensures { IfOk result (λ text. text.items ≡ flat_map (λ line. line ++ 10 ∷ []) (lines script.now)) }
+{
+    let mut input = Input::new(Cut {
+        rest: script,
+        first: 0,
+        piece: most,
+        until_fault: usize::MAX,
+    });
+    let mut output = Output::new(Vec::new(alloc));
+    let mut machine = Echo {
+        alloc,
+        until_fault: usize::MAX,
+    };
+    drive(alloc, &mut machine, &mut input, &mut output)?;
+    Ok(output.into_inner())
 }

@@ -1,10 +1,8 @@
 //! Runs, however the reader and the writer cut them, and runs that a fault ends.
-ghost use Rattle.std.specs.Prelude.{◌≡◌, ◌<◌, ◌≤◌, ◌∷◌, ◌++◌, [], IfOk};
-ghost use Rattle.std.specs.List.{flat_map};
-ghost use Rattle.bit_table_script.specs.Lines.{lines};
+ghost use Rattle.std.specs.Prelude.{◌≤◌};
 
 use bit_table::{Input, Output, RunError, drive};
-use bit_table_samples::{Cut, Echo, Narrow, Stop};
+use bit_table_samples::{Cut, Echo, Narrow, Stop, echoed};
 use std::alloc::Global;
 use std::test::Fail;
 
@@ -147,25 +145,9 @@ fn want_of_memory_ends_it(rt: HostRuntime) -> Result<(), Fail> {
     Ok(())
 }
 
-/// What the contract of a run says of a reader and a writer that tell their bytes.
-fn answered(alloc: Global, script: &[u8], most: usize) -> Result<Vec<u8>, RunError>
-    requires { 0 < most }
-    ensures { IfOk result (λ text. text.items ≡ flat_map (λ line. line ++ 10 ∷ []) (lines script.now)) }
-{
-    let mut input = Input::new(Cut {
-        rest: script,
-        first: 0,
-        piece: most,
-        until_fault: usize::MAX,
-    });
-    let mut output = Output::new(Vec::new(alloc));
-    drive(alloc, &mut echo(alloc), &mut input, &mut output)?;
-    Ok(output.into_inner())
-}
-
 #[test]
 fn is_proved_of_fakes_too(rt: HostRuntime) -> Result<(), Fail> {
-    let text = answered(rt.alloc(), b"a\nb", 2)?;
+    let text = echoed(rt.alloc(), b"a\nb", 2)?;
     assert!(rt; text.as_slice() == b"a\nb\n".as_slice());
     Ok(())
 }

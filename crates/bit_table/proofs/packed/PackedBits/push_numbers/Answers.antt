@@ -11,7 +11,7 @@ push_field-requires-clause-room c =
     let f = c.index-fields-index.result in
     let room = row_room c.args.rule c.args.fields.now c.args.values.now c.loop-index.index f c.requires.count
     c.loop-index-test.true in
-    let width = c.width.ensures ∙ ap (λ g. g.width) c.index-fields-index.is in
+    let width = c.width.ensures.width ∙ ap (λ g. g.width) c.index-fields-index.is in
     let long = ap length c.loop-index.invariant ∙ length-append c.args.self.now _ in
     omega arith
 
@@ -22,7 +22,7 @@ loop-index-preserved c =
     let vs = c.args.values.now in
     let f = c.index-fields-index.result in
     let before = numbers_bits c.args.rule (take i fs) (take i vs) in
-    let width = c.width.ensures ∙ ap (λ g. g.width) c.index-fields-index.is in
+    let width = c.width.ensures.width ∙ ap (λ g. g.width) c.index-fields-index.is in
     let fits : SFits w128 (get_or vs i (pos 0)) = search rules in
     let value = to_z-of_z w128 (get_or vs i (pos 0)) fits in
     let field = ap₂ (field_bits c.args.rule) width value in

@@ -1,9 +1,8 @@
 //! The run of a script.
 ghost use Rattle.std.specs.Prelude.{◌≡◌, ◌-◌, ◌^◌, ◌<◌, ◌↔◌, false, OnOk, IfSome, IsErrOf, IsTrue, length};
-ghost use Rattle.std.specs.Io.KnownBytes.{Appends, IsAtEnd};
 ghost use Rattle.bit_table_script.specs.Ends.{input_reader, input_failed, output_writer, output_failed};
-ghost use Rattle.bit_table_script.specs.Runs.{StoppedByRead, StoppedByWrite, StoppedByMemory};
-ghost use Rattle.bit_table.specs.Scripts.{answers, script_answer};
+ghost use Rattle.bit_table_script.specs.Runs.{RanToEnd, StoppedByRead, StoppedByWrite, StoppedByMemory};
+ghost use Rattle.bit_table.specs.Scripts.{answers};
 ghost use Rattle.bit_table.specs.Tables.{start};
 
 use super::session::Session;
@@ -27,10 +26,10 @@ pub fn run<R: Read, W: Write>(
     requires readable { input_failed input.old ≡ false }
     requires writable { output_failed output.old ≡ false }
 
-    // What was written is the answer to all that the reader gives, however it cuts it.
-    ensures done { OnOk result (IfSome (R.remaining (input_reader input.old)) (λ text.
-        Appends (W.contents (output_writer output.old)) (W.contents (output_writer output.new)) (script_answer text))) }
-    ensures ended { OnOk result (IsAtEnd (R.remaining (input_reader input.new))) }
+    // What was written is the answer to all that the reader gave, however it cut it.
+    ensures done { OnOk result (RanToEnd (answers start)
+        (R.remaining (input_reader input.old)) (R.remaining (input_reader input.new))
+        (W.contents (output_writer output.old)) (W.contents (output_writer output.new))) }
 
     // What was written before a fault: the answers to the lines that were read whole, or a beginning of them.
     ensures read { IsErrOf result RunError.Read → StoppedByRead (answers start)
@@ -43,7 +42,8 @@ pub fn run<R: Read, W: Write>(
         (R.remaining (input_reader input.old)) (R.remaining (input_reader input.new))
         (W.contents (output_writer output.old)) (W.contents (output_writer output.new)) }
 
-    // A fault of the reader is always told, and nothing else is told as one, unless 2^64 - 1 reads find no end.
+    // A fault of the reader is always told. Where the reader tells its bytes and has fewer than 2^64 - 1 left, nothing
+    // else is told as one.
     ensures read_told { IsTrue (input_failed input.new) → IsErrOf result RunError.Read }
     ensures read_failed { IfSome (R.remaining (input_reader input.old)) (λ text. length text < 2 ^ 64 - 1 →
         IsErrOf result RunError.Read → IsTrue (input_failed input.new)) }

@@ -2,10 +2,10 @@ use Rattle.std.proofs.Common.{rules, ◌≡◌, ◌-◌, length, take, drop, ref
 use Rattle.std.proofs.lemmas.Iterator.{YieldsList-from_slice}
 use Rattle.std.proofs.lemmas.Iterator.Search.{position_from_yields_List}
 use borrow.Author.Tests.{tests}
-use Rattle.bit_table_layout.specs.Words.{is_separator}
+use Rattle.bit_table_layout.specs.LineWords.{is_separator}
 use Rattle.bit_table_layout.proofs.PlaceLemmas.{position_in}
 use Rattle.bit_table_layout.proofs.WordLemmas.{is_word_byte, words-none, words-next, fewer-behind}
-use Rattle.bit_table_layout.proofs.words.WordsIterator.next.Goals as goal
+use Rattle.bit_table_layout.proofs.line_words.WordsIterator.next.Goals as goal
 
 pub returns-in_default-clause-steps : goal.returns-in_default-clause-steps
 returns-in_default-clause-steps c =

@@ -1,7 +1,7 @@
 //! The words of a line.
 ghost use Rattle.std.specs.Prelude.{◌≡◌};
 ghost use Rattle.std.specs.Iterator.{YieldsFirstRef, item_count};
-ghost use Rattle.bit_table_layout.specs.Words.{is_separator, words};
+ghost use Rattle.bit_table_layout.specs.LineWords.{is_separator, words};
 
 /// Whether a byte separates words: a space, a tab or a carriage return.
 pub fn is_separator(byte: u8) -> bool
@@ -17,7 +17,7 @@ pub struct Words<'a> {
 }
 
 impl<'a> Words<'a> {
-    ghost use Rattle.bit_table_layout.specs.WordsLeft.{words_left};
+    ghost use Rattle.bit_table_layout.specs.LineWordsLeft.{words_left};
 
     /// All the words of a line.
     pub fn new(line: &'a [u8]) -> Words<'a>
@@ -31,7 +31,7 @@ impl<'a> Iterator for Words<'a> {
     type Item = &'a [u8];
 
     ghost use Rattle.std.specs.Iterator.{YieldsFirstRef, item_count};
-    ghost use Rattle.bit_table_layout.specs.WordsLeft.{words_left};
+    ghost use Rattle.bit_table_layout.specs.LineWordsLeft.{words_left};
 
     ghost next_gives = { YieldsFirstRef words_left };
 

@@ -4,7 +4,7 @@ use Rattle.bit_table_script.specs.Commands.{command_of, cut_off}
 use Rattle.bit_table.proofs.CutLemmas.{refused_for, not_refused}
 use Rattle.bit_table.proofs.AnswerLemmas.{if_ok_weaker, on_ok_always, is_read, accepted_text}
 use Rattle.bit_table.proofs.AnswerLemmas.{accepted_state, refused_text, refused_state}
-use Rattle.bit_table.proofs.session.carry_out.Goals as goal
+use Rattle.bit_table.proofs.session.answer_command_line.Goals as goal
 
 pub returns-in-Ok-apply-clause-text : goal.returns-in-Ok-apply-clause-text
 returns-in-Ok-apply-clause-text c =

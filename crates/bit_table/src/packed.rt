@@ -121,8 +121,8 @@ impl PackedBits {
         requires room { length self.old + row_width fields.now ≤ MAX_BITS }
         ensures ok { OnOk result (self.new ≡ self.old ++ numbers_bits rule fields.now values.now) }
     {
-        for index in 0..fields.len() {
-            self.push_field(rule, fields[index].width(), values[index])?;
+        for (field, value) in fields.iter().zip(values) {
+            self.push_field(rule, field.width(), *value)?;
         }
         Ok(())
     }

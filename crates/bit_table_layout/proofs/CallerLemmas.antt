@@ -1,15 +1,12 @@
 -- What callers know of the bits of a row, and of the words of a line.
-use Rattle.std.proofs.Common.{◌≡◌, ℕ, ◌<◌, ◌≤◌, List, [], ◌∷◌, length, get_or, IsTrue, inl, inr}
-use Rattle.std.proofs.lemmas.Bool.{cases_Bool, and_parts, both_ways, leb-true}
-use Rattle.std.proofs.lemmas.List.Folds.{list_all_at}
+use Rattle.std.proofs.Common.{◌≡◌, ℕ, ◌≤◌, List, [], ◌∷◌, IsTrue}
+use Rattle.std.proofs.lemmas.Bool.{and_parts, leb-true}
 use Rattle.bit_table_layout.specs.declared.layout.TheConstants.{MAX_ROW_BITS}
 use Rattle.std.specs.Iterator.{AlwaysYields, YieldsFirstRef}
 use Rattle.std.proofs.lemmas.Iterator.{YieldsList}
 use Rattle.bit_table_layout.specs.declared.line_words.Words.{Words as LineWords}
 use Rattle.bit_table_layout.specs.LineWordsLeft.{words_left}
-use Rattle.bit_table_layout.specs.Fields.{FieldShape}
 use Rattle.bit_table_layout.specs.Layouts.{LayoutShape, row_width, is_layout}
-use Rattle.bit_table_layout.specs.Fields.{is_field}
 
 -- a row has 1 to `MAX_ROW_BITS` bits
 pub row_width-bounds : (l : LayoutShape) → IsTrue (is_layout l) → (1 ≤ row_width l.fields) × (row_width l.fields ≤ MAX_ROW_BITS)

@@ -3,7 +3,7 @@ use Rattle.std.proofs.Common.{◌≡◌, ℕ, ◌+◌, ◌<◌, ◌≤◌, List,
 use Rattle.std.proofs.Common.{append-nil, length-append, subst, arith, IfSome, inl, inr}
 use Rattle.std.specs.Io.KnownBytes.{Appends, Keeps, Consumes, IsAtEnd}
 use Rattle.std.proofs.KnownBytes.{Consumes-nil, Consumes-trans, Consumes-kept}
-use Rattle.bit_table_script.specs.Lines.{IsBeginning, lines, whole_lines}
+use Rattle.bit_table_script.specs.Lines.{IsBeginning, whole_lines}
 use Rattle.bit_table_script.specs.Streams.{AppendsPart}
 use Rattle.bit_table_script.specs.Runs.{AppendsFirstLines, RanToEnd, StoppedByRead, StoppedByWrite}
 use Rattle.bit_table_script.specs.Runs.{StoppedByMemory}

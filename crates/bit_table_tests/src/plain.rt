@@ -27,14 +27,14 @@ pub fn plain_answer(alloc: Global, script: &[u8]) -> Result<Vec<u8>, AllocError>
         text: Vec::new(alloc),
     };
     for line in script.split(|byte| *byte == b'\n') {
-        plain.carry_out(line)?;
+        plain.answer_line(line)?;
     }
     Ok(plain.text)
 }
 
 impl Plain {
     // Carries a line out and adds its answer.
-    fn carry_out(&mut self, line: &[u8]) -> Result<(), AllocError> {
+    fn answer_line(&mut self, line: &[u8]) -> Result<(), AllocError> {
         let mut words = Vec::new(self.alloc);
         for part in line.split(|byte| b" \t\r".contains(byte)) {
             if !part.is_empty() {

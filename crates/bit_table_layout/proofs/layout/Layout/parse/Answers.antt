@@ -3,7 +3,7 @@ use Rattle.bit_table_layout.specs.declared.layout.LayoutError.{LayoutError}
 use Rattle.bit_table_layout.specs.declared.layout.LayoutError.TheVariants.{Refused, Memory}
 use Rattle.bit_table_layout.specs.LineWords.{words}
 use Rattle.bit_table_layout.specs.LineWordsLeft.{words_left}
-use Rattle.bit_table_layout.specs.Layouts.{layout_of, rule_of, fields_of}
+use Rattle.bit_table_layout.specs.Layouts.{layout_of, rule_of}
 use Rattle.bit_table_layout.proofs.LayoutLemmas.{layout_of-words, layout_of-no_rule, layout_of-no_fit}
 use Rattle.bit_table_layout.proofs.LayoutLemmas.{MakesLayout-from_fit, MakesLayout-of}
 use Rattle.bit_table_layout.proofs.layout.Layout.parse.Goals as goal

@@ -1,13 +1,15 @@
-//! What the tests of the table's crates share: a reader, a writer and a machine that fail when they are told to, and what
-//! callers of the table know.
+//! What the tests of the table's crates share: a reader, a writer and a machine that fail when they are told to, and
+//! what callers of the table know.
 #![tactic(auto)]
 
 mod edges;
 mod machines;
 mod memory;
 mod streams;
+mod whole_script;
 
 pub use edges::ends_at;
 pub use machines::{Echo, echoed};
 pub use memory::answer_to;
 pub use streams::{Cut, Narrow, Stop};
+pub use whole_script::answer_whole;

@@ -14,8 +14,9 @@ use bit_addressing_register::BitRegister;
 /// The position of each index, with no law: the part of an order that `select_from_at` and
 /// `mask_from_at` work from.
 ///
-/// An order writes `position_of`, over plain numbers; its users call `at`.
-pub trait Positions<R: BitRegister> {
+/// An order writes `position_of`, over plain numbers; its users call `at`. It is a unit struct, and
+/// copied as one.
+pub trait Positions<R: BitRegister>: Copy {
     ghost position: { ℕ → ℕ };
 
     /// The position of the index, both as plain numbers below `BITS`.

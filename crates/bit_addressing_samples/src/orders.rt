@@ -8,6 +8,7 @@ use bit_addressing_order::{
 };
 
 /// Goes by steps of five from position 3, round the word.
+#[derive(Clone, Copy)]
 pub struct FifthStep;
 
 impl<R: BitRegister> Positions<R> for FifthStep {
@@ -40,6 +41,7 @@ impl<R: BitRegister> BitOrder<R> for FifthStep {
 }
 
 /// Flips the digit of weight 4 of each index.
+#[derive(Clone, Copy)]
 pub struct Flipped;
 
 impl<R: BitRegister> Positions<R> for Flipped {

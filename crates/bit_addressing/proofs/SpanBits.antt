@@ -50,67 +50,67 @@ lies_in_memory b span p i n words up is low fits some small =
 
 -- ---- its list
 
-pub length-span_bits : {R : Type 0} (b : ℕ) (digit : R → ℕ → Bool) (words : List R) (span : Extent) → span.head < b
-    → span.word + touched b span.head span.len ≤ length words → length (span_bits b digit words span) ≡ span.len
+pub length-span_bits : {R : Type 0} (reading : Reading R) (words : List R) (span : Extent) → span.head < reading.bits
+    → span.word + touched reading.bits span.head span.len ≤ length words → length (span_bits reading words span) ≡ span.len
 unfolding span_bits
-length-span_bits b digit words span low fits = elim (cases_eq span.len 0) [
+length-span_bits reading words span low fits = elim (cases_eq span.len 0) [
   | inl none ↦
-      ap length (piece_none (memory b digit words) (span_place b span) span.len none) ∙ sym none
+      ap length (piece_none (memory reading words) (span_place reading.bits span) span.len none) ∙ sym none
   | inr some ↦
-      let all : span_place b span + span.len ≤ length words * b =
-      span_within b span (length words) low (omega arith) fits in
-      length-piece (memory b digit words) (span_place b span) span.len (omega (arith, length-memory b digit words))
+      let all : span_place reading.bits span + span.len ≤ length words * reading.bits =
+      span_within reading.bits span (length words) low (omega arith) fits in
+      length-piece (memory reading words) (span_place reading.bits span) span.len (omega (arith, length-memory reading words))
 ]
 
 -- its bit j is an entry of the memory
-pub span_bit : {R : Type 0} (b : ℕ) (digit : R → ℕ → Bool) (words : List R) (span : Extent) (j : ℕ) → 0 < b
-    → j < span.len → get_or (span_bits b digit words span) j false ≡ entry b digit words (span_place b span + j)
+pub span_bit : {R : Type 0} (reading : Reading R) (words : List R) (span : Extent) (j : ℕ) → 0 < reading.bits
+    → j < span.len → get_or (span_bits reading words span) j false ≡ entry reading words (span_place reading.bits span + j)
 unfolding span_bits
-span_bit b digit words span j some low =
-    get_or-piece (memory b digit words) (span_place b span) span.len j false low
-    ∙ entry_memory b digit words (span_place b span + j) some
+span_bit reading words span j some low =
+    get_or-piece (memory reading words) (span_place reading.bits span) span.len j false low
+    ∙ entry_memory reading words (span_place reading.bits span + j) some
 
 -- ---- what one command did
 
 -- nothing, where its numbers are out of range
-pub refused : {R : Type 0} (b : ℕ) (digit : R → ℕ → Bool) (words : List R) (span : Extent) (command : SpanCommand R)
-    → span.head < b → span.word + touched b span.head span.len ≤ length words
-    → lies_in b span.head span.len command ≡ false → CarriesOut b digit words words span command Refused
+pub refused : {R : Type 0} (reading : Reading R) (words : List R) (span : Extent) (command : SpanCommand R)
+    → span.head < reading.bits → span.word + touched reading.bits span.head span.len ≤ length words
+    → lies_in reading.bits span.head span.len command ≡ false → CarriesOut reading words words span command Refused
 unfolding own_after own_answer
-refused b digit words span command low fits is =
-    let size = length-span_bits b digit words span low fits in
-    let out : lies_in b span.head (length (span_bits b digit words span)) command ≡ false = rw size is in
+refused reading words span command low fits is =
+    let size = length-span_bits reading words span low fits in
+    let out : lies_in reading.bits span.head (length (span_bits reading words span)) command ≡ false = rw size is in
     record { replied = rw out refl; list = rw out refl; others = λ p _. refl; words = refl }
 
 -- its edit, where they are in range
-pub carried : {R : Type 0} (b : ℕ) (digit : R → ℕ → Bool) (before after : List R) (span : Extent)
+pub carried : {R : Type 0} (reading : Reading R) (before after : List R) (span : Extent)
     (command : SpanCommand R) (reply : SpanReply R)
-    → span.head < b → span.word + touched b span.head span.len ≤ length before
-    → lies_in b span.head span.len command ≡ true
-    → seen b digit reply ≡ own_reading b span.head command (span_bits b digit before span)
-    → length (own_edit b digit span.head command (span_bits b digit before span)) ≡ span.len
-    → ((j : ℕ) → j < span.len → entry b digit after (span_place b span + j)
-    ≡ get_or (own_edit b digit span.head command (span_bits b digit before span)) j false)
-    → ((p : ℕ) → IsOutside b span p → entry b digit after p ≡ entry b digit before p)
+    → span.head < reading.bits → span.word + touched reading.bits span.head span.len ≤ length before
+    → lies_in reading.bits span.head span.len command ≡ true
+    → seen reading reply ≡ own_reading reading.bits span.head command (span_bits reading before span)
+    → length (own_edit reading span.head command (span_bits reading before span)) ≡ span.len
+    → ((j : ℕ) → j < span.len → entry reading after (span_place reading.bits span + j)
+    ≡ get_or (own_edit reading span.head command (span_bits reading before span)) j false)
+    → ((p : ℕ) → IsOutside reading.bits span p → entry reading after p ≡ entry reading before p)
     → length after ≡ length before
-    → CarriesOut b digit before after span command reply
+    → CarriesOut reading before after span command reply
 unfolding own_after own_answer
-carried b digit before after span command reply low fits is replied len edited others words =
-    let bits = span_bits b digit before span in
-    let now = span_bits b digit after span in
-    let still : span.word + touched b span.head span.len ≤ length after = rw words fits in
-    let size = length-span_bits b digit before span low fits in
-    let now_size : length now ≡ span.len = length-span_bits b digit after span low still in
-    let inside : lies_in b span.head (length bits) command ≡ true = rw size is in
-    let list : now ≡ own_edit b digit span.head command bits =
-    ext_get_or false now (own_edit b digit span.head command bits) (now_size ∙ sym len) (λ j h.
+carried reading before after span command reply low fits is replied len edited others words =
+    let bits = span_bits reading before span in
+    let now = span_bits reading after span in
+    let still : span.word + touched reading.bits span.head span.len ≤ length after = rw words fits in
+    let size = length-span_bits reading before span low fits in
+    let now_size : length now ≡ span.len = length-span_bits reading after span low still in
+    let inside : lies_in reading.bits span.head (length bits) command ≡ true = rw size is in
+    let list : now ≡ own_edit reading span.head command bits =
+    ext_get_or false now (own_edit reading span.head command bits) (now_size ∙ sym len) (λ j h.
     let small : j < span.len = omega arith in
-    span_bit b digit after span j (omega arith) small ∙ edited j small) in
+    span_bit reading after span j (omega arith) small ∙ edited j small) in
     record { replied = rw inside replied; list = rw inside list; others = others; words = words }
 
 -- the same of a memory and a span by other names
-pub carried_as : {R : Type 0} (b : ℕ) (digit : R → ℕ → Bool) (words before stored after : List R) (its span : Extent)
+pub carried_as : {R : Type 0} (reading : Reading R) (words before stored after : List R) (its span : Extent)
     (command : SpanCommand R) (reply : SpanReply R) → words ≡ before → after ≡ stored → its ≡ span
-    → CarriesOut b digit words stored its command reply → CarriesOut b digit before after span command reply
-carried_as b digit words before stored after its span command reply is_before is_after is_span done =
+    → CarriesOut reading words stored its command reply → CarriesOut reading before after span command reply
+carried_as reading words before stored after its span command reply is_before is_after is_span done =
     rw (is_after, ← is_before, ← is_span) done

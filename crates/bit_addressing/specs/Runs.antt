@@ -16,8 +16,8 @@ abbrev pub span_place : ℕ → Extent → ℕ
 span_place b span = span.word * b + span.head
 
 -- the bits of a span, in order
-unfoldable pub span_bits : {R : Type 0} → ℕ → (R → ℕ → Bool) → List R → Extent → List Bool
-span_bits b digit words span = piece (memory b digit words) (span_place b span) span.len
+unfoldable pub span_bits : {R : Type 0} → Reading R → List R → Extent → List Bool
+span_bits reading words span = piece (memory reading words) (span_place reading.bits span) span.len
 
 -- the place p is one of the span's
 abbrev pub IsInside : ℕ → Extent → ℕ → Type 0
@@ -43,11 +43,11 @@ AllFit b spans n = (s : ℕ) → s < length spans
 
 -- one command at one span: the reply and the span's bits afterwards are those of its own list, and each bit outside
 -- the span is as before
-pub record CarriesOut {R : Type 0} (b : ℕ) (digit : R → ℕ → Bool) (before after : List R) (span : Extent)
+pub record CarriesOut {R : Type 0} (reading : Reading R) (before after : List R) (span : Extent)
     (command : SpanCommand R) (reply : SpanReply R) : Type 0 where
-  pub replied : seen b digit reply ≡ own_answer b span.head command (span_bits b digit before span)
-  pub list : span_bits b digit after span ≡ own_after b digit span.head command (span_bits b digit before span)
-  pub others : (p : ℕ) → IsOutside b span p → entry b digit after p ≡ entry b digit before p
+  pub replied : seen reading reply ≡ own_answer reading.bits span.head command (span_bits reading before span)
+  pub list : span_bits reading after span ≡ own_after reading span.head command (span_bits reading before span)
+  pub others : (p : ℕ) → IsOutside reading.bits span p → entry reading after p ≡ entry reading before p
   pub words : length after ≡ length before
 
 -- the commands at the span of number s, in their order
@@ -64,26 +64,26 @@ replies_of s (command ∷ rest) (reply ∷ replies) =
 
 -- a whole run: each span's replies, and its bits afterwards, are those of its own list under its own commands alone;
 -- a command at no span is refused, and each bit outside all spans is as before
-pub record Runs {R : Type 0} (b : ℕ) (digit : R → ℕ → Bool) (before after : List R) (spans : List Extent)
+pub record Runs {R : Type 0} (reading : Reading R) (before after : List R) (spans : List Extent)
     (commands : List (ℕ × SpanCommand R)) (replies : List (SpanReply R)) : Type 0 where
-  pub replied : (s : ℕ) → s < length spans → map (seen b digit) (replies_of s commands replies)
-      ≡ own_answers b digit (span_at spans s).head (commands_of s commands) (span_bits b digit before (span_at spans s))
-  pub lists : (s : ℕ) → s < length spans → span_bits b digit after (span_at spans s)
-      ≡ own_list b digit (span_at spans s).head (commands_of s commands) (span_bits b digit before (span_at spans s))
+  pub replied : (s : ℕ) → s < length spans → map (seen reading) (replies_of s commands replies)
+      ≡ own_answers reading (span_at spans s).head (commands_of s commands) (span_bits reading before (span_at spans s))
+  pub lists : (s : ℕ) → s < length spans → span_bits reading after (span_at spans s)
+      ≡ own_list reading (span_at spans s).head (commands_of s commands) (span_bits reading before (span_at spans s))
   pub refused : (s : ℕ) → length spans ≤ s → All (λ reply. reply ≡ Refused) (replies_of s commands replies)
-  pub others : (p : ℕ) → ((s : ℕ) → s < length spans → IsOutside b (span_at spans s) p)
-      → entry b digit after p ≡ entry b digit before p
+  pub others : (p : ℕ) → ((s : ℕ) → s < length spans → IsOutside reading.bits (span_at spans s) p)
+      → entry reading after p ≡ entry reading before p
   pub words : length after ≡ length before
 
 -- two lists of commands that keep each span's own commands in order give each span the same replies, and end in the
 -- same memory
-abbrev pub OrderOfSpansIsFree : {R : Type 0} → ℕ → (R → ℕ → Bool) → Type 0
-OrderOfSpansIsFree {R} b digit =
+abbrev pub OrderOfSpansIsFree : {R : Type 0} → Reading R → Type 0
+OrderOfSpansIsFree {R} reading =
     (before one other : List R) (spans : List Extent) (commands others : List (ℕ × SpanCommand R))
     (replies answers : List (SpanReply R))
     → ((s : ℕ) → s < length spans → commands_of s commands ≡ commands_of s others)
-    → Runs b digit before one spans commands replies
-    → Runs b digit before other spans others answers
+    → Runs reading before one spans commands replies
+    → Runs reading before other spans others answers
     → ((s : ℕ) → s < length spans
-    → map (seen b digit) (replies_of s commands replies) ≡ map (seen b digit) (replies_of s others answers))
-    × (memory b digit one ≡ memory b digit other)
+    → map (seen reading) (replies_of s commands replies) ≡ map (seen reading) (replies_of s others answers))
+    × (memory reading one ≡ memory reading other)

@@ -19,7 +19,7 @@ pub(crate) fn carry_out<R: BitRegister, O: BitOrder<R>>(
     command: SpanCommand<R>,
 ) -> SpanReply<R>
     requires fits { span.word + touched R.BITS span.head span.len ≤ length memory.old }
-    ensures carried { CarriesOut R.BITS (indexed R.number O.position) memory.old memory.new span command result }
+    ensures carried { CarriesOut (read_by R.BitRegister O.position) memory.old memory.new span command result }
 {
     match command {
         SpanCommand::Load(k) => load(memory, span, k),
@@ -43,7 +43,7 @@ fn load<R: BitRegister, O: BitOrder<R>>(
     k: usize,
 ) -> SpanReply<R>
     requires fits { span.word + touched R.BITS span.head span.len ≤ length memory.old }
-    ensures carried { CarriesOut R.BITS (indexed R.number O.position) memory.old memory.new span
+    ensures carried { CarriesOut (read_by R.BitRegister O.position) memory.old memory.new span
         (SpanCommand.Load k) result }
 {
     let words = span.domain_mut(memory);
@@ -61,7 +61,7 @@ fn store<R: BitRegister, O: BitOrder<R>>(
     word: R,
 ) -> SpanReply<R>
     requires fits { span.word + touched R.BITS span.head span.len ≤ length memory.old }
-    ensures carried { CarriesOut R.BITS (indexed R.number O.position) memory.old memory.new span
+    ensures carried { CarriesOut (read_by R.BitRegister O.position) memory.old memory.new span
         (SpanCommand.Store k word) result }
 {
     let mut words = span.domain_mut(memory);
@@ -78,7 +78,7 @@ fn set<R: BitRegister, O: BitOrder<R>>(
     k: usize,
 ) -> SpanReply<R>
     requires fits { span.word + touched R.BITS span.head span.len ≤ length memory.old }
-    ensures carried { CarriesOut R.BITS (indexed R.number O.position) memory.old memory.new span
+    ensures carried { CarriesOut (read_by R.BitRegister O.position) memory.old memory.new span
         (SpanCommand.Set k) result }
 {
     let mut words = span.domain_mut(memory);
@@ -95,7 +95,7 @@ fn clear<R: BitRegister, O: BitOrder<R>>(
     k: usize,
 ) -> SpanReply<R>
     requires fits { span.word + touched R.BITS span.head span.len ≤ length memory.old }
-    ensures carried { CarriesOut R.BITS (indexed R.number O.position) memory.old memory.new span
+    ensures carried { CarriesOut (read_by R.BitRegister O.position) memory.old memory.new span
         (SpanCommand.Clear k) result }
 {
     let mut words = span.domain_mut(memory);
@@ -112,7 +112,7 @@ fn invert<R: BitRegister, O: BitOrder<R>>(
     k: usize,
 ) -> SpanReply<R>
     requires fits { span.word + touched R.BITS span.head span.len ≤ length memory.old }
-    ensures carried { CarriesOut R.BITS (indexed R.number O.position) memory.old memory.new span
+    ensures carried { CarriesOut (read_by R.BitRegister O.position) memory.old memory.new span
         (SpanCommand.Invert k) result }
 {
     let mut words = span.domain_mut(memory);
@@ -127,7 +127,7 @@ fn invert<R: BitRegister, O: BitOrder<R>>(
 // Reads a bit.
 fn read<R: BitRegister, O: BitOrder<R>>(memory: &[R], span: BitSpan<R, O>, i: usize) -> SpanReply<R>
     requires fits { span.word + touched R.BITS span.head span.len ≤ length memory.now }
-    ensures carried { CarriesOut R.BITS (indexed R.number O.position) memory.now memory.now span
+    ensures carried { CarriesOut (read_by R.BitRegister O.position) memory.now memory.now span
         (SpanCommand.Read i) result }
 {
     let (word, head, len) = span.raw_parts();
@@ -145,7 +145,7 @@ fn replace<R: BitRegister, O: BitOrder<R>>(
     bit: bool,
 ) -> SpanReply<R>
     requires fits { span.word + touched R.BITS span.head span.len ≤ length memory.old }
-    ensures carried { CarriesOut R.BITS (indexed R.number O.position) memory.old memory.new span
+    ensures carried { CarriesOut (read_by R.BitRegister O.position) memory.old memory.new span
         (SpanCommand.Replace i bit) result }
 {
     let (word, head, len) = span.raw_parts();
@@ -163,7 +163,7 @@ fn swap<R: BitRegister, O: BitOrder<R>>(
     j: usize,
 ) -> SpanReply<R>
     requires fits { span.word + touched R.BITS span.head span.len ≤ length memory.old }
-    ensures carried { CarriesOut R.BITS (indexed R.number O.position) memory.old memory.new span
+    ensures carried { CarriesOut (read_by R.BitRegister O.position) memory.old memory.new span
         (SpanCommand.Swap i j) result }
 {
     let (word, head, len) = span.raw_parts();
@@ -184,7 +184,7 @@ fn copy<R: BitRegister, O: BitOrder<R>>(
     count: usize,
 ) -> SpanReply<R>
     requires fits { span.word + touched R.BITS span.head span.len ≤ length memory.old }
-    ensures carried { CarriesOut R.BITS (indexed R.number O.position) memory.old memory.new span
+    ensures carried { CarriesOut (read_by R.BitRegister O.position) memory.old memory.new span
         (SpanCommand.Copy from to count) result }
 {
     let (word, head, len) = span.raw_parts();

@@ -30,7 +30,7 @@ pub fn move_in<R: BitRegister, O: BitOrder<R>>(
     requires target_within { target + len ≤ length (words_of sweep.old) * R.BITS }
     requires source_ends { source + len < 2 ^ 64 }
     requires target_ends { target + len < 2 ^ 64 }
-    ensures moved { Moves R.BITS (indexed R.number O.position) (words_of sweep.old) (words_of sweep.new)
+    ensures moved { Moves (read_by R.BitRegister O.position) (words_of sweep.old) (words_of sweep.new)
         source target len }
 
     // Its writes: at most the words that the target touches, at least the words that became other ones.
@@ -77,7 +77,7 @@ fn gathered<R: BitRegister, O: BitOrder<R>>(
     requires target_ends { target + len < 2 ^ 64 }
     requires begins { k * R.BITS < target + len }
     requires ends { target < k * R.BITS + R.BITS }
-    ensures digits { IsGathered R.BITS (indexed R.number O.position) (words_of sweep.old)
+    ensures digits { IsGathered (read_by R.BitRegister O.position) (words_of sweep.old)
         k source target len result R.BITS }
     ensures same { SameButReads sweep.old sweep.new }
     ensures lender { lender sweep.new ≡ lender sweep.old }
@@ -97,7 +97,7 @@ fn gathered<R: BitRegister, O: BitOrder<R>>(
 // The bit of the words at a place.
 fn bit_at_place<R: BitRegister, O: BitOrder<R>>(sweep: &mut Sweep<'_, R>, place: usize) -> bool
     requires { place < length (words_of sweep.old) * R.BITS }
-    ensures value { result ≡ entry R.BITS (indexed R.number O.position) (words_of sweep.old) place }
+    ensures value { result ≡ entry (read_by R.BitRegister O.position) (words_of sweep.old) place }
     ensures same { SameButReads sweep.old sweep.new }
     ensures lender { lender sweep.new ≡ lender sweep.old }
 {

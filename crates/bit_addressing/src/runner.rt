@@ -49,7 +49,7 @@ pub fn run<R: BitRegister, O: BitOrder<R>>(
     requires disjoint { AreDisjoint R.BITS spans.now }
     requires fit { AllFit R.BITS spans.now (length memory.old) }
     requires places { length replies.old ≡ length commands.now }
-    ensures run { Runs R.BITS (indexed R.number O.position) memory.old memory.new spans.now commands.now replies.new }
+    ensures run { Runs (read_by R.BitRegister O.position) memory.old memory.new spans.now commands.now replies.new }
 {
     for k in 0..commands.len() {
         let (number, command) = commands[k];
@@ -60,7 +60,7 @@ pub fn run<R: BitRegister, O: BitOrder<R>>(
 /// Two lists of commands that keep each span's own commands in their order give each span the same replies and
 /// end in the same memory: a law, which the contract states.
 pub fn order_of_spans_is_free<R: BitRegister, O: BitOrder<R>>()
-    ensures { OrderOfSpansIsFree R.BITS (indexed R.number O.position) }
+    ensures { OrderOfSpansIsFree (read_by R.BitRegister O.position) }
 {}
 
 // Carries one command out at the span of a number, where there is one.
@@ -72,7 +72,7 @@ fn carry_out_at<R: BitRegister, O: BitOrder<R>>(
 ) -> SpanReply<R>
     requires fit { AllFit R.BITS spans.now (length memory.old) }
     ensures carried { number < length spans.now
-        → CarriesOut R.BITS (indexed R.number O.position) memory.old memory.new
+        → CarriesOut (read_by R.BitRegister O.position) memory.old memory.new
         (span_at spans.now number) command result }
     ensures refused { length spans.now ≤ number → result ≡ SpanReply.Refused }
     ensures same { length spans.now ≤ number → memory.new ≡ memory.old }

@@ -1,5 +1,5 @@
 -- Word numbers and places over the whole numbers.
-use Rattle.std.proofs.Common.{◌≡◌, ℕ, zero, suc, ◌+◌, ◌-◌, ◌*◌, ◌^◌, ◌<◌, ◌≤◌, ◌∷◌, ◌++◌, [], length, sym}
+use Rattle.std.proofs.Common.{◌≡◌, ◌↔◌, ℕ, zero, suc, ◌+◌, ◌-◌, ◌*◌, ◌^◌, ◌<◌, ◌≤◌, ◌∷◌, ◌++◌, [], length, sym}
 use Rattle.std.proofs.Common.{ap, ◌∙◌, arith}
 use Rattle.std.proofs.Math.Nat.{mul-le-mul}
 use Rattle.std.proofs.Math.IntN.{ℤ, pos, negsuc, ◌+ℤ◌, ◌-ℤ◌, ◌*ℤ◌, neg_ℤ, pred_ℤ, +ℤ-suc_ℤ, +ℤ-pred_ℤ, +ℤ_idr}
@@ -190,3 +190,14 @@ fewer_last b range s e l is seen some place =
 pub ruleset steps_from_front = (pointers-none, first_stays, without_first, gives_first, fewer_first)
 
 pub ruleset steps_from_back = (pointers-none, last_stays, without_last, gives_last, fewer_last)
+
+-- the number of the word of a bit so many bits on, as code adds it up, fits exactly where the bit's place stays in
+pub fits_where_stays : (b : ℕ) (p : Pointer) (w words by : ℤ) (i j : ℕ) → w ≡ p.word → i ≡ p.bit
+    → FitsSigned w64 w → FitsSigned w64 words → IsOffset b i by words j
+    → FitsSigned w64 (to_z w64 (of_z w64 w) +ℤ to_z w64 (of_z w64 words)) ↔ StaysIn b (whole_place b p +ℤ by)
+fits_where_stays b p w words by i j is_word is_bit fit_w fit_words is =
+    let there = moved_place b w words by i j is in
+    rw (← is_word, ← is_bit, to_z-of_z w64 w fit_w, to_z-of_z w64 words fit_words) (
+      λ fits. rw (← there) (stays_here b (w +ℤ words) j is.within fits),
+      λ stays. moved_fits b w words by i j is stays,
+    )

@@ -5,7 +5,7 @@ ghost use Rattle.std.specs.Int.{w64};
 ghost use Rattle.std.specs.Iterator.{YieldsFirst, YieldsLast, UpTo, item_count};
 ghost use Rattle.std.specs.Iterator.SizeHint.{IsWithinCount};
 ghost use Rattle.bit_addressing_memory.specs.Pointer.{whole_place};
-ghost use Rattle.bit_addressing_memory.specs.PointerRange.{pointers_of};
+ghost use Rattle.bit_addressing_memory.specs.PointerRange.{end_of, pointers_of};
 
 use crate::pointer::{BitPtr, Dangling, distance};
 use bit_addressing_order::{BitOrder, BitRegister};
@@ -92,8 +92,7 @@ impl<R: BitRegister, O: BitOrder<R>> BitPtrRange<R, O> {
     /// The same range as the first pointer and the one before which it ends.
     pub fn into_range(self) -> Range<BitPtr<R, O>>
         ensures start { result.start ≡ self.start }
-        ensures end { whole_place R.BITS result.end ≡ whole_place R.BITS self.start +ℤ pos self.len }
-        ensures bit { result.end.bit < R.BITS }
+        ensures end { result.end ≡ end_of R.BITS self }
     {
         self.start()..self.end()
     }
@@ -103,7 +102,7 @@ impl<R: BitRegister, O: BitOrder<R>> BitPtrRange<R, O> {
         ensures { IsTrue result ↔ ((whole_place R.BITS self.now.start ≤ℤ whole_place R.BITS pointer.now)
             × (whole_place R.BITS pointer.now <ℤ (whole_place R.BITS self.now.start +ℤ pos self.now.len))) }
     {
-        let on = bits_to(self.start(), pointer.copied());
+        let on = bits_to(self.start(), *pointer);
         on >= 0 && on < self.bits_left() as i128
     }
 
@@ -111,15 +110,15 @@ impl<R: BitRegister, O: BitOrder<R>> BitPtrRange<R, O> {
     pub fn start(&self) -> BitPtr<R, O>
         ensures { result ≡ self.now.start }
     {
-        self.start.copied()
+        self.start
     }
 
     /// The pointer before which it ends.
+    #[tactic(auto, using(crate::specs::PointerRange::end_seen))]
     pub fn end(&self) -> BitPtr<R, O>
-        ensures place { whole_place R.BITS result ≡ whole_place R.BITS self.now.start +ℤ pos self.now.len }
-        ensures bit { result.bit < R.BITS }
+        ensures { result ≡ end_of R.BITS self.now }
     {
-        self.end.copied()
+        self.end
     }
 
     /// Whether it has no pointer.
@@ -134,7 +133,7 @@ impl<R: BitRegister, O: BitOrder<R>> BitPtrRange<R, O> {
         ensures value { result ≡ self.now.len }
         ensures small { result < 2 ^ 63 }
     {
-        bits_to(self.start.copied(), self.end.copied()) as usize
+        bits_to(self.start, self.end) as usize
     }
 }
 
@@ -150,8 +149,8 @@ impl<R: BitRegister, O: BitOrder<R>> Iterator for BitPtrRange<R, O> {
         if self.bits_left() == 0 {
             return None;
         }
-        let first = self.start.copied();
-        self.start = self.start.one_on();
+        let first = self.start;
+        self.start = self.start.add(1);
         Some(first)
     }
 
@@ -173,8 +172,8 @@ impl<R: BitRegister, O: BitOrder<R>> DoubleEndedIterator for BitPtrRange<R, O> {
         if self.bits_left() == 0 {
             return None;
         }
-        self.end = self.end.one_back();
-        Some(self.end.copied())
+        self.end = self.end.sub(1);
+        Some(self.end)
     }
 }
 

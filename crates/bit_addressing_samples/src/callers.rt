@@ -22,7 +22,7 @@ pub fn move_within<R: BitRegister, O: BitOrder<R>>(
     requires target_within { target + len ≤ length words.old * R.BITS }
     requires source_ends { source + len < 2 ^ 64 }
     requires target_ends { target + len < 2 ^ 64 }
-    ensures moved { Moves R.BITS (indexed R.number O.position) words.old words.new source target len }
+    ensures moved { Moves (read_by R.BitRegister O.position) words.old words.new source target len }
     ensures writes { result ≤ touched R.BITS target len }
     ensures changed { changed R.number words.old words.new ≤ result }
 {
@@ -42,9 +42,9 @@ pub fn move_list<R: BitRegister, O: BitOrder<R>>(
     requires target_within { target + len ≤ length words.old * R.BITS }
     requires source_ends { source + len < 2 ^ 64 }
     requires target_ends { target + len < 2 ^ 64 }
-    ensures moved { memory R.BITS (indexed R.number O.position) words.new
-        ≡ with_piece (memory R.BITS (indexed R.number O.position) words.old) target
-        (piece (memory R.BITS (indexed R.number O.position) words.old) source len) }
+    ensures moved { memory (read_by R.BitRegister O.position) words.new
+        ≡ with_piece (memory (read_by R.BitRegister O.position) words.old) target
+        (piece (memory (read_by R.BitRegister O.position) words.old) source len) }
     ensures writes { result ≤ touched R.BITS target len }
 {
     move_within::<R, O>(words, source, target, len)
@@ -52,9 +52,9 @@ pub fn move_list<R: BitRegister, O: BitOrder<R>>(
 
 /// Moves inside an array of its own and knows all of it, and the bound on the writes.
 pub fn own_array<R: BitRegister, O: BitOrder<R>>(a: R, b: R, c: R) -> ([R; 3], usize)
-    ensures moved { memory R.BITS (indexed R.number O.position) result.0
-        ≡ with_piece (memory R.BITS (indexed R.number O.position) (a ∷ b ∷ c ∷ [])) 0
-        (piece (memory R.BITS (indexed R.number O.position) (a ∷ b ∷ c ∷ [])) 4 16) }
+    ensures moved { memory (read_by R.BitRegister O.position) result.0
+        ≡ with_piece (memory (read_by R.BitRegister O.position) (a ∷ b ∷ c ∷ [])) 0
+        (piece (memory (read_by R.BitRegister O.position) (a ∷ b ∷ c ∷ [])) 4 16) }
     ensures writes { result.1 ≤ 2 }
 {
     let mut words = [a, b, c];
@@ -91,10 +91,10 @@ pub fn set_and_read<R: BitRegister, O: BitOrder<R>>(
     requires bits { (0 < (span_at spans.now 0).len) × (0 < (span_at spans.now 1).len) }
     requires commands { commands.now ≡ (0, SpanCommand.Replace 0 true) ∷ (1, SpanCommand.Read 0) ∷ [] }
     requires places { length replies.old ≡ 2 }
-    ensures set { entry R.BITS (indexed R.number O.position) memory.new
+    ensures set { entry (read_by R.BitRegister O.position) memory.new
         (span_place R.BITS (span_at spans.now 0)) ≡ true }
     ensures read { slice_index_or replies.new 1 SpanReply.Refused
-        ≡ SpanReply.Bit (entry R.BITS (indexed R.number O.position) memory.old
+        ≡ SpanReply.Bit (entry (read_by R.BitRegister O.position) memory.old
         (span_place R.BITS (span_at spans.now 1))) }
 {
     run(memory, spans, commands, replies);

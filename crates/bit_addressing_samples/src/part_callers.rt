@@ -14,7 +14,7 @@ pub fn store_and_load<'a, R: BitRegister, O: BitOrder<R>>(
     part: &mut PartialElementMut<'a, R, O>,
     value: R,
 ) -> R
-    ensures { IsMasked R.BITS (indexed R.number O.position) value result
+    ensures { IsMasked (read_by R.BitRegister O.position) value result
         (written_head part.old) (written_tail part.old) }
 {
     part.store_value(value);
@@ -45,17 +45,17 @@ pub fn write_two<R: BitRegister, O: BitOrder<R>>(
     requires fits { span.word + 2 ≤ length words.old }
     requires index { span.head < R.BITS }
     ensures first { (k : ℕ) → k < part_count R.BITS span 0
-        → entry R.BITS (indexed R.number O.position) words.new (part_place R.BITS span 0 + k)
+        → entry (read_by R.BitRegister O.position) words.new (part_place R.BITS span 0 + k)
         ≡ indexed R.number O.position first (part_from R.BITS span 0 + k) }
     ensures second { (k : ℕ) → k < part_count R.BITS span 1
-        → entry R.BITS (indexed R.number O.position) words.new (part_place R.BITS span 1 + k)
+        → entry (read_by R.BitRegister O.position) words.new (part_place R.BITS span 1 + k)
         ≡ indexed R.number O.position second (part_from R.BITS span 1 + k) }
     ensures below { (p : ℕ) → p < part_place R.BITS span 0
-        → entry R.BITS (indexed R.number O.position) words.new p
-        ≡ entry R.BITS (indexed R.number O.position) words.old p }
+        → entry (read_by R.BitRegister O.position) words.new p
+        ≡ entry (read_by R.BitRegister O.position) words.old p }
     ensures above { (p : ℕ) → part_place R.BITS span 1 + part_count R.BITS span 1 ≤ p
-        → entry R.BITS (indexed R.number O.position) words.new p
-        ≡ entry R.BITS (indexed R.number O.position) words.old p }
+        → entry (read_by R.BitRegister O.position) words.new p
+        ≡ entry (read_by R.BitRegister O.position) words.old p }
 {
     let mut domain = span.domain_mut(words);
     domain.store_value(0, first);

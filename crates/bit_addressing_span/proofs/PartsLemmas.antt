@@ -30,56 +30,56 @@ part_some b head zero k within = absurd (omega arith)
 part_some b head (suc n) k within = omega arith
 
 -- the word j masked reads the memory there
-pub reads_part : {R : Type 0} (b : ℕ) (digit : R → ℕ → Bool) (words : List R) (j : ℕ) (x word : R) (from upto : ℕ)
-    → j < length words → x ≡ get_or words j x → IsMasked b digit x word from upto
-    → ReadsPart b digit words j word from upto
-reads_part b digit words j x word from upto within e is = record {
-  inside = λ i low high small. is.inside i low high small ∙ entry_read b digit words j i x small within e;
+pub reads_part : {R : Type 0} (reading : Reading R) (words : List R) (j : ℕ) (x word : R) (from upto : ℕ)
+    → j < length words → x ≡ get_or words j x → IsMasked reading x word from upto
+    → ReadsPart reading words j word from upto
+reads_part reading words j x word from upto within e is = record {
+  inside = λ i low high small. is.inside i low high small ∙ entry_read reading words j i x small within e;
   below = is.below;
   above = is.above;
 }
 
 -- the word j with its part stored writes the memory there, and nowhere else
-pub stores_part : {R : Type 0} (b : ℕ) (digit : R → ℕ → Bool) (words : List R) (j : ℕ) (x w : R) (from upto : ℕ)
-    (now : ℕ → Bool) → j < length words → x ≡ get_or words j x → from ≤ upto → upto ≤ b → 0 < b
-    → IsStored b digit x w from upto now
-    → StoresPart b digit words (set words j w) (j * b + from) (upto - from) (λ k. now (from + k))
-stores_part b digit words j x w from upto now within e order short some is =
-    let same = λ (p : ℕ) (row : p / b ≡ j) (kept : digit w (p % b) ≡ digit x (p % b)).
-    let place : j * b + p % b ≡ p = ap (λ q. q * b + p % b) (sym row) ∙ div-add-mod' p b in
-    entry-set_same b digit words j w p row within
+pub stores_part : {R : Type 0} (reading : Reading R) (words : List R) (j : ℕ) (x w : R) (from upto : ℕ)
+    (now : ℕ → Bool) → j < length words → x ≡ get_or words j x → from ≤ upto → upto ≤ reading.bits → 0 < reading.bits
+    → IsStored reading x w from upto now
+    → StoresPart reading words (set words j w) (j * reading.bits + from) (upto - from) (λ k. now (from + k))
+stores_part reading words j x w from upto now within e order short some is =
+    let same = λ (p : ℕ) (row : p / reading.bits ≡ j) (kept : reading.digit w (p % reading.bits) ≡ reading.digit x (p % reading.bits)).
+    let place : j * reading.bits + p % reading.bits ≡ p = ap (λ q. q * reading.bits + p % reading.bits) (sym row) ∙ div-add-mod' p reading.bits in
+    entry-set_same reading words j w p row within
     ∙ kept
-    ∙ entry_read b digit words j (p % b) x (mod_below p b some) within e
-    ∙ ap (entry b digit words) place in
+    ∙ entry_read reading words j (p % reading.bits) x (mod_below p reading.bits some) within e
+    ∙ ap (entry reading words) place in
     record {
       there = λ k small.
           let i : ℕ = from + k in
-          let low : i < b = omega arith in
-          let place : j * b + i ≡ j * b + from + k = omega arith in
-          ap (entry b digit (set words j w)) (sym place)
-          ∙ entry-set_same b digit words j w (j * b + i) (div-mul-add j b i low) within
-          ∙ ap (digit w) (mod-mul-add j b i low)
+          let low : i < reading.bits = omega arith in
+          let place : j * reading.bits + i ≡ j * reading.bits + from + k = omega arith in
+          ap (entry reading (set words j w)) (sym place)
+          ∙ entry-set_same reading words j w (j * reading.bits + i) (div-mul-add j reading.bits i low) within
+          ∙ ap (reading.digit w) (mod-mul-add j reading.bits i low)
           ∙ is.inside i (omega arith) (omega arith) low;
-      below = λ p before. elim (cases_eq (p / b) j) [
+      below = λ p before. elim (cases_eq (p / reading.bits) j) [
         | inl row ↦
-            let place : j * b + p % b ≡ p = ap (λ q. q * b + p % b) (sym row) ∙ div-add-mod' p b in
-            same p row (is.below (p % b) (omega arith) (mod_below p b some))
-        | inr other ↦ entry-set_other b digit words j w p other
+            let place : j * reading.bits + p % reading.bits ≡ p = ap (λ q. q * reading.bits + p % reading.bits) (sym row) ∙ div-add-mod' p reading.bits in
+            same p row (is.below (p % reading.bits) (omega arith) (mod_below p reading.bits some))
+        | inr other ↦ entry-set_other reading words j w p other
       ];
-      above = λ p after. elim (cases_eq (p / b) j) [
+      above = λ p after. elim (cases_eq (p / reading.bits) j) [
         | inl row ↦
-            let place : j * b + p % b ≡ p = ap (λ q. q * b + p % b) (sym row) ∙ div-add-mod' p b in
-            same p row (is.above (p % b) (omega arith) (mod_below p b some))
-        | inr other ↦ entry-set_other b digit words j w p other
+            let place : j * reading.bits + p % reading.bits ≡ p = ap (λ q. q * reading.bits + p % reading.bits) (sym row) ∙ div-add-mod' p reading.bits in
+            same p row (is.above (p % reading.bits) (omega arith) (mod_below p reading.bits some))
+        | inr other ↦ entry-set_other reading words j w p other
       ];
       words = length-set words j w;
     }
 
 -- the same entries by another name
-pub stores_as : {R : Type 0} (b : ℕ) (digit : R → ℕ → Bool) (before after : List R) (place n : ℕ) (x y : ℕ → Bool)
-    → StoresPart b digit before after place n x → ((k : ℕ) → k < n → x k ≡ y k)
-    → StoresPart b digit before after place n y
-stores_as b digit before after place n x y is same = record {
+pub stores_as : {R : Type 0} (reading : Reading R) (before after : List R) (place n : ℕ) (x y : ℕ → Bool)
+    → StoresPart reading before after place n x → ((k : ℕ) → k < n → x k ≡ y k)
+    → StoresPart reading before after place n y
+stores_as reading before after place n x y is same = record {
   there = λ k small. is.there k small ∙ same k small;
   below = is.below;
   above = is.above;
@@ -87,32 +87,32 @@ stores_as b digit before after place n x y is same = record {
 }
 
 -- a word without digits stored in a part
-pub stores_none : {R : Type 0} (b : ℕ) (digit : R → ℕ → Bool) (before after : List R) (place n from : ℕ) (value : R)
-    → StoresPart b digit before after place n (λ i. digit value (from + i)) → ((i : ℕ) → i < b → digit value i ≡ false)
-    → from + n ≤ b → StoresPart b digit before after place n (λ _. false)
-stores_none b digit before after place n from value is none within =
-    stores_as b digit before after place n (λ i. digit value (from + i)) (λ _. false) is
+pub stores_none : {R : Type 0} (reading : Reading R) (before after : List R) (place n from : ℕ) (value : R)
+    → StoresPart reading before after place n (λ i. reading.digit value (from + i)) → ((i : ℕ) → i < reading.bits → reading.digit value i ≡ false)
+    → from + n ≤ reading.bits → StoresPart reading before after place n (λ _. false)
+stores_none reading before after place n from value is none within =
+    stores_as reading before after place n (λ i. reading.digit value (from + i)) (λ _. false) is
     (λ i small. none (from + i) (omega arith))
 
 -- a word with each digit stored in a part
-pub stores_each : {R : Type 0} (b : ℕ) (digit : R → ℕ → Bool) (before after : List R) (place n from : ℕ) (value : R)
-    → StoresPart b digit before after place n (λ i. digit value (from + i)) → ((i : ℕ) → i < b → digit value i ≡ true)
-    → from + n ≤ b → StoresPart b digit before after place n (λ _. true)
-stores_each b digit before after place n from value is each within =
-    stores_as b digit before after place n (λ i. digit value (from + i)) (λ _. true) is
+pub stores_each : {R : Type 0} (reading : Reading R) (before after : List R) (place n from : ℕ) (value : R)
+    → StoresPart reading before after place n (λ i. reading.digit value (from + i)) → ((i : ℕ) → i < reading.bits → reading.digit value i ≡ true)
+    → from + n ≤ reading.bits → StoresPart reading before after place n (λ _. true)
+stores_each reading before after place n from value is each within =
+    stores_as reading before after place n (λ i. reading.digit value (from + i)) (λ _. true) is
     (λ i small. each (from + i) (omega arith))
 
 -- the word j flipped and stored in a part of itself
-pub stores_flipped : {R : Type 0} (b : ℕ) (digit : R → ℕ → Bool) (before after : List R) (place n from j : ℕ)
-    (x value : R) → StoresPart b digit before after place n (λ i. digit value (from + i))
-    → ((i : ℕ) → i < b → digit value i ≡ not (digit x i)) → x ≡ get_or before j x → j < length before
-    → from + n ≤ b → place ≡ j * b + from
-    → StoresPart b digit before after place n (λ i. not (entry b digit before (place + i)))
-stores_flipped b digit before after place n from j x value is turned e inside within at =
-    stores_as b digit before after place n (λ i. digit value (from + i))
-    (λ i. not (entry b digit before (place + i))) is
+pub stores_flipped : {R : Type 0} (reading : Reading R) (before after : List R) (place n from j : ℕ)
+    (x value : R) → StoresPart reading before after place n (λ i. reading.digit value (from + i))
+    → ((i : ℕ) → i < reading.bits → reading.digit value i ≡ not (reading.digit x i)) → x ≡ get_or before j x → j < length before
+    → from + n ≤ reading.bits → place ≡ j * reading.bits + from
+    → StoresPart reading before after place n (λ i. not (entry reading before (place + i)))
+stores_flipped reading before after place n from j x value is turned e inside within at =
+    stores_as reading before after place n (λ i. reading.digit value (from + i))
+    (λ i. not (entry reading before (place + i))) is
     (λ i small.
-    let low : from + i < b = omega arith in
-    let here : j * b + (from + i) ≡ place + i = omega arith in
+    let low : from + i < reading.bits = omega arith in
+    let here : j * reading.bits + (from + i) ≡ place + i = omega arith in
     turned (from + i) low
-    ∙ ap not (entry_read b digit before j (from + i) x low inside e ∙ ap (entry b digit before) here))
+    ∙ ap not (entry_read reading before j (from + i) x low inside e ∙ ap (entry reading before) here))

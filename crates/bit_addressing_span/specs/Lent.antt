@@ -21,8 +21,8 @@ lent_span d = record { word = d.word; head = d.head; len = d.len }
 
 -- the text is that of the span's masked words: of the domain that is the span in this memory, cut at the borders
 -- of words, its numbers each written by `form`
-pub record IsTextOf {R O : Type 0} {g : _} (b : ℕ) (digit : R → ℕ → Bool) (number : R → ℕ)
+pub record IsTextOf {R O : Type 0} {g : _} (reading : Reading R) (number : R → ℕ)
     (mask : Option ℕ → Option ℕ → ℕ) (form : ℕ → List ℕ) (d : DomainMut R O g) (text : List ℕ) : Type 0 where
   pub shown : Domain R O g
-  pub cut : IsCutOf b digit (lent_words d) (lent_span d) shown
+  pub cut : IsCutOf reading (lent_words d) (lent_span d) shown
   pub is : text ≡ numbers_text form (domain_numbers number mask shown)

@@ -17,8 +17,8 @@ impl<R: BitRegister, O: BitOrder<R>> BitSpan<R, O> {
     /// other. The span fits.
     pub fn domain<'a>(self, words: &'a [R]) -> Domain<'a, R, O>
         requires { self.word + touched R.BITS self.head self.len ≤ length words.now }
-        ensures bits { domain_bits R.BITS (indexed R.number O.position) result
-            ≡ piece (memory R.BITS (indexed R.number O.position) words.now) (self.word * R.BITS + self.head) self.len }
+        ensures bits { domain_bits (read_by R.BitRegister O.position) result
+            ≡ piece (memory (read_by R.BitRegister O.position) words.now) (self.word * R.BITS + self.head) self.len }
         ensures start { 0 < self.len → domain_start result ≡ self.head }
         ensures enclave { IsEnclave result ↔ (0 < self.len) × (0 < self.head) × (self.head + self.len < R.BITS) }
         ensures cut { IsCut R.BITS result }
@@ -40,8 +40,8 @@ pub(crate) fn cut_from<'a, R: BitRegister, O: BitOrder<R>>(
     requires index { head < R.BITS }
     requires fits { word + touched R.BITS head len ≤ length words.now }
     requires short { len ≤ MAX_BITS }
-    ensures bits { domain_bits R.BITS (indexed R.number O.position) result
-        ≡ piece (memory R.BITS (indexed R.number O.position) words.now) (word * R.BITS + head) len }
+    ensures bits { domain_bits (read_by R.BitRegister O.position) result
+        ≡ piece (memory (read_by R.BitRegister O.position) words.now) (word * R.BITS + head) len }
     ensures start { 0 < len → domain_start result ≡ head }
     ensures enclave { IsEnclave result ↔ (0 < len) × (0 < head) × (head + len < R.BITS) }
     ensures cut { IsCut R.BITS result }
@@ -67,8 +67,8 @@ fn cut_words<'a, R: BitRegister, O: BitOrder<R>>(
     requires some { 0 < len }
     requires within { head + len ≤ length words.now * R.BITS }
     requires short { len ≤ MAX_BITS }
-    ensures bits { domain_bits R.BITS (indexed R.number O.position) result
-        ≡ piece (memory R.BITS (indexed R.number O.position) words.now) head len }
+    ensures bits { domain_bits (read_by R.BitRegister O.position) result
+        ≡ piece (memory (read_by R.BitRegister O.position) words.now) head len }
     ensures start { 0 < len → domain_start result ≡ head }
     ensures enclave { IsEnclave result ↔ (0 < len) × (0 < head) × (head + len < R.BITS) }
     ensures cut { IsCut R.BITS result }
@@ -123,8 +123,8 @@ fn part_before<'a, R: BitRegister, O: BitOrder<R>>(
 ) -> Option<PartialElement<'a, R, O>>
     requires inside { 0 < upto → word < length words.now }
     requires short { upto < R.BITS }
-    ensures bits { option_bits R.BITS (indexed R.number O.position) result
-        ≡ piece (memory R.BITS (indexed R.number O.position) words.now) (word * R.BITS) upto }
+    ensures bits { option_bits (read_by R.BitRegister O.position) result
+        ≡ piece (memory (read_by R.BitRegister O.position) words.now) (word * R.BITS) upto }
     ensures cut { IfSome result (IsTail R.BITS) }
     ensures words { length (option_numbers R.number O.masked result) ≡ min 1 upto }
 {
@@ -144,8 +144,8 @@ fn part_of<'a, R: BitRegister, O: BitOrder<R>>(
 ) -> PartialElement<'a, R, O>
     requires inside { word < length words.now }
     requires ordered { head ≤ tail }
-    ensures bits { partial_bits R.BITS (indexed R.number O.position) result
-        ≡ piece (memory R.BITS (indexed R.number O.position) words.now) (word * R.BITS + head) (tail - head) }
+    ensures bits { partial_bits (read_by R.BitRegister O.position) result
+        ≡ piece (memory (read_by R.BitRegister O.position) words.now) (word * R.BITS + head) (tail - head) }
     ensures head { partial_head result ≡ head }
     ensures tail { partial_tail result ≡ tail }
     ensures words { length (partial_numbers R.number O.masked result) ≡ 1 }

@@ -78,7 +78,7 @@ impl<'a, R: BitRegister, O: BitOrder<R>> DomainMut<'a, R, O> {
 
     /// The same bits to read alone, cut at the borders of words.
     pub fn as_domain(&self) -> Domain<'_, R, O>
-        ensures cut { IsCutOf R.BITS (indexed R.number O.position) (lent_words self.now) (lent_span self.now) result }
+        ensures cut { IsCutOf (read_by R.BitRegister O.position) (lent_words self.now) (lent_span self.now) result }
         ensures words { length (domain_numbers R.number O.masked result)
             ≡ touched R.BITS (lent_span self.now).head (lent_span self.now).len }
         ensures enclave { IsEnclave result ↔ (0 < (lent_span self.now).len) × (0 < (lent_span self.now).head)
@@ -129,7 +129,7 @@ impl<'a, R: BitRegister, O: BitOrder<R>> DomainMut<'a, R, O> {
     /// Word `k` of the span, with each digit outside the span read as zero.
     pub fn load_value(&self, k: usize) -> R
         requires { k < touched R.BITS (lent_span self.now).head (lent_span self.now).len }
-        ensures { ReadsPart R.BITS (indexed R.number O.position) (lent_words self.now)
+        ensures { ReadsPart (read_by R.BitRegister O.position) (lent_words self.now)
             ((lent_span self.now).word + k) result
             (part_from R.BITS (lent_span self.now) k) (part_upto R.BITS (lent_span self.now) k) }
     {
@@ -148,10 +148,10 @@ impl<'a, R: BitRegister, O: BitOrder<R>> DomainMut<'a, R, O> {
         requires { k < touched R.BITS (lent_span self.old).head (lent_span self.old).len }
         ensures same_reference { (lent_lender self.new).ghost_name ≡ (lent_lender self.old).ghost_name }
         ensures span { lent_span self.new ≡ lent_span self.old }
-        ensures was { ReadsPart R.BITS (indexed R.number O.position) (lent_words self.old)
+        ensures was { ReadsPart (read_by R.BitRegister O.position) (lent_words self.old)
             ((lent_span self.old).word + k) result
             (part_from R.BITS (lent_span self.old) k) (part_upto R.BITS (lent_span self.old) k) }
-        ensures now { StoresPart R.BITS (indexed R.number O.position) (lent_words self.old) (lent_words self.new)
+        ensures now { StoresPart (read_by R.BitRegister O.position) (lent_words self.old) (lent_words self.new)
             (part_place R.BITS (lent_span self.old) k) (part_count R.BITS (lent_span self.old) k)
             (λ i. indexed R.number O.position value (part_from R.BITS (lent_span self.old) k + i)) }
     {
@@ -164,12 +164,12 @@ impl<'a, R: BitRegister, O: BitOrder<R>> DomainMut<'a, R, O> {
         requires { k < touched R.BITS (lent_span self.old).head (lent_span self.old).len }
         ensures same_reference { (lent_lender self.new).ghost_name ≡ (lent_lender self.old).ghost_name }
         ensures span { lent_span self.new ≡ lent_span self.old }
-        ensures was { ReadsPart R.BITS (indexed R.number O.position) (lent_words self.old)
+        ensures was { ReadsPart (read_by R.BitRegister O.position) (lent_words self.old)
             ((lent_span self.old).word + k) result
             (part_from R.BITS (lent_span self.old) k) (part_upto R.BITS (lent_span self.old) k) }
-        ensures now { StoresPart R.BITS (indexed R.number O.position) (lent_words self.old) (lent_words self.new)
+        ensures now { StoresPart (read_by R.BitRegister O.position) (lent_words self.old) (lent_words self.new)
             (part_place R.BITS (lent_span self.old) k) (part_count R.BITS (lent_span self.old) k)
-            (λ i. not (entry R.BITS (indexed R.number O.position) (lent_words self.old)
+            (λ i. not (entry (read_by R.BitRegister O.position) (lent_words self.old)
             (part_place R.BITS (lent_span self.old) k + i))) }
     {
         let turned = flipped::<R, O>(self.words[self.word + k]);
@@ -182,10 +182,10 @@ impl<'a, R: BitRegister, O: BitOrder<R>> DomainMut<'a, R, O> {
         requires { k < touched R.BITS (lent_span self.old).head (lent_span self.old).len }
         ensures same_reference { (lent_lender self.new).ghost_name ≡ (lent_lender self.old).ghost_name }
         ensures span { lent_span self.new ≡ lent_span self.old }
-        ensures was { ReadsPart R.BITS (indexed R.number O.position) (lent_words self.old)
+        ensures was { ReadsPart (read_by R.BitRegister O.position) (lent_words self.old)
             ((lent_span self.old).word + k) result
             (part_from R.BITS (lent_span self.old) k) (part_upto R.BITS (lent_span self.old) k) }
-        ensures now { StoresPart R.BITS (indexed R.number O.position) (lent_words self.old) (lent_words self.new)
+        ensures now { StoresPart (read_by R.BitRegister O.position) (lent_words self.old) (lent_words self.new)
             (part_place R.BITS (lent_span self.old) k) (part_count R.BITS (lent_span self.old) k)
             (λ _. false) }
     {
@@ -198,10 +198,10 @@ impl<'a, R: BitRegister, O: BitOrder<R>> DomainMut<'a, R, O> {
         requires { k < touched R.BITS (lent_span self.old).head (lent_span self.old).len }
         ensures same_reference { (lent_lender self.new).ghost_name ≡ (lent_lender self.old).ghost_name }
         ensures span { lent_span self.new ≡ lent_span self.old }
-        ensures was { ReadsPart R.BITS (indexed R.number O.position) (lent_words self.old)
+        ensures was { ReadsPart (read_by R.BitRegister O.position) (lent_words self.old)
             ((lent_span self.old).word + k) result
             (part_from R.BITS (lent_span self.old) k) (part_upto R.BITS (lent_span self.old) k) }
-        ensures now { StoresPart R.BITS (indexed R.number O.position) (lent_words self.old) (lent_words self.new)
+        ensures now { StoresPart (read_by R.BitRegister O.position) (lent_words self.old) (lent_words self.new)
             (part_place R.BITS (lent_span self.old) k) (part_count R.BITS (lent_span self.old) k)
             (λ _. true) }
     {

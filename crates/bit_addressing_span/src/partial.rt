@@ -57,7 +57,7 @@ impl<'a, R: BitRegister, O: BitOrder<R>> PartialElement<'a, R, O> {
     pub fn load_value(self) -> R
         ensures number { partial_numbers R.number O.masked self.entry ≡ R.number result ∷ [] }
         ensures digits { (word : R) → partial_words self.entry ≡ word ∷ []
-            → IsMasked R.BITS (indexed R.number O.position) word result
+            → IsMasked (read_by R.BitRegister O.position) word result
             (partial_head self.entry) (partial_tail self.entry) }
     {
         let (head, tail) = self.bounds();

@@ -75,7 +75,7 @@ impl<'a, R: BitRegister, O: BitOrder<R>> PartialElementMut<'a, R, O> {
 
     /// The word with each digit outside the part read as zero.
     pub fn load_value(&self) -> R
-        ensures { IsMasked R.BITS (indexed R.number O.position) (written_word self.now) result
+        ensures { IsMasked (read_by R.BitRegister O.position) (written_word self.now) result
             (written_head self.now) (written_tail self.now) }
     {
         let (head, tail) = self.bounds();
@@ -108,9 +108,9 @@ impl<'a, R: BitRegister, O: BitOrder<R>> PartialElementMut<'a, R, O> {
         ensures same_reference { (written_lender self.new).ghost_name ≡ (written_lender self.old).ghost_name }
         ensures head { written_head self.new ≡ written_head self.old }
         ensures tail { written_tail self.new ≡ written_tail self.old }
-        ensures was { IsMasked R.BITS (indexed R.number O.position) (written_word self.old) result
+        ensures was { IsMasked (read_by R.BitRegister O.position) (written_word self.old) result
             (written_head self.old) (written_tail self.old) }
-        ensures now { IsStored R.BITS (indexed R.number O.position) (written_word self.old) (written_word self.new)
+        ensures now { IsStored (read_by R.BitRegister O.position) (written_word self.old) (written_word self.new)
             (written_head self.old) (written_tail self.old) (indexed R.number O.position value) }
     {
         let (head, tail) = self.bounds();
@@ -125,9 +125,9 @@ impl<'a, R: BitRegister, O: BitOrder<R>> PartialElementMut<'a, R, O> {
         ensures same_reference { (written_lender self.new).ghost_name ≡ (written_lender self.old).ghost_name }
         ensures head { written_head self.new ≡ written_head self.old }
         ensures tail { written_tail self.new ≡ written_tail self.old }
-        ensures was { IsMasked R.BITS (indexed R.number O.position) (written_word self.old) result
+        ensures was { IsMasked (read_by R.BitRegister O.position) (written_word self.old) result
             (written_head self.old) (written_tail self.old) }
-        ensures now { IsStored R.BITS (indexed R.number O.position) (written_word self.old) (written_word self.new)
+        ensures now { IsStored (read_by R.BitRegister O.position) (written_word self.old) (written_word self.new)
             (written_head self.old) (written_tail self.old)
             (λ i. not (indexed R.number O.position (written_word self.old) i)) }
     {
@@ -141,9 +141,9 @@ impl<'a, R: BitRegister, O: BitOrder<R>> PartialElementMut<'a, R, O> {
         ensures same_reference { (written_lender self.new).ghost_name ≡ (written_lender self.old).ghost_name }
         ensures head { written_head self.new ≡ written_head self.old }
         ensures tail { written_tail self.new ≡ written_tail self.old }
-        ensures was { IsMasked R.BITS (indexed R.number O.position) (written_word self.old) result
+        ensures was { IsMasked (read_by R.BitRegister O.position) (written_word self.old) result
             (written_head self.old) (written_tail self.old) }
-        ensures now { IsStored R.BITS (indexed R.number O.position) (written_word self.old) (written_word self.new)
+        ensures now { IsStored (read_by R.BitRegister O.position) (written_word self.old) (written_word self.new)
             (written_head self.old) (written_tail self.old) (λ _. false) }
     {
         self.store_value(no_digits::<R, O>())
@@ -155,9 +155,9 @@ impl<'a, R: BitRegister, O: BitOrder<R>> PartialElementMut<'a, R, O> {
         ensures same_reference { (written_lender self.new).ghost_name ≡ (written_lender self.old).ghost_name }
         ensures head { written_head self.new ≡ written_head self.old }
         ensures tail { written_tail self.new ≡ written_tail self.old }
-        ensures was { IsMasked R.BITS (indexed R.number O.position) (written_word self.old) result
+        ensures was { IsMasked (read_by R.BitRegister O.position) (written_word self.old) result
             (written_head self.old) (written_tail self.old) }
-        ensures now { IsStored R.BITS (indexed R.number O.position) (written_word self.old) (written_word self.new)
+        ensures now { IsStored (read_by R.BitRegister O.position) (written_word self.old) (written_word self.new)
             (written_head self.old) (written_tail self.old) (λ _. true) }
     {
         self.store_value(each_digit::<R, O>())

@@ -11,7 +11,7 @@ use bit_addressing_order::{BitEnd, BitIdx, BitOrder, BitRegister};
 pub(crate) fn masked<R: BitRegister, O: BitOrder<R>>(word: R, head: BitIdx<R>, tail: BitEnd<R>) -> R
     requires { head ≤ tail }
     ensures number { R.number result ≡ bit_and (R.number word) (part_mask O.masked head tail) }
-    ensures digits { IsMasked R.BITS (indexed R.number O.position) word result head tail }
+    ensures digits { IsMasked (read_by R.BitRegister O.position) word result head tail }
     ensures within { tail ≤ R.BITS }
 {
     word.and(O::mask(Some(head), Some(tail)).into_inner())
@@ -25,7 +25,7 @@ pub(crate) fn stored<R: BitRegister, O: BitOrder<R>>(
     tail: BitEnd<R>,
 ) -> R
     requires { head ≤ tail }
-    ensures { IsStored R.BITS (indexed R.number O.position) word result head tail
+    ensures { IsStored (read_by R.BitRegister O.position) word result head tail
         (indexed R.number O.position value) }
 {
     let mask = O::mask(Some(head), Some(tail)).into_inner();
@@ -50,7 +50,7 @@ pub(crate) fn load_in<R: BitRegister, O: BitOrder<R>>(
 ) -> R
     requires inside { at < length words.now }
     requires order { head ≤ tail }
-    ensures { ReadsPart R.BITS (indexed R.number O.position) words.now at result head tail }
+    ensures { ReadsPart (read_by R.BitRegister O.position) words.now at result head tail }
 {
     masked::<R, O>(words[at], head, tail)
 }
@@ -65,8 +65,8 @@ pub(crate) fn store_in<R: BitRegister, O: BitOrder<R>>(
 ) -> R
     requires inside { at < length words.old }
     requires order { head ≤ tail }
-    ensures was { ReadsPart R.BITS (indexed R.number O.position) words.old at result head tail }
-    ensures now { StoresPart R.BITS (indexed R.number O.position) words.old words.new (at * R.BITS + head) (tail - head)
+    ensures was { ReadsPart (read_by R.BitRegister O.position) words.old at result head tail }
+    ensures now { StoresPart (read_by R.BitRegister O.position) words.old words.new (at * R.BITS + head) (tail - head)
         (λ i. indexed R.number O.position value (head + i)) }
 {
     let word = words[at];

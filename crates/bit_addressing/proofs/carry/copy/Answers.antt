@@ -14,7 +14,7 @@ returns-then-count-len g c =
     let parts = c.raw_parts-word.ensures in
     record {
       carried =
-          refused g.R.BitRegister.BITS (indexed g.R.BitRegister.number g.O.Positions.position) c.args.memory.now
+          refused (read_by g.R.BitRegister g.O.Positions.position) c.args.memory.now
           c.args.span
           _ parts.index c.requires.fits
           (copy_out c.args.span.len c.args.from c.args.to c.args.count (elim c.then-count-len.branch [
@@ -30,7 +30,7 @@ pub returns-then-count-eq0 : goal.returns-then-count-eq0
 returns-then-count-eq0 g c =
     record {
       carried =
-          carried_copy g.R.BitRegister.BITS (indexed g.R.BitRegister.number g.O.Positions.position) c.args.memory.now
+          carried_copy (read_by g.R.BitRegister g.O.Positions.position) c.args.memory.now
           c.args.memory.now c.args.span c.args.from c.args.to c.args.count _ _ c.raw_parts-word.ensures.index
           c.requires.fits (omega arith) (omega arith) refl refl (copies_none _ _ _ _ _ _ (omega arith));
     }
@@ -68,7 +68,7 @@ returns g c =
     let target : memory_place b c.bit_at-target.result ≡ span_place b c.args.span + c.args.to = cc in
     record {
       carried =
-          carried_copy b (indexed g.R.BitRegister.number g.O.Positions.position) c.args.memory.now _ c.args.span
+          carried_copy (read_by g.R.BitRegister g.O.Positions.position) c.args.memory.now _ c.args.span
           c.args.from c.args.to c.args.count _ _ c.raw_parts-word.ensures.index c.requires.fits (omega arith)
           (omega arith)
           place target c.copy_within.ensures.copied;

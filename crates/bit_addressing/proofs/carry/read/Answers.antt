@@ -12,7 +12,7 @@ returns-then-i-len g c =
     let parts = c.raw_parts-word.ensures in
     record {
       carried =
-          refused g.R.BitRegister.BITS (indexed g.R.BitRegister.number g.O.Positions.position) c.args.memory.now
+          refused (read_by g.R.BitRegister g.O.Positions.position) c.args.memory.now
           c.args.span
           _ parts.index c.requires.fits (grind (arith, nat_tests));
     }
@@ -39,7 +39,7 @@ returns g c =
     let place : memory_place b c.bit_at.result ≡ span_place b c.args.span + c.args.i = cc in
     record {
       carried =
-          carried_read b (indexed g.R.BitRegister.number g.O.Positions.position) c.args.memory.now c.args.span
+          carried_read (read_by g.R.BitRegister g.O.Positions.position) c.args.memory.now c.args.span
           c.args.i _ _
           c.raw_parts-word.ensures.index c.requires.fits (omega arith) place c.read.ensures.value;
     }

@@ -12,7 +12,7 @@ returns-then-k-len g c =
     let lent = c.domain_mut-words.ensures in
     record {
       carried =
-          carried_as g.R.BitRegister.BITS (indexed g.R.BitRegister.number g.O.Positions.position) (lent_words d) _
+          carried_as (read_by g.R.BitRegister g.O.Positions.position) (lent_words d) _
           (lent_words d) _ (lent_span d) _ _ _ lent.words (search rules) lent.span
           (refused _ _ _ _ _ d.index d.fits (grind (arith, nat_tests, c.len.ensures)));
     }
@@ -23,7 +23,7 @@ returns g c =
     let lent = c.domain_mut-words.ensures in
     record {
       carried =
-          carried_as g.R.BitRegister.BITS (indexed g.R.BitRegister.number g.O.Positions.position) (lent_words d) _
+          carried_as (read_by g.R.BitRegister g.O.Positions.position) (lent_words d) _
           (lent_words c.store_value.new.self) _ (lent_span d) _ _ _ lent.words (search rules) lent.span
           (carried_store _ _ _ _ _ c.args.k c.args.word _ d.index d.fits (omega (arith, c.len.ensures))
           c.store_value.ensures.was c.store_value.ensures.now);

@@ -11,7 +11,7 @@ pub returns-then-i-len : goal.returns-then-i-len
 returns-then-i-len g c =
     record {
       carried =
-          refused g.R.BitRegister.BITS (indexed g.R.BitRegister.number g.O.Positions.position) c.args.memory.now
+          refused (read_by g.R.BitRegister g.O.Positions.position) c.args.memory.now
           c.args.span
           _ c.raw_parts-word.ensures.index c.requires.fits (grind (arith, nat_tests, c.then-i-len.either));
     }
@@ -49,7 +49,7 @@ returns g c =
     let other : memory_place b c.bit_at-other.result ≡ span_place b c.args.span + c.args.j = cc in
     record {
       carried =
-          carried_swap b (indexed g.R.BitRegister.number g.O.Positions.position) c.args.memory.now _ c.args.span
+          carried_swap (read_by g.R.BitRegister g.O.Positions.position) c.args.memory.now _ c.args.span
           c.args.i
           c.args.j _ _ c.raw_parts-word.ensures.index c.requires.fits (omega arith) (omega arith) place other
           c.swap_within.ensures.swapped;

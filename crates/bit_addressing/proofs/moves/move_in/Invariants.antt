@@ -8,9 +8,9 @@ use Rattle.bit_addressing.proofs.moves.move_in.Given as goal
 abbrev pub invariant-up : goal.invariant-up
 invariant-up g l =
     let b = g.R.BitRegister.BITS in
-    let digit = indexed g.R.BitRegister.number g.O.Positions.position in
+    let reading = read_by g.R.BitRegister g.O.Positions.position in
     record {
-      swept : Swept b digit (words_of l.fn.sweep) (words_of l.sweep) l.source l.target l.len l.first l.k;
+      swept : Swept reading (words_of l.fn.sweep) (words_of l.sweep) l.source l.target l.len l.first l.k;
       loan : lender l.sweep ≡ lender l.fn.sweep;
       way : way_of l.sweep ≡ way_of l.fn.sweep;
       edge : edge_of l.sweep ≤ l.k;
@@ -21,9 +21,9 @@ invariant-up g l =
 abbrev pub invariant-down : goal.invariant-down
 invariant-down g l =
     let b = g.R.BitRegister.BITS in
-    let digit = indexed g.R.BitRegister.number g.O.Positions.position in
+    let reading = read_by g.R.BitRegister g.O.Positions.position in
     record {
-      swept : Swept b digit (words_of l.fn.sweep) (words_of l.sweep) l.source l.target l.len l.k (l.last + 1);
+      swept : Swept reading (words_of l.fn.sweep) (words_of l.sweep) l.source l.target l.len l.k (l.last + 1);
       loan : lender l.sweep ≡ lender l.fn.sweep;
       way : way_of l.sweep ≡ way_of l.fn.sweep;
       edge : l.k ≤ edge_of l.sweep;

@@ -7,4 +7,4 @@ pub returns : goal.returns
 returns g c =
     let b = g.R.BitRegister.BITS in
     let some : 0 < b = omega (arith, g.met.R.BitRegister.least_bits) in
-    order_is_free b (indexed g.R.BitRegister.number g.O.Positions.position) some
+    order_is_free (read_by g.R.BitRegister g.O.Positions.position) some

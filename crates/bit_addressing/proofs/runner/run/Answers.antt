@@ -7,13 +7,13 @@ use Rattle.bit_addressing.proofs.runner.run.Goals as goal
 
 pub loop-k-init : goal.loop-k-init
 loop-k-init g c =
-    runs_none g.R.BitRegister.BITS (indexed g.R.BitRegister.number g.O.Positions.position) c.args.memory.now
+    runs_none (read_by g.R.BitRegister g.O.Positions.position) c.args.memory.now
     c.args.spans.now
 
 pub loop-k-preserved : goal.loop-k-preserved
 loop-k-preserved g c =
     let b = g.R.BitRegister.BITS in
-    let digit = indexed g.R.BitRegister.number g.O.Positions.position in
+    let reading = read_by g.R.BitRegister g.O.Positions.position in
     let spans = c.args.spans.now in
     let k : ℕ = c.loop-k.k in
     let some : 0 < b = omega (arith, g.met.R.BitRegister.least_bits) in
@@ -35,10 +35,10 @@ loop-k-preserved g c =
     rw (take_more c.args.commands.now k c.index-commands-k.result within, take_more_set c.loop-k.replies k reply place)
     (elim (cases_lt next.0 (length spans)) [
       | inl at ↦
-          runs_carried b digit c.args.memory.now c.loop-k.memory c.carry_out_at.new.memory spans commands replies next
+          runs_carried reading c.args.memory.now c.loop-k.memory c.carry_out_at.new.memory spans commands replies next
           reply some c.requires.disjoint same at (carried at) c.loop-k.invariant
       | inr past ↦
           rw (c.carry_out_at.ensures.same past)
-          (runs_refused b digit c.args.memory.now c.loop-k.memory spans commands replies next reply same past
+          (runs_refused reading c.args.memory.now c.loop-k.memory spans commands replies next reply same past
           (c.carry_out_at.ensures.refused past) c.loop-k.invariant)
     ])

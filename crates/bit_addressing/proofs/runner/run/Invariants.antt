@@ -6,5 +6,5 @@ use Rattle.bit_addressing.proofs.runner.run.Given as goal
 abbrev pub invariant-loop-k : goal.invariant-loop-k
 invariant-loop-k g l =
     let b = g.R.BitRegister.BITS in
-    let digit = indexed g.R.BitRegister.number g.O.Positions.position in
-    Runs b digit l.fn.memory l.memory l.spans (take l.k l.commands) (take l.k l.replies)
+    let reading = read_by g.R.BitRegister g.O.Positions.position in
+    Runs reading l.fn.memory l.memory l.spans (take l.k l.commands) (take l.k l.replies)

@@ -12,70 +12,70 @@ use Rattle.bit_addressing.proofs.SpanBits.{length-span_bits, span_bit}
 use Rattle.bit_addressing_samples.proofs.callers.set_and_read.Goals as goal
 
 -- the list after its first bit is set
-list_set : {R : Type 0} (b : ℕ) (digit : R → ℕ → Bool) (head : ℕ) (bits : List Bool) → 0 < length bits
-    → get_or (own_list b digit head (Replace 0 true ∷ []) bits) 0 false ≡ true
+list_set : {R : Type 0} (reading : Reading R) (head : ℕ) (bits : List Bool) → 0 < length bits
+    → get_or (own_list reading head (Replace 0 true ∷ []) bits) 0 false ≡ true
 unfolding own_list own_after
-list_set b digit head bits some = rw (lt-ltb 0 (length bits) some) (get_or-set_same bits 0 true false some)
+list_set reading head bits some = rw (lt-ltb 0 (length bits) some) (get_or-set_same bits 0 true false some)
 
-seen_bit : {R : Type 0} (b : ℕ) (digit : R → ℕ → Bool) (reply : SpanReply R) (bit : Bool)
-    → seen b digit reply ≡ Bit bit → reply ≡ Bit bit
-seen_bit b digit (Word word) bit is = cc
-seen_bit b digit (Bit other) bit is = cc
-seen_bit b digit Done bit is = cc
-seen_bit b digit Refused bit is = cc
+seen_bit : {R : Type 0} (reading : Reading R) (reply : SpanReply R) (bit : Bool)
+    → seen reading reply ≡ Bit bit → reply ≡ Bit bit
+seen_bit reading (Word word) bit is = cc
+seen_bit reading (Bit other) bit is = cc
+seen_bit reading Done bit is = cc
+seen_bit reading Refused bit is = cc
 
 -- the one reply of a list that is read
-list_read : {R : Type 0} (b : ℕ) (digit : R → ℕ → Bool) (head : ℕ) (bits : List Bool) (reply : SpanReply R)
-    → 0 < length bits → seen b digit reply ∷ [] ≡ own_answers b digit head (Read 0 ∷ []) bits
+list_read : {R : Type 0} (reading : Reading R) (head : ℕ) (bits : List Bool) (reply : SpanReply R)
+    → 0 < length bits → seen reading reply ∷ [] ≡ own_answers reading head (Read 0 ∷ []) bits
     → reply ≡ Bit (get_or bits 0 false)
 unfolding own_answers own_answer
-list_read b digit head bits reply some is =
+list_read reading head bits reply some is =
     let same = rw (lt-ltb 0 (length bits) some) at is in
-    seen_bit b digit reply (get_or bits 0 false) cc
+    seen_bit reading reply (get_or bits 0 false) cc
 
-second_reply : {R : Type 0} (b : ℕ) (digit : R → ℕ → Bool) (before after : List R) (spans : List Extent)
+second_reply : {R : Type 0} (reading : Reading R) (before after : List R) (spans : List Extent)
     (replies : List (SpanReply R)) → length replies ≡ 2 → length spans ≡ 2
-    → 0 < length (span_bits b digit before (span_at spans 1))
-    → Runs b digit before after spans ((0, Replace 0 true) ∷ (1, Read 0) ∷ []) replies
-    → get_or replies 1 Refused ≡ Bit (get_or (span_bits b digit before (span_at spans 1)) 0 false)
+    → 0 < length (span_bits reading before (span_at spans 1))
+    → Runs reading before after spans ((0, Replace 0 true) ∷ (1, Read 0) ∷ []) replies
+    → get_or replies 1 Refused ≡ Bit (get_or (span_bits reading before (span_at spans 1)) 0 false)
 unfolding commands_of replies_of
-second_reply b digit before after spans [] size two some runs = absurd (omega arith)
-second_reply b digit before after spans (one ∷ []) size two some runs = absurd (omega arith)
-second_reply b digit before after spans (one ∷ other ∷ rest) size two some runs =
-    list_read b digit (span_at spans 1).head (span_bits b digit before (span_at spans 1)) other some
+second_reply reading before after spans [] size two some runs = absurd (omega arith)
+second_reply reading before after spans (one ∷ []) size two some runs = absurd (omega arith)
+second_reply reading before after spans (one ∷ other ∷ rest) size two some runs =
+    list_read reading (span_at spans 1).head (span_bits reading before (span_at spans 1)) other some
     (runs.replied 1 (omega arith))
 
-first_bit : {R : Type 0} (b : ℕ) (digit : R → ℕ → Bool) (before after : List R) (spans : List Extent)
-    (replies : List (SpanReply R)) → length spans ≡ 2 → 0 < length (span_bits b digit before (span_at spans 0))
-    → Runs b digit before after spans ((0, Replace 0 true) ∷ (1, Read 0) ∷ []) replies
-    → get_or (span_bits b digit after (span_at spans 0)) 0 false ≡ true
+first_bit : {R : Type 0} (reading : Reading R) (before after : List R) (spans : List Extent)
+    (replies : List (SpanReply R)) → length spans ≡ 2 → 0 < length (span_bits reading before (span_at spans 0))
+    → Runs reading before after spans ((0, Replace 0 true) ∷ (1, Read 0) ∷ []) replies
+    → get_or (span_bits reading after (span_at spans 0)) 0 false ≡ true
 unfolding commands_of
-first_bit b digit before after spans replies two some runs =
+first_bit reading before after spans replies two some runs =
     ap (λ bits. get_or bits 0 false) (runs.lists 0 (omega arith))
-    ∙ list_set b digit (span_at spans 0).head (span_bits b digit before (span_at spans 0)) some
+    ∙ list_set reading (span_at spans 0).head (span_bits reading before (span_at spans 0)) some
 
 -- the first entry of a span is the first bit of its list
-first_entry : {R : Type 0} (b : ℕ) (digit : R → ℕ → Bool) (words : List R) (span : Extent) → 0 < b → 0 < span.len
-    → get_or (span_bits b digit words span) 0 false ≡ entry b digit words (span_place b span)
-first_entry b digit words span some bits =
-    let start : span_place b span + 0 ≡ span_place b span = omega arith in
-    span_bit b digit words span 0 some bits ∙ ap (entry b digit words) start
+first_entry : {R : Type 0} (reading : Reading R) (words : List R) (span : Extent) → 0 < reading.bits → 0 < span.len
+    → get_or (span_bits reading words span) 0 false ≡ entry reading words (span_place reading.bits span)
+first_entry reading words span some bits =
+    let start : span_place reading.bits span + 0 ≡ span_place reading.bits span = omega arith in
+    span_bit reading words span 0 some bits ∙ ap (entry reading words) start
 
 pub returns : goal.returns
 returns g c =
     let b = g.R.BitRegister.BITS in
-    let digit = indexed g.R.BitRegister.number g.O.Positions.position in
+    let reading = read_by g.R.BitRegister g.O.Positions.position in
     let before = c.args.memory.now in
     let after = c.run.new.memory in
     let spans = c.args.spans.now in
     let some : 0 < b = omega (arith, g.met.R.BitRegister.least_bits) in
     let fit = c.requires.fit in
-    let size = length-span_bits b digit before (span_at spans 0) c.requires.heads.0 (fit 0 (omega arith)) in
-    let other_size = length-span_bits b digit before (span_at spans 1) c.requires.heads.1 (fit 1 (omega arith)) in
+    let size = length-span_bits reading before (span_at spans 0) c.requires.heads.0 (fit 0 (omega arith)) in
+    let other_size = length-span_bits reading before (span_at spans 1) c.requires.heads.1 (fit 1 (omega arith)) in
     let runs = rw c.requires.commands at c.run.ensures.run in
     record {
-      set = sym (first_entry b digit after (span_at spans 0) some c.requires.bits.0)
-          ∙ first_bit b digit before after spans c.run.new.replies c.requires.two (omega arith) runs;
-      read = second_reply b digit before after spans c.run.new.replies (omega arith) c.requires.two (omega arith) runs
-          ∙ ap Bit (first_entry b digit before (span_at spans 1) some c.requires.bits.1);
+      set = sym (first_entry reading after (span_at spans 0) some c.requires.bits.0)
+          ∙ first_bit reading before after spans c.run.new.replies c.requires.two (omega arith) runs;
+      read = second_reply reading before after spans c.run.new.replies (omega arith) c.requires.two (omega arith) runs
+          ∙ ap Bit (first_entry reading before (span_at spans 1) some c.requires.bits.1);
     }

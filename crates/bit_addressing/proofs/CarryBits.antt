@@ -6,7 +6,7 @@ use Rattle.std.proofs.Common.{◌⊎◌, refl, sym, ap, ◌∙◌, inl, inr, ari
 use Rattle.std.proofs.lemmas.Bool.{cases_eq, cases_lt}
 use Rattle.std.proofs.lemmas.Bool.Decides.{nat_tests}
 use Rattle.std.proofs.lemmas.List.{length-set, get_or-set_same, get_or-set_other}
-use Rattle.bit_addressing_memory.specs.Memory.{Copies, Swaps, Writes, entry, piece, touched}
+use Rattle.bit_addressing_memory.specs.Memory.{Reading, entry, piece, touched, Writes, Copies, Swaps}
 use Rattle.bit_addressing_span.specs.Span.{Extent}
 use Rattle.bit_addressing_memory.proofs.MemoryLemmas.{get_or-piece, length-piece, length-with_piece}
 use Rattle.bit_addressing_memory.proofs.MemoryLemmas.{with_piece_below, with_piece_inside}

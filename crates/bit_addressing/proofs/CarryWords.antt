@@ -10,8 +10,8 @@ use Rattle.std.proofs.lemmas.List.{ext_get_or, get_or_past}
 use Rattle.std.proofs.lemmas.List.FromFn.{length-map-range_with_len, get_or-map-range_with_len}
 use Rattle.std.proofs.lemmas.Nat.{div-add-mod', mod_below}
 use Rattle.std.specs.List.{range_with_len}
-use Rattle.bit_addressing_memory.specs.Memory.{digits, entry, touched}
-use Rattle.bit_addressing_span.specs.Parts.{ReadsPart, StoresPart, part_count, part_from, part_place, part_upto}
+use Rattle.bit_addressing_memory.specs.Memory.{Reading, entry, digits, touched}
+use Rattle.bit_addressing_span.specs.Parts.{ReadsPart, Overwrites, part_count, part_from, part_place, part_upto}
 use Rattle.bit_addressing_span.specs.Span.{Extent}
 use Rattle.bit_addressing_span.proofs.PartsLemmas.{part_some, part_start}
 use Rattle.bit_addressing.specs.Own.{lies_in, own_digit, own_edit, own_reading, own_word, over_word}
@@ -113,7 +113,7 @@ over_word_out b head k now bits j h other =
 -- a bit of another word is not among those written
 stores_out : {R : Type 0} (reading : Reading R) (before after : List R) (span : Extent) (k j : ℕ)
     (stored : ℕ → Bool) → span.head < reading.bits → (span.head + j) / reading.bits ≢ k
-    → StoresPart reading before after (part_place reading.bits span k) (part_count reading.bits span k) stored
+    → Overwrites reading before after (part_place reading.bits span k) (part_count reading.bits span k) stored
     → entry reading after (span_place reading.bits span + j) ≡ entry reading before (span_place reading.bits span + j)
 stores_out reading before after span k j stored low other stores =
     let q : ℕ = (span.head + j) / reading.bits in
@@ -132,7 +132,7 @@ stores_out reading before after span k j stored low other stores =
 -- a bit of the word is
 stores_in : {R : Type 0} (reading : Reading R) (before after : List R) (span : Extent) (k j : ℕ)
     (stored : ℕ → Bool) (now : ℕ → Bool → Bool) → span.head < reading.bits → j < span.len → (span.head + j) / reading.bits ≡ k
-    → StoresPart reading before after (part_place reading.bits span k) (part_count reading.bits span k) stored
+    → Overwrites reading before after (part_place reading.bits span k) (part_count reading.bits span k) stored
     → ((i : ℕ) → i < part_count reading.bits span k
     → stored i ≡ now (part_from reading.bits span k + i) (entry reading before (part_place reading.bits span k + i)))
     → entry reading after (span_place reading.bits span + j)
@@ -155,7 +155,7 @@ stores_in reading before after span k j stored now low h is stores same =
 -- a place outside the span is not
 stores_others : {R : Type 0} (reading : Reading R) (before after : List R) (span : Extent) (k p : ℕ)
     (stored : ℕ → Bool) → span.head < reading.bits → k < touched reading.bits span.head span.len → IsOutside reading.bits span p
-    → StoresPart reading before after (part_place reading.bits span k) (part_count reading.bits span k) stored
+    → Overwrites reading before after (part_place reading.bits span k) (part_count reading.bits span k) stored
     → entry reading after p ≡ entry reading before p
 stores_others reading before after span k p stored low within out stores =
     let start : k * reading.bits < span.head + span.len = part_start reading.bits span.head span.len k within (omega arith) in
@@ -177,7 +177,7 @@ carried_word : {R : Type 0} (reading : Reading R) (before after : List R) (span 
     → own_reading reading.bits span.head command (span_bits reading before span)
     ≡ Word (own_word reading.bits span.head (span_bits reading before span) k)
     → ReadsPart reading before (span.word + k) word (part_from reading.bits span k) (part_upto reading.bits span k)
-    → StoresPart reading before after (part_place reading.bits span k) (part_count reading.bits span k) stored
+    → Overwrites reading before after (part_place reading.bits span k) (part_count reading.bits span k) stored
     → ((i : ℕ) → i < part_count reading.bits span k
     → stored i ≡ now (part_from reading.bits span k + i) (entry reading before (part_place reading.bits span k + i)))
     → CarriesOut reading before after span command (Word word)
@@ -212,7 +212,7 @@ pub carried_store : {R : Type 0} (reading : Reading R) (before after : List R) (
     (word was : R) → span.head < reading.bits → span.word + touched reading.bits span.head span.len ≤ length before
     → k < touched reading.bits span.head span.len
     → ReadsPart reading before (span.word + k) was (part_from reading.bits span k) (part_upto reading.bits span k)
-    → StoresPart reading before after (part_place reading.bits span k) (part_count reading.bits span k)
+    → Overwrites reading before after (part_place reading.bits span k) (part_count reading.bits span k)
     (λ i. reading.digit word (part_from reading.bits span k + i))
     → CarriesOut reading before after span (Store k word) (Word was)
 carried_store reading before after span k word was low fits within reads stores =
@@ -222,7 +222,7 @@ carried_store reading before after span k word was low fits within reads stores 
 pub carried_set : {R : Type 0} (reading : Reading R) (before after : List R) (span : Extent) (k : ℕ) (was : R)
     → span.head < reading.bits → span.word + touched reading.bits span.head span.len ≤ length before → k < touched reading.bits span.head span.len
     → ReadsPart reading before (span.word + k) was (part_from reading.bits span k) (part_upto reading.bits span k)
-    → StoresPart reading before after (part_place reading.bits span k) (part_count reading.bits span k) (λ _. true)
+    → Overwrites reading before after (part_place reading.bits span k) (part_count reading.bits span k) (λ _. true)
     → CarriesOut reading before after span (Set k) (Word was)
 carried_set reading before after span k was low fits within reads stores =
     carried_word reading before after span (Set k) k was (λ _. true) (λ _ _. true) low fits within
@@ -232,7 +232,7 @@ pub carried_clear : {R : Type 0} (reading : Reading R) (before after : List R) (
     (was : R)
     → span.head < reading.bits → span.word + touched reading.bits span.head span.len ≤ length before → k < touched reading.bits span.head span.len
     → ReadsPart reading before (span.word + k) was (part_from reading.bits span k) (part_upto reading.bits span k)
-    → StoresPart reading before after (part_place reading.bits span k) (part_count reading.bits span k) (λ _. false)
+    → Overwrites reading before after (part_place reading.bits span k) (part_count reading.bits span k) (λ _. false)
     → CarriesOut reading before after span (Clear k) (Word was)
 carried_clear reading before after span k was low fits within reads stores =
     carried_word reading before after span (Clear k) k was (λ _. false) (λ _ _. false) low fits within
@@ -242,7 +242,7 @@ pub carried_invert : {R : Type 0} (reading : Reading R) (before after : List R) 
     (was : R)
     → span.head < reading.bits → span.word + touched reading.bits span.head span.len ≤ length before → k < touched reading.bits span.head span.len
     → ReadsPart reading before (span.word + k) was (part_from reading.bits span k) (part_upto reading.bits span k)
-    → StoresPart reading before after (part_place reading.bits span k) (part_count reading.bits span k)
+    → Overwrites reading before after (part_place reading.bits span k) (part_count reading.bits span k)
     (λ i. not (entry reading before (part_place reading.bits span k + i)))
     → CarriesOut reading before after span (Invert k) (Word was)
 carried_invert reading before after span k was low fits within reads stores =

@@ -7,7 +7,7 @@ use Rattle.std.proofs.Common.{List, [], ◌∷◌, ◌++◌, length, get_or, ref
 use Rattle.std.proofs.lemmas.Bool.{cases_eq, cases_lt, cases_Bool, eq-eqb, ne_eqb}
 use Rattle.std.proofs.lemmas.List.{ext_get_or, length-take, length-drop, map_push}
 use Rattle.std.proofs.lemmas.List.Elements.{All-push, All-nil}
-use Rattle.bit_addressing_memory.specs.Memory.{entry, memory, piece}
+use Rattle.bit_addressing_memory.specs.Memory.{Reading, entry, memory, piece}
 use Rattle.bit_addressing_span.specs.Span.{Extent}
 use Rattle.bit_addressing_memory.proofs.MemoryLemmas.{entry_memory, get_or-piece, length-memory, same_memory}
 use Rattle.bit_addressing.specs.declared.command.SpanCommand.{SpanCommand}

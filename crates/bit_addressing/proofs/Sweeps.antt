@@ -7,7 +7,7 @@ use Rattle.std.proofs.lemmas.Bool.{cases_lt}
 use Rattle.std.proofs.lemmas.List.{length-set}
 use Rattle.std.proofs.Math.Nat.{mul-le-mul_right}
 use Rattle.std.proofs.lemmas.Nat.{div-mul-add, mod-mul-add, div-add-mod', div_below, mod_below, le-div}
-use Rattle.bit_addressing_memory.specs.Memory.{entry}
+use Rattle.bit_addressing_memory.specs.Memory.{Reading, entry}
 use Rattle.bit_addressing_memory.proofs.EntryLemmas.{entry-set_same, entry-set_other}
 use Rattle.bit_addressing.specs.Moves.{Moves}
 use Rattle.bit_addressing.specs.MoveSteps.{moved_bit, IsGathered, Swept}

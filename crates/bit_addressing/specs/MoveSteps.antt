@@ -1,6 +1,6 @@
 -- The steps of a move, word by word and bit by bit. No public clause cites this module.
 use Rattle.std.specs.Prelude.{ℕ, ◌+◌, ◌-◌, ◌*◌, ◌<◌, ◌≤◌, ◌≡◌, Bool, List, length, if◌then◌else◌, ◌&&◌, nat_le, nat_lt}
-use Rattle.bit_addressing_memory.specs.Memory.{entry}
+use Rattle.bit_addressing_memory.specs.Memory.{Reading, entry}
 
 -- what a move of len bits from source to target leaves at place p: the source's bit inside the target, else its own
 unfoldable pub moved_bit : {R : Type 0} → Reading R → List R → ℕ → ℕ → ℕ → ℕ → Bool

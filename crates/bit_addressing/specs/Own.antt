@@ -6,7 +6,7 @@
 use Rattle.std.specs.Prelude.{ℕ, ◌+◌, ◌-◌, ◌*◌, ◌/◌, ◌%◌, ◌==◌, ◌&&◌, Bool, true, false, not, List, [], ◌∷◌}
 use Rattle.std.specs.Prelude.{length, map, if◌then◌else◌, nat_le, nat_lt, slice_index_or, slice_set}
 use Rattle.std.specs.List.{range_with_len}
-use Rattle.bit_addressing_memory.specs.Memory.{digits, piece, touched, with_piece}
+use Rattle.bit_addressing_memory.specs.Memory.{Reading, digits, piece, with_piece, touched}
 use Rattle.bit_addressing.specs.declared.command.SpanCommand.{SpanCommand}
 use Rattle.bit_addressing.specs.declared.command.SpanCommand.TheVariants.{Load, Store, Set, Clear, Invert}
 use Rattle.bit_addressing.specs.declared.command.SpanCommand.TheVariants.{Read, Replace, Swap, Copy}

@@ -4,7 +4,7 @@
 -- One command: `CarriesOut`. Its commands and replies: `commands_of`, `replies_of`. A whole run: `Runs`.
 use Rattle.std.specs.Prelude.{ℕ, ◌+◌, ◌*◌, ◌<◌, ◌≤◌, ◌==◌, ◌≡◌, Bool, List, [], ◌∷◌, length, map}
 use Rattle.std.specs.Prelude.{if◌then◌else◌, slice_index_or, All}
-use Rattle.bit_addressing_memory.specs.Memory.{entry, memory, piece, touched}
+use Rattle.bit_addressing_memory.specs.Memory.{Reading, entry, memory, piece, touched}
 use Rattle.bit_addressing_span.specs.Span.{Extent, extent}
 use Rattle.bit_addressing.specs.declared.command.SpanCommand.{SpanCommand}
 use Rattle.bit_addressing.specs.declared.command.SpanReply.{SpanReply}

@@ -3,7 +3,7 @@
 //! Each command has a function of its own, which tests the command's numbers before it touches a bit.
 
 ghost use Rattle.std.specs.Prelude.{◌≡◌, ◌+◌, ◌*◌, ◌^◌, ◌<◌, ◌≤◌, length, pos, ◌≤ℤ◌};
-ghost use Rattle.bit_addressing_memory.specs.Memory.{indexed, touched};
+ghost use Rattle.bit_addressing_memory.specs.Memory.{read_by, touched};
 ghost use Rattle.bit_addressing_memory.specs.Pointer.{memory_place};
 ghost use Rattle.bit_addressing.specs.Runs.{CarriesOut};
 

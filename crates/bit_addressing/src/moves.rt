@@ -1,7 +1,7 @@
 //! Bits that move inside one memory: each word of the target is gathered and then written once.
 
 ghost use Rattle.std.specs.Prelude.{◌≡◌, ◌+◌, ◌*◌, ◌^◌, ◌<◌, ◌≤◌, length};
-ghost use Rattle.bit_addressing_memory.specs.Memory.{entry, indexed, touched};
+ghost use Rattle.bit_addressing_memory.specs.Memory.{read_by, entry, touched};
 ghost use Rattle.bit_addressing.specs.Moves.{Moves, changed};
 ghost use Rattle.bit_addressing.specs.MoveSteps.{IsGathered};
 ghost use Rattle.bit_addressing.specs.Sweep.{IsFresh, SameButReads, lender, way_of, words_of, writes_of};

@@ -1,7 +1,7 @@
 //! Commands at disjoint spans of one memory.
 
 ghost use Rattle.std.specs.Prelude.{◌≡◌, ℕ, ◌+◌, ◌<◌, ◌≤◌, ◌↔◌, IsTrue, length};
-ghost use Rattle.bit_addressing_memory.specs.Memory.{indexed};
+ghost use Rattle.bit_addressing_memory.specs.Memory.{read_by};
 ghost use Rattle.bit_addressing.specs.Runs.{AllFit, AreDisjoint, IsInside, IsOutside, span_at, span_place};
 ghost use Rattle.bit_addressing.specs.Runs.{CarriesOut, OrderOfSpansIsFree, Runs};
 

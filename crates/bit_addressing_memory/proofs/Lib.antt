@@ -4,3 +4,4 @@ pub mod MemoryLemmas
 pub mod OverwriteLemmas
 pub mod PlaceLemmas
 pub mod PointerLemmas
+pub mod WindowLemmas

@@ -4,7 +4,7 @@ ghost use Rattle.std.specs.Prelude.{◌≡◌, ℕ, ◌+◌, ◌<◌, ◌≤◌,
 ghost use Rattle.bit_addressing_memory.specs.Memory.{entry, indexed, touched};
 ghost use Rattle.bit_addressing_span.specs.Partial.{IsMasked};
 ghost use Rattle.bit_addressing_span.specs.Parts.{part_from, part_place, part_count};
-ghost use Rattle.bit_addressing_span.specs.Written.{written_word, written_head, written_tail};
+ghost use Rattle.bit_addressing_span.specs.PartialElementMut.{part_words, part_head, part_tail};
 
 use bit_addressing::{BitOrder, BitRegister, BitSpan, PartialElementMut};
 
@@ -15,7 +15,7 @@ pub fn store_and_load<'a, R: BitRegister, O: BitOrder<R>>(
     value: R,
 ) -> R
     ensures { IsMasked (read_by R.BitRegister O.position) value result
-        (written_head part.old) (written_tail part.old) }
+        (part_head part.old) (part_tail part.old) }
 {
     part.store_value(value);
     part.load_value()
@@ -27,8 +27,8 @@ pub fn store_and_restore<'a, R: BitRegister, O: BitOrder<R>>(
     part: &mut PartialElementMut<'a, R, O>,
     value: R,
 )
-    ensures { (i : ℕ) → i < R.BITS → indexed R.number O.position (written_word part.new) i
-        ≡ indexed R.number O.position (written_word part.old) i }
+    ensures { (i : ℕ) → i < R.BITS → indexed R.number O.position (part_words part.new) i
+        ≡ indexed R.number O.position (part_words part.old) i }
 {
     let was = part.store_value(value);
     part.store_value(was);

@@ -1,13 +1,13 @@
 -- A memory cut at the borders of its words: the bits of the parts, joined, are a piece of it.
 --
 -- `part_bits`: a part of one word. `bits_at_edge`, `bits_inside`: whole words with the parts round them.
--- `last_within`, `last_below`: where the last word is. `span_bits`: from a word of a memory on.
+-- `last_within`, `last_below`: where the last word is. `bits_from_word`: from a word of a memory on.
 use Rattle.std.proofs.Common.{◌≡◌, ℕ, zero, suc, ◌+◌, ◌-◌, ◌*◌, ◌/◌, ◌%◌, ◌<◌, ◌≤◌, Bool, List, [], ◌++◌}
 use Rattle.std.proofs.Common.{length, take, drop, refl, sym, ap, ◌∙◌, arith}
 use Rattle.std.proofs.lemmas.List.{drop-drop}
 use Rattle.std.proofs.lemmas.Nat.{div-add-mod', div_below}
 use Rattle.std.proofs.Math.Nat.{mul-le-mul_right}
-use Rattle.bit_addressing_memory.specs.Memory.{memory, piece, touched}
+use Rattle.bit_addressing_memory.specs.Memory.{Reading, memory, piece, touched}
 use Rattle.bit_addressing_span.proofs.SpanLemmas.{touched-within}
 use Rattle.bit_addressing_memory.proofs.MemoryLemmas.{memory_part, memory-drop, piece_none, piece_join, piece_piece}
 
@@ -90,11 +90,11 @@ pub span_within : (b word head len n k : ℕ) → head < b → 0 < len → word 
 span_within b word head len n k low some fits is = touched-within b head len k low some (omega arith)
 
 -- the bits from a word of a memory on
-pub span_bits : {R : Type 0} (reading : Reading R) (words : List R) (word head len : ℕ) (xs : List Bool)
+pub bits_from_word : {R : Type 0} (reading : Reading R) (words : List R) (word head len : ℕ) (xs : List Bool)
     → word ≤ length words → xs ≡ piece (memory reading (drop word words)) head len
     → xs ≡ piece (memory reading words) (word * reading.bits + head) len
 unfolding piece
-span_bits reading words word head len xs within is =
+bits_from_word reading words word head len xs within is =
     is
     ∙ ap (λ m. take len (drop head m)) (memory-drop reading words word within)
     ∙ ap (take len) (drop-drop head (word * reading.bits) (memory reading words))

@@ -6,7 +6,7 @@ use Rattle.std.proofs.lemmas.Nat.Bits.{bit_at_and, bit_at_or, bit_at-lt, bit_at-
 use Rattle.std.specs.Int.{bit_at}
 use Rattle.bit_addressing_order.specs.Digits.{bit_at-complement}
 use Rattle.bit_addressing_order.specs.Law.{IsLawful}
-use Rattle.bit_addressing_memory.specs.Memory.{indexed}
+use Rattle.bit_addressing_memory.specs.Memory.{Reading, indexed, reading_in}
 use Rattle.bit_addressing_span.specs.Partial.{part_mask, IsMasked, IsStored}
 use Rattle.bit_addressing_span.proofs.PartialLemmas.{part_inside, part_outside}
 
@@ -80,51 +80,3 @@ digit_flipped b number at w z i e fits small =
     either zero h = refl
     either (suc zero) h = refl
     either (suc (suc d)) h = absurd (omega arith)
-
--- a word without digits stored in a part
-pub stored_none : {R : Type 0} (reading : Reading R) (word value result : R) (from upto : ℕ)
-    → IsStored reading word result from upto (reading.digit value) → ((i : ℕ) → i < reading.bits → reading.digit value i ≡ false)
-    → IsStored reading word result from upto (λ _. false)
-stored_none reading word value result from upto is none =
-    stored_as reading word result from upto (reading.digit value) (λ _. false) is none
-
--- a word with each digit stored in a part
-pub stored_each : {R : Type 0} (reading : Reading R) (word value result : R) (from upto : ℕ)
-    → IsStored reading word result from upto (reading.digit value) → ((i : ℕ) → i < reading.bits → reading.digit value i ≡ true)
-    → IsStored reading word result from upto (λ _. true)
-stored_each reading word value result from upto is each =
-    stored_as reading word result from upto (reading.digit value) (λ _. true) is each
-
--- a word flipped and stored in a part of itself
-pub stored_flipped : {R : Type 0} (reading : Reading R) (word value result : R) (from upto : ℕ)
-    → IsStored reading word result from upto (reading.digit value) → ((i : ℕ) → i < reading.bits → reading.digit value i ≡ not (reading.digit word i))
-    → IsStored reading word result from upto (λ i. not (reading.digit word i))
-stored_flipped reading word value result from upto is turned =
-    stored_as reading word result from upto (reading.digit value) (λ i. not (reading.digit word i)) is turned
-
--- a value stored, and the word then masked, is the value masked
-pub stored_then_masked : {R : Type 0} (reading : Reading R) (word value after result : R)
-    (from upto from' upto' : ℕ)
-    → from' ≡ from → upto' ≡ upto
-    → IsStored reading word after from upto (reading.digit value) → IsMasked reading after result from' upto'
-    → IsMasked reading value result from upto
-stored_then_masked reading word value after result from upto from' upto' same_head same_tail stored masked = record {
-  inside = λ i low high small.
-      masked.inside i (omega arith) (omega arith) small ∙ stored.inside i low high small;
-  below = λ i low small. masked.below i (omega arith) small;
-  above = λ i high small. masked.above i (omega arith) small;
-}
-
--- what was masked, stored again, restores the word
-pub stored_back : {R : Type 0} (reading : Reading R) (word was between after : R) (from upto from' upto' : ℕ)
-    (now : ℕ → Bool) → from' ≡ from → upto' ≡ upto → IsMasked reading word was from upto
-    → IsStored reading word between from upto now → IsStored reading between after from' upto' (reading.digit was)
-    → (i : ℕ) → i < reading.bits → reading.digit after i ≡ reading.digit word i
-stored_back reading word was between after from upto from' upto' now same_head same_tail masked first again i small =
-    elim (cases_lt i from) [
-      | inl low ↦ again.below i (omega arith) small ∙ first.below i low small
-      | inr begun ↦ elim (cases_lt i upto) [
-        | inl inside ↦ again.inside i (omega arith) (omega arith) small ∙ masked.inside i begun inside small
-        | inr past ↦ again.above i (omega arith) small ∙ first.above i past small
-      ]
-    ]

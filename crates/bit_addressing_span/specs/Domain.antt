@@ -1,8 +1,8 @@
 -- What a domain shows: its bits and its masked words, in order, and how it is cut.
 use Rattle.std.specs.Prelude.{ℕ, ◌+◌, ◌*◌, ◌<◌, ◌≡◌, Bool, List, [], ◌++◌, Option, Some, None, IfSome, map}
 use Rattle.std.specs.Borrow.{Bor}
-use Rattle.bit_addressing_memory.specs.Memory.{memory, piece}
-use Rattle.bit_addressing_span.specs.Span.{Extent}
+use Rattle.bit_addressing_memory.specs.Memory.{Reading, memory}
+use Rattle.bit_addressing_span.specs.Span.{Extent, span_bits}
 use Rattle.bit_addressing_span.specs.Shown.{partial_bits, partial_numbers, partial_head, partial_tail}
 use Rattle.bit_addressing_span.specs.declared.partial.PartialElement.{PartialElement}
 use Rattle.bit_addressing_span.specs.declared.domain.Domain.{Domain}
@@ -77,6 +77,6 @@ domain_region (Region head body tail) = Some (head, body, tail)
 pub record IsCutOf {R O : Type 0} {g : _} (reading : Reading R) (words : List R) (span : Extent)
     (d : Domain R O g)
     : Type 0 where
-  pub bits : domain_bits reading d ≡ piece (memory reading words) (span.word * reading.bits + span.head) span.len
+  pub bits : domain_bits reading d ≡ span_bits reading words span
   pub start : 0 < span.len → domain_start d ≡ span.head
   pub cut : IsCut reading.bits d

@@ -5,6 +5,6 @@ pub mod Shown
 pub mod Span
 pub mod Texts
 pub mod Words
-pub mod Written
-pub mod Lent
+pub mod PartialElementMut
+pub mod DomainMut
 pub mod Parts

@@ -2,6 +2,7 @@
 --
 -- The mask of a part: `part_mask`. A word masked: `IsMasked`. A word written in a part: `IsStored`.
 use Rattle.std.specs.Prelude.{ℕ, ◌<◌, ◌≤◌, ◌≡◌, Bool, false, Option, Some}
+use Rattle.bit_addressing_memory.specs.Memory.{Reading}
 
 -- the mask of the indices from one up to before another
 abbrev pub part_mask : (Option ℕ → Option ℕ → ℕ) → ℕ → ℕ → ℕ

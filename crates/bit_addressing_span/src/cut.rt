@@ -2,9 +2,10 @@
 
 ghost use Rattle.std.specs.Prelude.{◌≡◌, ℕ, ◌+◌, ◌-◌, ◌*◌, ◌/◌, ◌%◌, ◌^◌, ◌<◌, ◌≤◌, ◌↔◌};
 ghost use Rattle.std.specs.Prelude.{length, take, drop, min, IfSome};
-ghost use Rattle.bit_addressing_memory.specs.Memory.{memory, piece, indexed, touched};
+ghost use Rattle.bit_addressing_memory.specs.Memory.{read_by, memory, piece, touched};
 ghost use Rattle.bit_addressing_span.specs.Domain.{IsCut, IsEnclave, IsTail, domain_start, domain_bits};
 ghost use Rattle.bit_addressing_span.specs.Domain.{domain_numbers, option_bits, option_numbers};
+ghost use Rattle.bit_addressing_span.specs.Span.{span_bits, FitsIn, LiesInside};
 ghost use Rattle.bit_addressing_span.specs.Shown.{partial_head, partial_tail, partial_bits, partial_numbers};
 
 use crate::domain::Domain;
@@ -16,11 +17,11 @@ impl<R: BitRegister, O: BitOrder<R>> BitSpan<R, O> {
     /// The span's bits in these words, cut at the borders of words: each bit once, in order, and no
     /// other. The span fits.
     pub fn domain<'a>(self, words: &'a [R]) -> Domain<'a, R, O>
-        requires { self.word + touched R.BITS self.head self.len ≤ length words.now }
+        requires { FitsIn R.BITS self (length words.now) }
         ensures bits { domain_bits (read_by R.BitRegister O.position) result
-            ≡ piece (memory (read_by R.BitRegister O.position) words.now) (self.word * R.BITS + self.head) self.len }
+            ≡ span_bits (read_by R.BitRegister O.position) words.now self }
         ensures start { 0 < self.len → domain_start result ≡ self.head }
-        ensures enclave { IsEnclave result ↔ (0 < self.len) × (0 < self.head) × (self.head + self.len < R.BITS) }
+        ensures enclave { IsEnclave result ↔ LiesInside R.BITS self }
         ensures cut { IsCut R.BITS result }
         ensures words { length (domain_numbers R.number O.masked result) ≡ touched R.BITS self.head self.len }
     {
@@ -30,7 +31,7 @@ impl<R: BitRegister, O: BitOrder<R>> BitSpan<R, O> {
 }
 
 // Some bits of a memory from an index of a word on, cut at the borders of words.
-#[tactic(auto, using(crate::proofs::CutLemmas::span_bits))]
+#[tactic(auto, using(crate::proofs::CutLemmas::bits_from_word))]
 pub(crate) fn cut_from<'a, R: BitRegister, O: BitOrder<R>>(
     words: &'a [R],
     word: usize,

@@ -5,8 +5,8 @@ ghost use Rattle.std.specs.Prelude.{◌≡◌, ℕ, List, ◌^◌, ◌<◌, ◌�
 ghost use Rattle.std.specs.Fmt.{WritesOnOk, HasWritten, IsPlainFormatter, digits};
 ghost use Rattle.bit_addressing_span.specs.Domain.{domain_numbers, option_numbers};
 ghost use Rattle.bit_addressing_span.specs.Form.{form_text};
-ghost use Rattle.bit_addressing_span.specs.Lent.{IsTextOf};
-ghost use Rattle.bit_addressing_memory.specs.Memory.{indexed};
+ghost use Rattle.bit_addressing_span.specs.DomainMut.{IsTextOf};
+ghost use Rattle.bit_addressing_memory.specs.Memory.{read_by};
 ghost use Rattle.bit_addressing_span.specs.Texts.{between, joined_text, numbers_text, begun_after};
 
 use crate::domain::Domain;

@@ -1,10 +1,10 @@
 //! A part of one word, read.
 
 ghost use Rattle.std.specs.Prelude.{◌≡◌, ◌∷◌, [], ◌-◌, ◌<◌, ◌≤◌, length};
-ghost use Rattle.bit_addressing_memory.specs.Memory.{indexed};
+ghost use Rattle.bit_addressing_memory.specs.Memory.{read_by};
 ghost use Rattle.bit_addressing_span.specs.Partial.{part_mask, IsMasked};
 
-use crate::stored::masked;
+use crate::masking::masked;
 use bit_addressing_order::{BitEnd, BitIdx, BitMask, BitOrder, BitRegister};
 use std::alloc::AllocError;
 use std::marker::PhantomData;

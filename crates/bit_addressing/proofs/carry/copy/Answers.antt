@@ -1,5 +1,5 @@
 use Rattle.std.proofs.Common.{arith, ◌≡◌, ◌+◌, inl, inr, refl}
-use Rattle.bit_addressing_memory.specs.Memory.{indexed}
+use Rattle.bit_addressing_memory.specs.Memory.{read_by}
 use Rattle.bit_addressing_memory.specs.Pointer.{memory_place}
 use Rattle.bit_addressing.specs.Runs.{span_place}
 use Rattle.bit_addressing.proofs.CarryBits.{carried_copy, copies_none, copy_out}

@@ -1,7 +1,7 @@
 use Rattle.std.proofs.Common.{arith, rules}
 use Rattle.std.proofs.lemmas.Bool.Decides.{nat_tests}
-use Rattle.bit_addressing_span.specs.Lent.{lent_span, lent_words}
-use Rattle.bit_addressing_memory.specs.Memory.{indexed}
+use Rattle.bit_addressing_span.specs.DomainMut.{domain_span, domain_words}
+use Rattle.bit_addressing_memory.specs.Memory.{read_by}
 use Rattle.bit_addressing.proofs.CarryWords.{carried_load}
 use Rattle.bit_addressing.proofs.SpanBits.{carried_as, refused}
 use Rattle.bit_addressing.proofs.carry.load.Goals as goal
@@ -12,8 +12,8 @@ returns-then-k-len g c =
     let lent = c.domain_mut-words.ensures in
     record {
       carried =
-          carried_as (read_by g.R.BitRegister g.O.Positions.position) (lent_words d) _
-          (lent_words d) _ (lent_span d) _ _ _ lent.words (search rules) lent.span
+          carried_as (read_by g.R.BitRegister g.O.Positions.position) (domain_words d) _
+          (domain_words d) _ (domain_span d) _ _ _ lent.words (search rules) lent.span
           (refused _ _ _ _ _ d.index d.fits (grind (arith, nat_tests, c.len.ensures)));
     }
 
@@ -23,7 +23,7 @@ returns g c =
     let lent = c.domain_mut-words.ensures in
     record {
       carried =
-          carried_as (read_by g.R.BitRegister g.O.Positions.position) (lent_words d) _
-          (lent_words d) _ (lent_span d) _ _ _ lent.words (search rules) lent.span
+          carried_as (read_by g.R.BitRegister g.O.Positions.position) (domain_words d) _
+          (domain_words d) _ (domain_span d) _ _ _ lent.words (search rules) lent.span
           (carried_load _ _ _ _ c.args.k _ d.index d.fits (omega (arith, c.len.ensures)) c.load_value.ensures);
     }

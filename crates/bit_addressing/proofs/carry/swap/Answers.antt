@@ -1,6 +1,6 @@
 use Rattle.std.proofs.Common.{arith, ◌≡◌, ◌+◌}
 use Rattle.std.proofs.lemmas.Bool.Decides.{nat_tests}
-use Rattle.bit_addressing_memory.specs.Memory.{indexed}
+use Rattle.bit_addressing_memory.specs.Memory.{read_by}
 use Rattle.bit_addressing_memory.specs.Pointer.{memory_place}
 use Rattle.bit_addressing.specs.Runs.{span_place}
 use Rattle.bit_addressing.proofs.CarryBits.{carried_swap}

@@ -1,6 +1,6 @@
 use Rattle.std.proofs.Common.{arith, ◌*◌, ◌-◌, ◌+◌, ◌≡◌, ◌≤◌, min}
 use Rattle.std.proofs.lemmas.Grind.{common_steps}
-use Rattle.bit_addressing_memory.specs.Memory.{indexed}
+use Rattle.bit_addressing_memory.specs.Memory.{read_by}
 use Rattle.bit_addressing_memory.proofs.EntryLemmas.{entry_read}
 use Rattle.bit_addressing.specs.MoveSteps.{IsOwnFrom}
 use Rattle.bit_addressing.proofs.Gathers.{gather_first, gather_next, gather_rest, own_next}

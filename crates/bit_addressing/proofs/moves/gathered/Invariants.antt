@@ -1,5 +1,5 @@
 use Rattle.std.proofs.Common.{◌≡◌}
-use Rattle.bit_addressing_memory.specs.Memory.{indexed}
+use Rattle.bit_addressing_memory.specs.Memory.{read_by}
 use Rattle.bit_addressing.specs.MoveSteps.{IsGathered, IsOwnFrom}
 use Rattle.bit_addressing.specs.Sweep.{SameButReads, lender, words_of}
 use Rattle.bit_addressing.proofs.moves.gathered.Given as goal

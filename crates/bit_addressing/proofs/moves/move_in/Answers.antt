@@ -1,6 +1,6 @@
 use Rattle.std.proofs.Common.{arith, rules, refl, ◌≡◌, ◌+◌, ◌-◌, ◌/◌, ◌<◌, ◌≤◌, set, length}
 use Rattle.std.proofs.lemmas.Grind.{common_steps}
-use Rattle.bit_addressing_memory.specs.Memory.{indexed}
+use Rattle.bit_addressing_memory.specs.Memory.{read_by}
 use Rattle.bit_addressing.proofs.Changes.{changed-set}
 use Rattle.bit_addressing.proofs.Sweeps.{swept_up, swept_down, moved_all, first_le_last}
 use Rattle.bit_addressing.proofs.WayLemmas.{way_up, way_down}

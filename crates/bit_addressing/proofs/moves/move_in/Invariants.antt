@@ -1,5 +1,5 @@
 use Rattle.std.proofs.Common.{◌≡◌, ◌+◌, ◌≤◌}
-use Rattle.bit_addressing_memory.specs.Memory.{indexed}
+use Rattle.bit_addressing_memory.specs.Memory.{read_by}
 use Rattle.bit_addressing.specs.Moves.{changed}
 use Rattle.bit_addressing.specs.MoveSteps.{Swept}
 use Rattle.bit_addressing.specs.Sweep.{edge_of, lender, way_of, words_of, writes_of}

@@ -1,5 +1,5 @@
 use Rattle.std.proofs.Common.{◌<◌, arith}
-use Rattle.bit_addressing_memory.specs.Memory.{indexed}
+use Rattle.bit_addressing_memory.specs.Memory.{read_by}
 use Rattle.bit_addressing.proofs.RunLemmas.{order_is_free}
 use Rattle.bit_addressing.proofs.runner.order_of_spans_is_free.Goals as goal
 

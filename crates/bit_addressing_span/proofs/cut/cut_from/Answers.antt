@@ -1,6 +1,6 @@
 use Rattle.std.proofs.Common.{arith, ℕ, ◌-◌, ◌<◌, ◌*◌, ◌+◌, ◌∙◌, ap, ◌≡◌, length, length-drop}
-use Rattle.bit_addressing_memory.specs.Memory.{indexed, memory}
-use Rattle.bit_addressing_span.proofs.CutLemmas.{span_bits, no_bits, span_within}
+use Rattle.bit_addressing_memory.specs.Memory.{read_by, memory}
+use Rattle.bit_addressing_span.proofs.CutLemmas.{bits_from_word, no_bits, span_within}
 use Rattle.bit_addressing_span.proofs.cut.cut_from.Goals as goal
 
 pub returns-then-len-eq0-clause-bits : goal.returns-then-len-eq0-clause-bits
@@ -22,5 +22,5 @@ cut_words-requires-clause-within g c =
 pub returns-clause-bits : goal.returns-clause-bits
 returns-clause-bits g c =
     let reading = read_by g.R.BitRegister g.O.Positions.position in
-    span_bits reading c.args.words.now c.args.word c.args.head c.args.len _
+    bits_from_word reading c.args.words.now c.args.word c.args.head c.args.len _
     (omega (arith, c.requires.fits)) (rw c.words_from-rest.ensures at c.cut_words.ensures.bits)

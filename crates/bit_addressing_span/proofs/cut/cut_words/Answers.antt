@@ -1,6 +1,6 @@
 use Rattle.std.proofs.Common.{◌≡◌, ℕ, ◌+◌, ◌*◌, ◌/◌, ◌%◌, length, refl, ap, ◌∙◌, arith, length-append}
 use Rattle.std.proofs.lemmas.List.{length-map}
-use Rattle.bit_addressing_memory.specs.Memory.{indexed, touched}
+use Rattle.bit_addressing_memory.specs.Memory.{read_by, touched}
 use Rattle.bit_addressing_span.proofs.CutLemmas.{bits_at_edge, bits_inside, last_within, last_below}
 use Rattle.bit_addressing_span.proofs.CutLemmas.{last_place, placed, some_words}
 use Rattle.bit_addressing_span.proofs.SpanLemmas.{touched-whole}

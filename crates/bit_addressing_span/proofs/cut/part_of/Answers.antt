@@ -1,5 +1,5 @@
 use Rattle.std.proofs.Common.{arith}
-use Rattle.bit_addressing_memory.specs.Memory.{indexed}
+use Rattle.bit_addressing_memory.specs.Memory.{read_by}
 use Rattle.bit_addressing_span.proofs.CutLemmas.{part_bits}
 use Rattle.bit_addressing_span.proofs.cut.part_of.Goals as goal
 

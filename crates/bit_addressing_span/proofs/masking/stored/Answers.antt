@@ -1,6 +1,6 @@
 use Rattle.std.proofs.Common.{ap, ◌∙◌}
 use Rattle.bit_addressing_span.proofs.StoredLemmas.{stored_digits}
-use Rattle.bit_addressing_span.proofs.stored.stored.Goals as goal
+use Rattle.bit_addressing_span.proofs.masking.stored.Goals as goal
 
 pub returns : goal.returns
 returns g c =

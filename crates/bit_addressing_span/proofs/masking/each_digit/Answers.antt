@@ -1,6 +1,6 @@
 use Rattle.std.proofs.Common.{ap, ◌∙◌}
 use Rattle.bit_addressing_span.proofs.StoredLemmas.{digit_each}
-use Rattle.bit_addressing_span.proofs.stored.each_digit.Goals as goal
+use Rattle.bit_addressing_span.proofs.masking.each_digit.Goals as goal
 
 pub returns : goal.returns
 returns g c i small = digit_each g.R.BitRegister.BITS g.R.BitRegister.number g.O.Positions.position _ i

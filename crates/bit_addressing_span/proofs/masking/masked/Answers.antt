@@ -1,6 +1,6 @@
 use Rattle.std.proofs.Common.{bit_and, ap, ◌∙◌}
 use Rattle.bit_addressing_span.proofs.PartialLemmas.{masked_digits}
-use Rattle.bit_addressing_span.proofs.stored.masked.Goals as goal
+use Rattle.bit_addressing_span.proofs.masking.masked.Goals as goal
 
 pub returns-clause-digits : goal.returns-clause-digits
 returns-clause-digits g c =

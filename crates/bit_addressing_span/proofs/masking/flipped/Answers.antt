@@ -1,5 +1,5 @@
 use Rattle.bit_addressing_span.proofs.StoredLemmas.{digit_flipped}
-use Rattle.bit_addressing_span.proofs.stored.flipped.Goals as goal
+use Rattle.bit_addressing_span.proofs.masking.flipped.Goals as goal
 
 pub returns : goal.returns
 returns g c i small = digit_flipped g.R.BitRegister.BITS g.R.BitRegister.number g.O.Positions.position _ _ i

@@ -8,7 +8,7 @@ use Rattle.std.proofs.lemmas.Bool.{cases_lt}
 use Rattle.std.proofs.lemmas.Bool.Decides.{nat_tests}
 use Rattle.bit_addressing_order.specs.Bits.{with_digit}
 use Rattle.bit_addressing_order.specs.Law.{IsLawful}
-use Rattle.bit_addressing_memory.specs.Memory.{Reading, indexed, reading_in, entry}
+use Rattle.bit_addressing_memory.specs.Memory.{Reading, reading_in, entry}
 use Rattle.bit_addressing_memory.proofs.EntryLemmas.{indexed_same, indexed_other}
 use Rattle.bit_addressing.specs.MoveSteps.{moved_bit, IsGathered, IsOwnFrom}
 
@@ -45,12 +45,12 @@ pub gather_next : {R : Type 0} (b : ℕ) (number : R → ℕ) (at select : ℕ �
     → IsGathered (reading_in b number at) before k source target len word n
     → IsGathered (reading_in b number at) before k source target len next (n + 1)
 gather_next b number at select mask before k source target len word next n bit law low from upto is made had =
-    let digit = indexed number at in
-    let here : digit next n ≡ moved_bit b digit before source target len (k * b + n) =
+    let reading = reading_in b number at in
+    let here : reading.digit next n ≡ moved_bit reading before source target len (k * b + n) =
     indexed_same number at word next n bit made
     ∙ is
-    ∙ sym (moved_bit_inside b digit before source target len (k * b + n) from upto) in
-    below_more (λ i. digit next i ≡ moved_bit b digit before source target len (k * b + i)) n
+    ∙ sym (moved_bit_inside reading before source target len (k * b + n) from upto) in
+    below_more (λ i. reading.digit next i ≡ moved_bit reading before source target len (k * b + i)) n
     (λ i h. indexed_other b number at select mask word next n bit i law low made (omega arith) (omega arith) ∙ had i h)
     here
 

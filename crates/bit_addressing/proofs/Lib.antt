@@ -1,8 +1,8 @@
-pub mod CarryBits
-pub mod CarryWords
+pub mod BitCommandLemmas
+pub mod WordCommandLemmas
 pub mod Changes
 pub mod Gathers
 pub mod RunLemmas
-pub mod SpanBits
+pub mod CommandLemmas
 pub mod Sweeps
 pub mod WayLemmas

@@ -5,10 +5,10 @@
 use Rattle.std.proofs.Common.{◌≡◌, ◌≢◌, ℕ, zero, suc, ◌+◌, ◌-◌, ◌*◌, ◌<◌, ◌≤◌, ◌==◌, ◌⊎◌, Bool, false}
 use Rattle.std.proofs.Common.{List, [], ◌∷◌, ◌++◌, length, get_or, refl, sym, ap, ◌∙◌, inl, inr, arith}
 use Rattle.std.proofs.lemmas.Bool.{cases_eq, cases_lt, cases_Bool, eq-eqb, ne_eqb}
-use Rattle.std.proofs.lemmas.List.{ext_get_or, length-take, length-drop, map_push}
+use Rattle.std.proofs.lemmas.List.{ext_get_or, get_or_default, length-take, length-drop, map_push}
 use Rattle.std.proofs.lemmas.List.Elements.{All-push, All-nil}
 use Rattle.bit_addressing_memory.specs.Memory.{Reading, entry, memory, piece}
-use Rattle.bit_addressing_span.specs.Span.{Extent}
+use Rattle.bit_addressing_span.specs.Span.{Extent, extent, span_bits, span_place}
 use Rattle.bit_addressing_memory.proofs.MemoryLemmas.{entry_memory, get_or-piece, length-memory, same_memory}
 use Rattle.bit_addressing.specs.declared.command.SpanCommand.{SpanCommand}
 use Rattle.bit_addressing.specs.declared.command.SpanReply.{SpanReply}
@@ -16,7 +16,6 @@ use Rattle.bit_addressing.specs.declared.command.SpanReply.TheVariants.{Refused}
 use Rattle.bit_addressing.specs.Own.{own_after, own_answer, own_answers, own_list, seen}
 use Rattle.bit_addressing.specs.Runs.{AreDisjoint, CarriesOut, IsInside, IsOutside, OrderOfSpansIsFree}
 use Rattle.bit_addressing.specs.Runs.{Runs, commands_of, replies_of, span_at}
-use Rattle.bit_addressing.specs.Runs.{span_bits, span_place}
 
 -- ---- lists with one more at their end
 
@@ -106,7 +105,6 @@ pub span_bits_same : {R : Type 0} (reading : Reading R) (before after : List R) 
     → length after ≡ length before
     → ((p : ℕ) → IsInside reading.bits span p → entry reading after p ≡ entry reading before p)
     → span_bits reading after span ≡ span_bits reading before span
-unfolding span_bits
 span_bits_same reading before after span some same equal =
     let old = memory reading before in
     let new = memory reading after in
@@ -127,7 +125,6 @@ span_bits_same reading before after span some same equal =
 pub span_entries : {R : Type 0} (reading : Reading R) (one other : List R) (span : Extent) (p : ℕ) → 0 < reading.bits
     → span_bits reading one span ≡ span_bits reading other span → IsInside reading.bits span p
     → entry reading one p ≡ entry reading other p
-unfolding span_bits
 span_entries reading one other span p some same inside =
     let first : ℕ = span_place reading.bits span in
     let k : ℕ = p - first in
@@ -290,3 +287,8 @@ order_is_free reading some before one other spans commands others replies answer
         | inr out ↦ run.others p out ∙ sym (runs.others p out)
       ]),
 )
+
+-- a span read by its number is the span of that number
+pub span_read : (spans : List Extent) (k : ℕ) (span : Extent) → k < length spans → span ≡ get_or spans k span
+    → span ≡ span_at spans k
+span_read spans k span within is = is ∙ get_or_default spans k span (extent 0 0 0) within

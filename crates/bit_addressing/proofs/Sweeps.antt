@@ -122,7 +122,7 @@ swept_all reading before now source target len some any had =
       mod_below (target + len - 1) reading.bits some,
     ) in
     record {
-      copied = λ k h.
+      there = λ k h.
           let back : target + k - target ≡ k = omega arith in
           had.written (target + k) (omega arith) (omega arith)
           ∙ moved_bit_inside reading before source target len (target + k) (omega arith) (omega arith)

@@ -1,23 +1,15 @@
 -- What a runner does over spans of one memory, of words of b bits: each span's list is edited by its own commands.
 --
--- Where a span lies: `span_place`, `span_bits`, `IsInside`, `IsOutside`. What is asked: `AreDisjoint`, `AllFit`.
+-- Where a span lies: `IsInside`, `IsOutside`. What is asked: `AreDisjoint`, `AllFit`.
 -- One command: `CarriesOut`. Its commands and replies: `commands_of`, `replies_of`. A whole run: `Runs`.
 use Rattle.std.specs.Prelude.{ℕ, ◌+◌, ◌*◌, ◌<◌, ◌≤◌, ◌==◌, ◌≡◌, Bool, List, [], ◌∷◌, length, map}
 use Rattle.std.specs.Prelude.{if◌then◌else◌, slice_index_or, All}
-use Rattle.bit_addressing_memory.specs.Memory.{Reading, entry, memory, piece, touched}
-use Rattle.bit_addressing_span.specs.Span.{Extent, extent}
+use Rattle.bit_addressing_memory.specs.Memory.{Reading, entry, memory}
+use Rattle.bit_addressing_span.specs.Span.{Extent, extent, span_bits, span_place, FitsIn}
 use Rattle.bit_addressing.specs.declared.command.SpanCommand.{SpanCommand}
 use Rattle.bit_addressing.specs.declared.command.SpanReply.{SpanReply}
 use Rattle.bit_addressing.specs.declared.command.SpanReply.TheVariants.{Refused}
 use Rattle.bit_addressing.specs.Own.{own_after, own_answer, own_answers, own_list, seen}
-
--- the place of a span's first bit
-abbrev pub span_place : ℕ → Extent → ℕ
-span_place b span = span.word * b + span.head
-
--- the bits of a span, in order
-unfoldable pub span_bits : {R : Type 0} → Reading R → List R → Extent → List Bool
-span_bits reading words span = piece (memory reading words) (span_place reading.bits span) span.len
 
 -- the place p is one of the span's
 abbrev pub IsInside : ℕ → Extent → ℕ → Type 0
@@ -39,7 +31,7 @@ AreDisjoint b spans = (s t p : ℕ) → s < t → t < length spans → IsInside 
 -- the words of each span are among the first n
 abbrev pub AllFit : ℕ → List Extent → ℕ → Type 0
 AllFit b spans n = (s : ℕ) → s < length spans
-    → (span_at spans s).word + touched b (span_at spans s).head (span_at spans s).len ≤ n
+    → FitsIn b (span_at spans s) n
 
 -- one command at one span: the reply and the span's bits afterwards are those of its own list, and each bit outside
 -- the span is as before

@@ -2,9 +2,9 @@
 //! itself, moves of bits by it, and a runner of commands over spans of one memory.
 #![tactic(auto)]
 
-mod carry;
 mod command;
 mod moves;
+mod one_command;
 mod runner;
 mod sweep;
 

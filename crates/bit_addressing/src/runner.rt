@@ -2,11 +2,12 @@
 
 ghost use Rattle.std.specs.Prelude.{◌≡◌, ℕ, ◌+◌, ◌<◌, ◌≤◌, ◌↔◌, IsTrue, length};
 ghost use Rattle.bit_addressing_memory.specs.Memory.{read_by};
-ghost use Rattle.bit_addressing.specs.Runs.{AllFit, AreDisjoint, IsInside, IsOutside, span_at, span_place};
+ghost use Rattle.bit_addressing_span.specs.Span.{span_place};
+ghost use Rattle.bit_addressing.specs.Runs.{AllFit, AreDisjoint, IsInside, IsOutside, span_at};
 ghost use Rattle.bit_addressing.specs.Runs.{CarriesOut, OrderOfSpansIsFree, Runs};
 
-use crate::carry::carry_out;
 use crate::command::{SpanCommand, SpanReply};
+use crate::one_command::run_one;
 use bit_addressing_order::{BitOrder, BitRegister};
 use bit_addressing_span::BitSpan;
 
@@ -16,7 +17,7 @@ pub fn disjoint<R: BitRegister, O: BitOrder<R>>(spans: &[BitSpan<R, O>]) -> bool
 {
     for later in 0..spans.len() {
         for earlier in 0..later {
-            if !are_apart(span_of(spans, earlier), span_of(spans, later)) {
+            if !are_apart(spans[earlier], spans[later]) {
                 return false;
             }
         }
@@ -29,7 +30,7 @@ pub fn all_fit<R: BitRegister, O: BitOrder<R>>(spans: &[BitSpan<R, O>], words: u
     ensures { IsTrue result ↔ AllFit R.BITS spans.now words }
 {
     for k in 0..spans.len() {
-        if !span_of(spans, k).fits(words) {
+        if !spans[k].fits(words) {
             return false;
         }
     }
@@ -53,7 +54,7 @@ pub fn run<R: BitRegister, O: BitOrder<R>>(
 {
     for k in 0..commands.len() {
         let (number, command) = commands[k];
-        replies[k] = carry_out_at(memory, spans, number, command);
+        replies[k] = run_at(memory, spans, number, command);
     }
 }
 
@@ -64,7 +65,7 @@ pub fn order_of_spans_is_free<R: BitRegister, O: BitOrder<R>>()
 {}
 
 // Carries one command out at the span of a number, where there is one.
-fn carry_out_at<R: BitRegister, O: BitOrder<R>>(
+fn run_at<R: BitRegister, O: BitOrder<R>>(
     memory: &mut [R],
     spans: &[BitSpan<R, O>],
     number: usize,
@@ -80,15 +81,7 @@ fn carry_out_at<R: BitRegister, O: BitOrder<R>>(
     if number >= spans.len() {
         return SpanReply::Refused;
     }
-    carry_out(memory, span_of(spans, number), command)
-}
-
-// The span of a number, and one without bits where there is none. A span whose order is not known to be `Copy` is
-// not read by an index.
-fn span_of<R: BitRegister, O: BitOrder<R>>(spans: &[BitSpan<R, O>], number: usize) -> BitSpan<R, O>
-    ensures { result ≡ span_at spans.now number }
-{
-    spans.get(number).copied().unwrap_or_default()
+    run_one(memory, spans[number], command)
 }
 
 // Whether no bit is in both spans.

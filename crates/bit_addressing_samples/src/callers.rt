@@ -4,7 +4,8 @@
 ghost use Rattle.std.specs.Prelude.{◌≡◌, ◌+◌, ◌*◌, ◌^◌, ◌<◌, ◌≤◌, [], ◌∷◌, true, length, slice_index_or, slice_set};
 ghost use Rattle.bit_addressing_memory.specs.Memory.{entry, indexed, memory, piece, touched, with_piece};
 ghost use Rattle.bit_addressing.specs.Moves.{Moves, changed};
-ghost use Rattle.bit_addressing.specs.Runs.{AllFit, AreDisjoint, span_at, span_place};
+ghost use Rattle.bit_addressing_span.specs.Span.{span_place};
+ghost use Rattle.bit_addressing.specs.Runs.{AllFit, AreDisjoint, span_at};
 
 use bit_addressing::{
     BitOrder, BitRegister, BitSpan, SpanCommand, SpanReply, Sweep, Way, move_in, run, way_for,

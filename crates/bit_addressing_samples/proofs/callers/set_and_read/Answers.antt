@@ -2,12 +2,12 @@ use Rattle.std.proofs.Common.{◌≡◌, ℕ, ◌<◌, ◌+◌, Bool, true, fals
 use Rattle.std.proofs.lemmas.Bool.{lt-ltb}
 use Rattle.std.proofs.lemmas.List.{get_or-set_same}
 use Rattle.bit_addressing_memory.specs.Memory.{entry, indexed}
-use Rattle.bit_addressing_span.specs.Span.{Extent}
+use Rattle.bit_addressing_span.specs.Span.{Extent, span_bits, span_place}
 use Rattle.bit_addressing.specs.declared.command.SpanCommand.TheVariants.{Read, Replace}
 use Rattle.bit_addressing.specs.declared.command.SpanReply.{SpanReply}
 use Rattle.bit_addressing.specs.declared.command.SpanReply.TheVariants.{Word, Bit, Done, Refused}
 use Rattle.bit_addressing.specs.Own.{own_after, own_answer, own_answers, own_list, seen}
-use Rattle.bit_addressing.specs.Runs.{Runs, commands_of, replies_of, span_at, span_bits, span_place}
+use Rattle.bit_addressing.specs.Runs.{Runs, commands_of, replies_of, span_at}
 use Rattle.bit_addressing.proofs.SpanBits.{length-span_bits, span_bit}
 use Rattle.bit_addressing_samples.proofs.callers.set_and_read.Goals as goal
 

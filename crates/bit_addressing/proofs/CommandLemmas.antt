@@ -1,7 +1,7 @@
 -- A span's list of bits, by the entries of the memory that the span fits.
 --
 -- Where the span lies: `span_within`, `place_fits`, `lies_in_memory`. Its list: `length-span_bits`, `span_bit`.
--- What one command did: `refused`, `carried`; the same at equal lists and spans: `carried_as`.
+-- What one command did: `refused`, `carried`, `carried_list`; the same at equal lists and spans: `carried_as`.
 use Rattle.std.proofs.Common.{◌≡◌, ℕ, ◌+◌, ◌-◌, ◌*◌, ◌^◌, ◌<◌, ◌≤◌, Bool, true, false, List, length, get_or, refl}
 use Rattle.std.proofs.Common.{sym, ap, ◌∙◌, inl, inr, arith}
 use Rattle.std.proofs.Math.IntN.{pos}
@@ -9,12 +9,12 @@ use Rattle.std.proofs.lemmas.Bool.{cases_eq}
 use Rattle.std.proofs.lemmas.List.{ext_get_or}
 use Rattle.bit_addressing_memory.specs.Memory.{Reading, entry, memory, touched}
 use Rattle.bit_addressing_memory.specs.Pointer.{LiesIn, Pointer, memory_place}
-use Rattle.bit_addressing_span.specs.Span.{Extent}
+use Rattle.bit_addressing_span.specs.Span.{Extent, span_bits, span_place, FitsIn}
 use Rattle.bit_addressing_memory.proofs.MemoryLemmas.{entry_memory, get_or-piece, length-memory}
 use Rattle.bit_addressing_memory.proofs.MemoryLemmas.{length-piece, piece_none}
 use Rattle.bit_addressing_span.proofs.SpanLemmas.{touched-within}
 use Rattle.bit_addressing.specs.Own.{lies_in, own_after, own_answer, own_edit, own_reading, seen}
-use Rattle.bit_addressing.specs.Runs.{CarriesOut, IsOutside, span_bits, span_place}
+use Rattle.bit_addressing.specs.Runs.{CarriesOut, IsOutside}
 use Rattle.bit_addressing.specs.declared.command.SpanCommand.{SpanCommand}
 use Rattle.bit_addressing.specs.declared.command.SpanReply.{SpanReply}
 use Rattle.bit_addressing.specs.declared.command.SpanReply.TheVariants.{Refused}
@@ -24,7 +24,7 @@ use lib.Signed.{◌≤ℤ◌}
 
 -- its bits lie in the words that it fits
 pub span_within : (b : ℕ) (span : Extent) (n : ℕ) → span.head < b → 0 < span.len
-    → span.word + touched b span.head span.len ≤ n → span_place b span + span.len ≤ n * b
+    → FitsIn b span n → span_place b span + span.len ≤ n * b
 span_within b span n low some fits =
     let m : ℕ = n - span.word in
     let count : span.word + m ≡ n = omega arith in
@@ -42,17 +42,16 @@ place_fits b span word head i is_word is_head low fits small =
 
 -- a pointer to its bit i, and n bits from there on, lie in a memory that it fits
 pub lies_in_memory : (b : ℕ) (span : Extent) (p : Pointer) (i n words : ℕ) → pos 0 ≤ℤ p.word
-    → memory_place b p ≡ span_place b span + i → span.head < b → span.word + touched b span.head span.len ≤ words
+    → memory_place b p ≡ span_place b span + i → span.head < b → FitsIn b span words
     → 0 < n → i + n ≤ span.len → LiesIn b p n words
 lies_in_memory b span p i n words up is low fits some small =
     let all : span_place b span + span.len ≤ words * b = span_within b span words low (omega arith) fits in
-    record { from = up; upto = omega arith }
+    record { from = λ _. up; upto = λ _. omega arith }
 
 -- ---- its list
 
 pub length-span_bits : {R : Type 0} (reading : Reading R) (words : List R) (span : Extent) → span.head < reading.bits
-    → span.word + touched reading.bits span.head span.len ≤ length words → length (span_bits reading words span) ≡ span.len
-unfolding span_bits
+    → FitsIn reading.bits span (length words) → length (span_bits reading words span) ≡ span.len
 length-span_bits reading words span low fits = elim (cases_eq span.len 0) [
   | inl none ↦
       ap length (piece_none (memory reading words) (span_place reading.bits span) span.len none) ∙ sym none
@@ -65,7 +64,6 @@ length-span_bits reading words span low fits = elim (cases_eq span.len 0) [
 -- its bit j is an entry of the memory
 pub span_bit : {R : Type 0} (reading : Reading R) (words : List R) (span : Extent) (j : ℕ) → 0 < reading.bits
     → j < span.len → get_or (span_bits reading words span) j false ≡ entry reading words (span_place reading.bits span + j)
-unfolding span_bits
 span_bit reading words span j some low =
     get_or-piece (memory reading words) (span_place reading.bits span) span.len j false low
     ∙ entry_memory reading words (span_place reading.bits span + j) some
@@ -74,7 +72,7 @@ span_bit reading words span j some low =
 
 -- nothing, where its numbers are out of range
 pub refused : {R : Type 0} (reading : Reading R) (words : List R) (span : Extent) (command : SpanCommand R)
-    → span.head < reading.bits → span.word + touched reading.bits span.head span.len ≤ length words
+    → span.head < reading.bits → FitsIn reading.bits span (length words)
     → lies_in reading.bits span.head span.len command ≡ false → CarriesOut reading words words span command Refused
 unfolding own_after own_answer
 refused reading words span command low fits is =
@@ -85,7 +83,7 @@ refused reading words span command low fits is =
 -- its edit, where they are in range
 pub carried : {R : Type 0} (reading : Reading R) (before after : List R) (span : Extent)
     (command : SpanCommand R) (reply : SpanReply R)
-    → span.head < reading.bits → span.word + touched reading.bits span.head span.len ≤ length before
+    → span.head < reading.bits → FitsIn reading.bits span (length before)
     → lies_in reading.bits span.head span.len command ≡ true
     → seen reading reply ≡ own_reading reading.bits span.head command (span_bits reading before span)
     → length (own_edit reading span.head command (span_bits reading before span)) ≡ span.len
@@ -98,7 +96,7 @@ unfolding own_after own_answer
 carried reading before after span command reply low fits is replied len edited others words =
     let bits = span_bits reading before span in
     let now = span_bits reading after span in
-    let still : span.word + touched reading.bits span.head span.len ≤ length after = rw words fits in
+    let still : FitsIn reading.bits span (length after) = rw words fits in
     let size = length-span_bits reading before span low fits in
     let now_size : length now ≡ span.len = length-span_bits reading after span low still in
     let inside : lies_in reading.bits span.head (length bits) command ≡ true = rw size is in
@@ -114,3 +112,17 @@ pub carried_as : {R : Type 0} (reading : Reading R) (words before stored after :
     → CarriesOut reading words stored its command reply → CarriesOut reading before after span command reply
 carried_as reading words before stored after its span command reply is_before is_after is_span done =
     rw (is_after, ← is_before, ← is_span) done
+
+-- the same, where the span's list afterwards is known whole
+pub carried_list : {R : Type 0} (reading : Reading R) (before after : List R) (span : Extent)
+    (command : SpanCommand R) (reply : SpanReply R) → span.head < reading.bits
+    → FitsIn reading.bits span (length before) → lies_in reading.bits span.head span.len command ≡ true
+    → seen reading reply ≡ own_reading reading.bits span.head command (span_bits reading before span)
+    → span_bits reading after span ≡ own_edit reading span.head command (span_bits reading before span)
+    → ((p : ℕ) → IsOutside reading.bits span p → entry reading after p ≡ entry reading before p)
+    → length after ≡ length before → CarriesOut reading before after span command reply
+unfolding own_after own_answer
+carried_list reading before after span command reply low fits is replied list others words =
+    let size = length-span_bits reading before span low fits in
+    let inside : lies_in reading.bits span.head (length (span_bits reading before span)) command ≡ true = rw size is in
+    record { replied = rw inside replied; list = rw inside list; others = others; words = words }

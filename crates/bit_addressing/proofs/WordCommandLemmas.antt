@@ -10,16 +10,16 @@ use Rattle.std.proofs.lemmas.List.{ext_get_or, get_or_past}
 use Rattle.std.proofs.lemmas.List.FromFn.{length-map-range_with_len, get_or-map-range_with_len}
 use Rattle.std.proofs.lemmas.Nat.{div-add-mod', mod_below}
 use Rattle.std.specs.List.{range_with_len}
-use Rattle.bit_addressing_memory.specs.Memory.{Reading, entry, digits, touched}
-use Rattle.bit_addressing_span.specs.Parts.{ReadsPart, Overwrites, part_count, part_from, part_place, part_upto}
-use Rattle.bit_addressing_span.specs.Span.{Extent}
+use Rattle.bit_addressing_memory.specs.Memory.{Reading, entry, digits, touched, Overwrites}
+use Rattle.bit_addressing_span.specs.Parts.{ReadsPart, part_count, part_from, part_place, part_upto}
+use Rattle.bit_addressing_span.specs.Span.{Extent, span_bits, span_place, FitsIn}
 use Rattle.bit_addressing_span.proofs.PartsLemmas.{part_some, part_start}
 use Rattle.bit_addressing.specs.Own.{lies_in, own_digit, own_edit, own_reading, own_word, over_word}
-use Rattle.bit_addressing.specs.Runs.{CarriesOut, IsOutside, span_bits, span_place}
+use Rattle.bit_addressing.specs.Runs.{CarriesOut, IsOutside}
 use Rattle.bit_addressing.specs.declared.command.SpanCommand.{SpanCommand}
 use Rattle.bit_addressing.specs.declared.command.SpanCommand.TheVariants.{Load, Store, Set, Clear, Invert}
 use Rattle.bit_addressing.specs.declared.command.SpanReply.TheVariants.{Word}
-use Rattle.bit_addressing.proofs.SpanBits.{carried, length-span_bits, span_bit}
+use Rattle.bit_addressing.proofs.CommandLemmas.{carried, length-span_bits, span_bit}
 
 -- ---- the word that is answered
 
@@ -33,7 +33,7 @@ unfolding own_digit
 own_digit_from b head bits k i h = grind (arith, nat_tests)
 
 digit_reads : {R : Type 0} (reading : Reading R) (words : List R) (span : Extent) (k : ℕ) (word : R) (i : ℕ)
-    → span.head < reading.bits → span.word + touched reading.bits span.head span.len ≤ length words
+    → span.head < reading.bits → FitsIn reading.bits span (length words)
     → ReadsPart reading words (span.word + k) word (part_from reading.bits span k) (part_upto reading.bits span k) → i < reading.bits
     → reading.digit word i ≡ own_digit reading.bits span.head (span_bits reading words span) k i
 digit_reads reading words span k word i low fits reads small =
@@ -72,7 +72,7 @@ same_below f g n same =
 
 -- a word of the span that was read has the digits of the list's word
 own_word_reads : {R : Type 0} (reading : Reading R) (words : List R) (span : Extent) (k : ℕ) (word : R)
-    → span.head < reading.bits → span.word + touched reading.bits span.head span.len ≤ length words
+    → span.head < reading.bits → FitsIn reading.bits span (length words)
     → ReadsPart reading words (span.word + k) word (part_from reading.bits span k) (part_upto reading.bits span k)
     → digits reading word ≡ own_word reading.bits span.head (span_bits reading words span) k
 own_word_reads reading words span k word low fits reads =
@@ -81,7 +81,7 @@ own_word_reads reading words span k word low fits reads =
 
 -- a word read, and nothing written
 pub carried_load : {R : Type 0} (reading : Reading R) (words : List R) (span : Extent) (k : ℕ) (word : R)
-    → span.head < reading.bits → span.word + touched reading.bits span.head span.len ≤ length words → k < touched reading.bits span.head span.len
+    → span.head < reading.bits → FitsIn reading.bits span (length words) → k < touched reading.bits span.head span.len
     → ReadsPart reading words (span.word + k) word (part_from reading.bits span k) (part_upto reading.bits span k)
     → CarriesOut reading words words span (Load k) (Word word)
 carried_load reading words span k word low fits within reads =
@@ -170,7 +170,7 @@ stores_others reading before after span k p stored low within out stores =
 -- a word read and written: each bit of the word of the list made `now` of its index and what it was
 carried_word : {R : Type 0} (reading : Reading R) (before after : List R) (span : Extent)
     (command : SpanCommand R) (k : ℕ) (word : R) (stored : ℕ → Bool) (now : ℕ → Bool → Bool)
-    → span.head < reading.bits → span.word + touched reading.bits span.head span.len ≤ length before → k < touched reading.bits span.head span.len
+    → span.head < reading.bits → FitsIn reading.bits span (length before) → k < touched reading.bits span.head span.len
     → lies_in reading.bits span.head span.len command ≡ ltb k (touched reading.bits span.head span.len)
     → own_edit reading span.head command (span_bits reading before span)
     ≡ over_word reading.bits span.head k now (span_bits reading before span)
@@ -181,12 +181,12 @@ carried_word : {R : Type 0} (reading : Reading R) (before after : List R) (span 
     → ((i : ℕ) → i < part_count reading.bits span k
     → stored i ≡ now (part_from reading.bits span k + i) (entry reading before (part_place reading.bits span k + i)))
     → CarriesOut reading before after span command (Word word)
-carried_word reading before after span command k word stored now low fits within range edit reading reads stores same =
+carried_word reading before after span command k word stored now low fits within range edit answered reads stores same =
     let some : 0 < reading.bits = omega arith in
     let bits = span_bits reading before span in
     let size : length bits ≡ span.len = length-span_bits reading before span low fits in
     carried reading before after span command (Word word) low fits (range ∙ grind (arith, nat_tests))
-    (ap Word (own_word_reads reading before span k word low fits reads) ∙ sym reading)
+    (ap Word (own_word_reads reading before span k word low fits reads) ∙ sym answered)
     (ap length edit ∙ length-over_word reading.bits span.head k now bits ∙ size)
     (λ j h.
     let old : get_or bits j false ≡ entry reading before (span_place reading.bits span + j) =
@@ -209,7 +209,7 @@ carried_word reading before after span command k word stored now low fits within
 -- each of the writes of one word
 
 pub carried_store : {R : Type 0} (reading : Reading R) (before after : List R) (span : Extent) (k : ℕ)
-    (word was : R) → span.head < reading.bits → span.word + touched reading.bits span.head span.len ≤ length before
+    (word was : R) → span.head < reading.bits → FitsIn reading.bits span (length before)
     → k < touched reading.bits span.head span.len
     → ReadsPart reading before (span.word + k) was (part_from reading.bits span k) (part_upto reading.bits span k)
     → Overwrites reading before after (part_place reading.bits span k) (part_count reading.bits span k)
@@ -220,7 +220,7 @@ carried_store reading before after span k word was low fits within reads stores 
     (λ i _. reading.digit word i) low fits within refl refl refl reads stores (λ _ _. refl)
 
 pub carried_set : {R : Type 0} (reading : Reading R) (before after : List R) (span : Extent) (k : ℕ) (was : R)
-    → span.head < reading.bits → span.word + touched reading.bits span.head span.len ≤ length before → k < touched reading.bits span.head span.len
+    → span.head < reading.bits → FitsIn reading.bits span (length before) → k < touched reading.bits span.head span.len
     → ReadsPart reading before (span.word + k) was (part_from reading.bits span k) (part_upto reading.bits span k)
     → Overwrites reading before after (part_place reading.bits span k) (part_count reading.bits span k) (λ _. true)
     → CarriesOut reading before after span (Set k) (Word was)
@@ -230,7 +230,7 @@ carried_set reading before after span k was low fits within reads stores =
 
 pub carried_clear : {R : Type 0} (reading : Reading R) (before after : List R) (span : Extent) (k : ℕ)
     (was : R)
-    → span.head < reading.bits → span.word + touched reading.bits span.head span.len ≤ length before → k < touched reading.bits span.head span.len
+    → span.head < reading.bits → FitsIn reading.bits span (length before) → k < touched reading.bits span.head span.len
     → ReadsPart reading before (span.word + k) was (part_from reading.bits span k) (part_upto reading.bits span k)
     → Overwrites reading before after (part_place reading.bits span k) (part_count reading.bits span k) (λ _. false)
     → CarriesOut reading before after span (Clear k) (Word was)
@@ -240,7 +240,7 @@ carried_clear reading before after span k was low fits within reads stores =
 
 pub carried_invert : {R : Type 0} (reading : Reading R) (before after : List R) (span : Extent) (k : ℕ)
     (was : R)
-    → span.head < reading.bits → span.word + touched reading.bits span.head span.len ≤ length before → k < touched reading.bits span.head span.len
+    → span.head < reading.bits → FitsIn reading.bits span (length before) → k < touched reading.bits span.head span.len
     → ReadsPart reading before (span.word + k) was (part_from reading.bits span k) (part_upto reading.bits span k)
     → Overwrites reading before after (part_place reading.bits span k) (part_count reading.bits span k)
     (λ i. not (entry reading before (part_place reading.bits span k + i)))

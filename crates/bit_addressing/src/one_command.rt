@@ -3,8 +3,9 @@
 //! Each command has a function of its own, which tests the command's numbers before it touches a bit.
 
 ghost use Rattle.std.specs.Prelude.{◌≡◌, ◌+◌, ◌*◌, ◌^◌, ◌<◌, ◌≤◌, length, pos, ◌≤ℤ◌};
-ghost use Rattle.bit_addressing_memory.specs.Memory.{read_by, touched};
+ghost use Rattle.bit_addressing_memory.specs.Memory.{read_by};
 ghost use Rattle.bit_addressing_memory.specs.Pointer.{memory_place};
+ghost use Rattle.bit_addressing_span.specs.Span.{FitsIn};
 ghost use Rattle.bit_addressing.specs.Runs.{CarriesOut};
 
 use crate::command::{SpanCommand, SpanReply};
@@ -13,12 +14,12 @@ use bit_addressing_order::{BitIdx, BitOrder, BitRegister};
 use bit_addressing_span::BitSpan;
 
 /// Carries one command out at one span of the memory. The span fits.
-pub(crate) fn carry_out<R: BitRegister, O: BitOrder<R>>(
+pub(crate) fn run_one<R: BitRegister, O: BitOrder<R>>(
     memory: &mut [R],
     span: BitSpan<R, O>,
     command: SpanCommand<R>,
 ) -> SpanReply<R>
-    requires fits { span.word + touched R.BITS span.head span.len ≤ length memory.old }
+    requires fits { FitsIn R.BITS span (length memory.old) }
     ensures carried { CarriesOut (read_by R.BitRegister O.position) memory.old memory.new span command result }
 {
     match command {
@@ -37,20 +38,17 @@ pub(crate) fn carry_out<R: BitRegister, O: BitOrder<R>>(
 // Words.
 
 // Reads a word.
-fn load<R: BitRegister, O: BitOrder<R>>(
-    memory: &mut [R],
-    span: BitSpan<R, O>,
-    k: usize,
-) -> SpanReply<R>
-    requires fits { span.word + touched R.BITS span.head span.len ≤ length memory.old }
-    ensures carried { CarriesOut (read_by R.BitRegister O.position) memory.old memory.new span
+fn load<R: BitRegister, O: BitOrder<R>>(memory: &[R], span: BitSpan<R, O>, k: usize) -> SpanReply<R>
+    requires fits { FitsIn R.BITS span (length memory.now) }
+    ensures carried { CarriesOut (read_by R.BitRegister O.position) memory.now memory.now span
         (SpanCommand.Load k) result }
 {
-    let words = span.domain_mut(memory);
-    if k >= words.len() {
+    // (the type's invariant is known once a part of it is read)
+    let (_, _, _) = span.raw_parts();
+    if k >= span.elements() {
         return SpanReply::Refused;
     }
-    SpanReply::Word(words.load_value(k))
+    SpanReply::Word(span.load_value(memory, k))
 }
 
 // Writes a word.
@@ -60,7 +58,7 @@ fn store<R: BitRegister, O: BitOrder<R>>(
     k: usize,
     word: R,
 ) -> SpanReply<R>
-    requires fits { span.word + touched R.BITS span.head span.len ≤ length memory.old }
+    requires fits { FitsIn R.BITS span (length memory.old) }
     ensures carried { CarriesOut (read_by R.BitRegister O.position) memory.old memory.new span
         (SpanCommand.Store k word) result }
 {
@@ -77,7 +75,7 @@ fn set<R: BitRegister, O: BitOrder<R>>(
     span: BitSpan<R, O>,
     k: usize,
 ) -> SpanReply<R>
-    requires fits { span.word + touched R.BITS span.head span.len ≤ length memory.old }
+    requires fits { FitsIn R.BITS span (length memory.old) }
     ensures carried { CarriesOut (read_by R.BitRegister O.position) memory.old memory.new span
         (SpanCommand.Set k) result }
 {
@@ -94,7 +92,7 @@ fn clear<R: BitRegister, O: BitOrder<R>>(
     span: BitSpan<R, O>,
     k: usize,
 ) -> SpanReply<R>
-    requires fits { span.word + touched R.BITS span.head span.len ≤ length memory.old }
+    requires fits { FitsIn R.BITS span (length memory.old) }
     ensures carried { CarriesOut (read_by R.BitRegister O.position) memory.old memory.new span
         (SpanCommand.Clear k) result }
 {
@@ -111,7 +109,7 @@ fn invert<R: BitRegister, O: BitOrder<R>>(
     span: BitSpan<R, O>,
     k: usize,
 ) -> SpanReply<R>
-    requires fits { span.word + touched R.BITS span.head span.len ≤ length memory.old }
+    requires fits { FitsIn R.BITS span (length memory.old) }
     ensures carried { CarriesOut (read_by R.BitRegister O.position) memory.old memory.new span
         (SpanCommand.Invert k) result }
 {
@@ -126,7 +124,7 @@ fn invert<R: BitRegister, O: BitOrder<R>>(
 
 // Reads a bit.
 fn read<R: BitRegister, O: BitOrder<R>>(memory: &[R], span: BitSpan<R, O>, i: usize) -> SpanReply<R>
-    requires fits { span.word + touched R.BITS span.head span.len ≤ length memory.now }
+    requires fits { FitsIn R.BITS span (length memory.now) }
     ensures carried { CarriesOut (read_by R.BitRegister O.position) memory.now memory.now span
         (SpanCommand.Read i) result }
 {
@@ -144,7 +142,7 @@ fn replace<R: BitRegister, O: BitOrder<R>>(
     i: usize,
     bit: bool,
 ) -> SpanReply<R>
-    requires fits { span.word + touched R.BITS span.head span.len ≤ length memory.old }
+    requires fits { FitsIn R.BITS span (length memory.old) }
     ensures carried { CarriesOut (read_by R.BitRegister O.position) memory.old memory.new span
         (SpanCommand.Replace i bit) result }
 {
@@ -162,7 +160,7 @@ fn swap<R: BitRegister, O: BitOrder<R>>(
     i: usize,
     j: usize,
 ) -> SpanReply<R>
-    requires fits { span.word + touched R.BITS span.head span.len ≤ length memory.old }
+    requires fits { FitsIn R.BITS span (length memory.old) }
     ensures carried { CarriesOut (read_by R.BitRegister O.position) memory.old memory.new span
         (SpanCommand.Swap i j) result }
 {
@@ -183,7 +181,7 @@ fn copy<R: BitRegister, O: BitOrder<R>>(
     to: usize,
     count: usize,
 ) -> SpanReply<R>
-    requires fits { span.word + touched R.BITS span.head span.len ≤ length memory.old }
+    requires fits { FitsIn R.BITS span (length memory.old) }
     ensures carried { CarriesOut (read_by R.BitRegister O.position) memory.old memory.new span
         (SpanCommand.Copy from to count) result }
 {

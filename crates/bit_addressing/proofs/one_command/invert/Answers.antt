@@ -2,9 +2,9 @@ use Rattle.std.proofs.Common.{arith, rules}
 use Rattle.std.proofs.lemmas.Bool.Decides.{nat_tests}
 use Rattle.bit_addressing_span.specs.DomainMut.{domain_span, domain_words}
 use Rattle.bit_addressing_memory.specs.Memory.{read_by}
-use Rattle.bit_addressing.proofs.CarryWords.{carried_set}
-use Rattle.bit_addressing.proofs.SpanBits.{carried_as, refused}
-use Rattle.bit_addressing.proofs.carry.set.Goals as goal
+use Rattle.bit_addressing.proofs.WordCommandLemmas.{carried_invert}
+use Rattle.bit_addressing.proofs.CommandLemmas.{carried_as, refused}
+use Rattle.bit_addressing.proofs.one_command.invert.Goals as goal
 
 pub returns-then-k-len : goal.returns-then-k-len
 returns-then-k-len g c =
@@ -14,7 +14,7 @@ returns-then-k-len g c =
       carried =
           carried_as (read_by g.R.BitRegister g.O.Positions.position) (domain_words d) _
           (domain_words d) _ (domain_span d) _ _ _ lent.words (search rules) lent.span
-          (refused _ _ _ _ _ d.index d.fits (grind (arith, nat_tests, c.len.ensures)));
+          (refused _ _ _ _ d.index d.fits (grind (arith, nat_tests, c.len.ensures)));
     }
 
 pub returns : goal.returns
@@ -24,7 +24,7 @@ returns g c =
     record {
       carried =
           carried_as (read_by g.R.BitRegister g.O.Positions.position) (domain_words d) _
-          (domain_words c.set.new.self) _ (domain_span d) _ _ _ lent.words (search rules) lent.span
-          (carried_set _ _ _ _ _ c.args.k _ d.index d.fits (omega (arith, c.len.ensures)) c.set.ensures.was
-          c.set.ensures.now);
+          (domain_words c.invert.new.self) _ (domain_span d) _ _ _ lent.words (search rules) lent.span
+          (carried_invert _ _ _ _ c.args.k _ d.index d.fits (omega (arith, c.len.ensures)) c.invert.ensures.was
+          c.invert.ensures.now);
     }

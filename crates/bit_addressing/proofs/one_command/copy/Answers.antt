@@ -1,13 +1,13 @@
-use Rattle.std.proofs.Common.{arith, ◌≡◌, ◌+◌, inl, inr, refl}
+use Rattle.std.proofs.Common.{arith, ◌≡◌, ◌+◌, inl, inr}
 use Rattle.bit_addressing_memory.specs.Memory.{read_by}
 use Rattle.bit_addressing_memory.specs.Pointer.{memory_place}
-use Rattle.bit_addressing.specs.Runs.{span_place}
-use Rattle.bit_addressing.proofs.CarryBits.{carried_copy, copies_none, copy_out}
-use Rattle.bit_addressing.proofs.SpanBits.{lies_in_memory, place_fits, refused}
-use Rattle.bit_addressing.proofs.carry.copy.Goals as goal
-use Rattle.bit_addressing.proofs.carry.copy.Goals.{then-count-len-via-then-count-len}
-use Rattle.bit_addressing.proofs.carry.copy.Goals.{then-count-len-via-else-count-len+then-from-len}
-use Rattle.bit_addressing.proofs.carry.copy.Goals.{then-count-len-via-else-count-len+else-from-len+then-to-len}
+use Rattle.bit_addressing.proofs.BitCommandLemmas.{carried_copy, carried_nothing, copy_out}
+use Rattle.bit_addressing.proofs.CommandLemmas.{lies_in_memory, place_fits, refused}
+use Rattle.bit_addressing.proofs.one_command.copy.Goals as goal
+use Rattle.bit_addressing.proofs.one_command.copy.Goals.{then-count-len-via-then-count-len}
+use Rattle.bit_addressing.proofs.one_command.copy.Goals.{then-count-len-via-else-count-len+then-from-len}
+use Rattle.bit_addressing_span.specs.Span.{span_place}
+use Rattle.bit_addressing.proofs.one_command.copy.Goals.{then-count-len-via-else-count-len+else-from-len+then-to-len}
 
 pub returns-then-count-len : goal.returns-then-count-len
 returns-then-count-len g c =
@@ -27,13 +27,11 @@ returns-then-count-len g c =
     }
 
 pub returns-then-count-eq0 : goal.returns-then-count-eq0
-returns-then-count-eq0 g c =
-    record {
-      carried =
-          carried_copy (read_by g.R.BitRegister g.O.Positions.position) c.args.memory.now
-          c.args.memory.now c.args.span c.args.from c.args.to c.args.count _ _ c.raw_parts-word.ensures.index
-          c.requires.fits (omega arith) (omega arith) refl refl (copies_none _ _ _ _ _ _ (omega arith));
-    }
+returns-then-count-eq0 g c = record {
+  carried =
+      carried_nothing (read_by g.R.BitRegister g.O.Positions.position) c.args.memory.now c.args.span c.args.from
+      c.args.to c.args.count c.raw_parts-word.ensures.index c.requires.fits (omega arith) (omega arith) (omega arith);
+}
 
 pub bit_at-target-requires : goal.bit_at-target-requires
 bit_at-target-requires g c =
@@ -70,6 +68,6 @@ returns g c =
       carried =
           carried_copy (read_by g.R.BitRegister g.O.Positions.position) c.args.memory.now _ c.args.span
           c.args.from c.args.to c.args.count _ _ c.raw_parts-word.ensures.index c.requires.fits (omega arith)
-          (omega arith)
+          (omega arith) (omega arith)
           place target c.copy_within.ensures.copied;
     }

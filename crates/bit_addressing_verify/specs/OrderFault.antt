@@ -1,6 +1,6 @@
 -- What `verify_for_type` answers: the first law, in a fixed order of tests, that a candidate breaks.
 use Rattle.std.specs.Prelude.{◌≡◌, ℕ, ◌+◌, ◌<◌, ◌≤◌, Option, Some, None}
-use Rattle.bit_addressing_order.specs.Law.{lower, upper, IsOneBit, IsMaskOf}
+use Rattle.bit_addressing_order.specs.BitOrder.{lower, upper, IsOneBit, IsMaskOf}
 use Rattle.bit_addressing_verify.specs.declared.fault.OrderFault.{OrderFault}
 use Rattle.bit_addressing_verify.specs.declared.fault.OrderFault.TheVariants.{Selector, Repeated, Mask}
 

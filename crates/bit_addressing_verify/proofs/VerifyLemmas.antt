@@ -3,18 +3,18 @@ use Rattle.std.proofs.Common.{◌≡◌, ℕ, suc, ◌+◌, ◌-◌, ◌^◌, �
 use Rattle.std.proofs.Common.{bit_or, sym, ◌∙◌, ap, subst, arith}
 use Rattle.std.specs.Int.{bit_at}
 use Rattle.std.proofs.lemmas.Nat.Bits.{bit_at-lt, same_from_bits}
-use Rattle.bit_addressing_order.specs.Law.{IsIndexBound, lower, upper, mask_from, IsMaskOf, IsLawful}
+use Rattle.bit_addressing_order.specs.BitOrder.{IsIndexBound, lower, upper, mask_from, IsMaskOf, IsLawful}
 use Rattle.std.proofs.lemmas.Bool.{cases_lt, cases_eq, cases_order}
 use borrow.Author.Count.{below_more}
 use Rattle.bit_addressing_verify.specs.declared.fault.OrderFault.{OrderFault}
 use Rattle.bit_addressing_verify.specs.declared.fault.OrderFault.TheVariants.{Selector, Repeated, Mask}
-use Rattle.bit_addressing_verify.specs.Verify.{IsGoodIndex, AreGoodIndices, IsGoodMask, IsGoodRow}
-use Rattle.bit_addressing_verify.specs.Verify.{AreGoodRows, AreGoodEnds, AreGoodStarts}
-use Rattle.bit_addressing_verify.specs.Verify.{IsFirstFault}
+use Rattle.bit_addressing_verify.specs.OrderFault.{IsGoodIndex, AreGoodIndices, IsGoodMask, IsGoodRow}
+use Rattle.bit_addressing_verify.specs.OrderFault.{AreGoodRows, AreGoodEnds, AreGoodStarts}
+use Rattle.bit_addressing_verify.specs.OrderFault.{IsFirstFault}
 use Rattle.bit_addressing_verify.specs.VerifySteps.{AreWithin, IsIndexFault, IsRowFault, IsPairFault}
 use Rattle.bit_addressing_verify.specs.VerifySteps.{IsEndFault, IsStartFault}
-use Rattle.bit_addressing_order.specs.Digits.{and_selector}
-use Rattle.bit_addressing_order.specs.OrderLaws.{IsMaskOf-mask_from, mask_from_is}
+use Rattle.bit_addressing_order.proofs.DigitLemmas.{and_selector}
+use Rattle.bit_addressing_order.specs.MaskLaws.{IsMaskOf-mask_from, mask_from_is}
 
 -- the position of i is not among those of the indices below
 pub new_position : (at : ℕ → ℕ) (i met s : ℕ) → met ≡ mask_from at 0 i → s ≡ 2 ^ at i → bit_and met s ≡ 0
@@ -171,3 +171,9 @@ lawful_from_checks bits at select mask within good rows ends starts whole = reco
 }
 
 pub ruleset first_faults = (first_of_pair, first_of_end, first_of_start, not_lawful)
+
+pub ruleset indices_so_far = (first_of_index, good_more, within_more)
+
+pub ruleset masks_so_far = (row_more, rows_more, pair_of_row, ends_more, starts_more)
+
+pub ruleset verdicts = (first_faults, lawful_from_checks)

@@ -1,6 +1,6 @@
 //! Whether a candidate is a lawful order at every register.
 
-ghost use Rattle.bit_addressing_verify.specs.Words.{candidate, VerifiesEach};
+ghost use Rattle.bit_addressing_verify.specs.WordFault.{candidate, VerifiesEach};
 
 use crate::check::verify_for_type;
 use crate::fault::WordFault;
@@ -38,20 +38,10 @@ pub fn verify<
         ⟦<C as OrderCandidate<usize>>⟧.masked in
         VerifiesEach result of_u8 of_u16 of_u32 of_u64 of_usize }
 {
-    if let Err(fault) = verify_for_type::<u8, C>() {
-        return Err(WordFault::U8(fault));
-    }
-    if let Err(fault) = verify_for_type::<u16, C>() {
-        return Err(WordFault::U16(fault));
-    }
-    if let Err(fault) = verify_for_type::<u32, C>() {
-        return Err(WordFault::U32(fault));
-    }
-    if let Err(fault) = verify_for_type::<u64, C>() {
-        return Err(WordFault::U64(fault));
-    }
-    if let Err(fault) = verify_for_type::<usize, C>() {
-        return Err(WordFault::Usize(fault));
-    }
+    verify_for_type::<u8, C>().map_err(WordFault::U8)?;
+    verify_for_type::<u16, C>().map_err(WordFault::U16)?;
+    verify_for_type::<u32, C>().map_err(WordFault::U32)?;
+    verify_for_type::<u64, C>().map_err(WordFault::U64)?;
+    verify_for_type::<usize, C>().map_err(WordFault::Usize)?;
     Ok(())
 }

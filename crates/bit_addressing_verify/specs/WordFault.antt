@@ -1,7 +1,7 @@
 -- What `verify` answers: the first register at which a candidate is unlawful, and its first fault there.
 use Rattle.std.specs.Prelude.{ℕ, ◌↔◌, Option, Result, IsOk, IfErr}
-use Rattle.bit_addressing_order.specs.Law.{IsLawful}
-use Rattle.bit_addressing_verify.specs.Verify.{IsFirstFault}
+use Rattle.bit_addressing_order.specs.BitOrder.{IsLawful}
+use Rattle.bit_addressing_verify.specs.OrderFault.{IsFirstFault}
 use Rattle.bit_addressing_verify.specs.declared.fault.OrderFault.{OrderFault}
 use Rattle.bit_addressing_verify.specs.declared.fault.WordFault.{WordFault}
 use Rattle.bit_addressing_verify.specs.declared.fault.WordFault.TheVariants.{U8, U16, U32, U64, Usize}

@@ -9,7 +9,7 @@ use Rattle.std.specs.Int.{bit_at}
 use Rattle.std.proofs.lemmas.Nat.Bits.{and_pow, ones_shr, bit_at-pow_same, bit_at-pow_other}
 use Rattle.std.proofs.lemmas.Nat.Bits.{bit_at-lt, bit_at_or, bit_at_and, bit_at_above}
 use Rattle.std.proofs.lemmas.Nat.Bits.{bit_at_lowest, bit_at-suc}
-use Rattle.bit_addressing_order.specs.Law.{IsSelector}
+use Rattle.bit_addressing_order.specs.BitOrder.{IsSelector}
 
 -- `1 << k` is two to the power k
 pub one_shl : (bits k n : ℕ) → n ≡ 1 → k < bits → n * 2 ^ k % 2 ^ bits ≡ 2 ^ k

@@ -1,7 +1,7 @@
 //! How the bits of a word are counted, with no order of the crates: for a second opinion.
 
 ghost use Rattle.std.specs.Prelude.{◌≡◌, ◌<◌, ◌≤◌};
-ghost use Rattle.bit_addressing_samples.specs.Counts.{counted};
+ghost use Rattle.bit_addressing_sample_orders.specs.Count.{counted};
 
 /// How the bits of a word are counted.
 #[derive(Clone, Copy)]

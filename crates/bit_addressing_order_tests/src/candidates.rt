@@ -1,9 +1,9 @@
 //! Candidates that break one law each.
 
 ghost use Rattle.std.specs.Prelude.{◌≡◌, ◌==◌, ◌&&◌, ℕ, ◌^◌, is_none, if◌then◌else◌};
-ghost use Rattle.bit_addressing_order.specs.Law.{lower, upper, selectors_from, masks_from};
+ghost use Rattle.bit_addressing_order.specs.BitOrder.{lower, upper, selectors_from, masks_from};
 
-use bit_addressing::{BitRegister, OrderCandidate, Positions, mask_from_at, select_from_at};
+use bit_addressing_order::{BitRegister, OrderCandidate, Positions, mask_from_at, select_from_at};
 
 /// Puts every index at position 0, and makes the rest from that.
 #[derive(Clone, Copy)]

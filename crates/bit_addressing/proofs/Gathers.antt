@@ -7,7 +7,7 @@ use Rattle.std.proofs.Common.{below_more}
 use Rattle.std.proofs.lemmas.Bool.{cases_lt}
 use Rattle.std.proofs.lemmas.Bool.Decides.{nat_tests}
 use Rattle.bit_addressing_order.specs.Bits.{with_digit}
-use Rattle.bit_addressing_order.specs.Law.{IsLawful}
+use Rattle.bit_addressing_order.specs.BitOrder.{IsLawful}
 use Rattle.bit_addressing_memory.specs.Memory.{Reading, reading_in, entry}
 use Rattle.bit_addressing_memory.proofs.EntryLemmas.{indexed_same, indexed_other}
 use Rattle.bit_addressing.specs.MoveSteps.{moved_bit, IsGathered, IsOwnFrom}

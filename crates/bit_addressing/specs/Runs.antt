@@ -1,6 +1,6 @@
 -- What a runner does over spans of one memory, of words of b bits: each span's list is edited by its own commands.
 --
--- Where a span lies: `IsInside`, `IsOutside`. What is asked: `AreDisjoint`, `AllFit`.
+-- Where a span lies: `IsInside`, `IsOutside`. What is asked: `AreDisjoint`, `AllFit`; what the spans' type says: `HeadsBelow`.
 -- One command: `CarriesOut`. Its commands and replies: `commands_of`, `replies_of`. A whole run: `Runs`.
 use Rattle.std.specs.Prelude.{ℕ, ◌+◌, ◌*◌, ◌<◌, ◌≤◌, ◌==◌, ◌≡◌, Bool, List, [], ◌∷◌, length, map}
 use Rattle.std.specs.Prelude.{if◌then◌else◌, slice_index_or, All}
@@ -27,6 +27,10 @@ span_at spans s = slice_index_or spans s (extent 0 0 0)
 unfoldable pub AreDisjoint : ℕ → List Extent → Type 0
 AreDisjoint b spans = (s t p : ℕ) → s < t → t < length spans → IsInside b (span_at spans s) p
     → IsOutside b (span_at spans t) p
+
+-- each span begins at an index of a word of b bits
+abbrev pub HeadsBelow : ℕ → List Extent → Type 0
+HeadsBelow b spans = (s : ℕ) → s < length spans → (span_at spans s).head < b
 
 -- the words of each span are among the first n
 abbrev pub AllFit : ℕ → List Extent → ℕ → Type 0

@@ -3,7 +3,7 @@
 ghost use Rattle.std.specs.Prelude.{◌≡◌, ℕ, ◌+◌, ◌<◌, ◌≤◌, ◌↔◌, IsTrue, length};
 ghost use Rattle.bit_addressing_memory.specs.Memory.{read_by};
 ghost use Rattle.bit_addressing_span.specs.Span.{span_place};
-ghost use Rattle.bit_addressing.specs.Runs.{AllFit, AreDisjoint, IsInside, IsOutside, span_at};
+ghost use Rattle.bit_addressing.specs.Runs.{AllFit, AreDisjoint, HeadsBelow, IsInside, IsOutside, span_at};
 ghost use Rattle.bit_addressing.specs.Runs.{CarriesOut, OrderOfSpansIsFree, Runs};
 
 use crate::command::{SpanCommand, SpanReply};
@@ -13,7 +13,10 @@ use bit_addressing_span::BitSpan;
 
 /// Whether no bit is one of two spans'. Spans may share a word, and a span without bits shares none.
 pub fn disjoint<R: BitRegister, O: BitOrder<R>>(spans: &[BitSpan<R, O>]) -> bool
-    ensures { IsTrue result ↔ AreDisjoint R.BITS spans.now }
+    ensures disjoint { IsTrue result ↔ AreDisjoint R.BITS spans.now }
+
+    // What the spans' type says.
+    ensures heads { HeadsBelow R.BITS spans.now }
 {
     for later in 0..spans.len() {
         for earlier in 0..later {
@@ -27,7 +30,10 @@ pub fn disjoint<R: BitRegister, O: BitOrder<R>>(spans: &[BitSpan<R, O>]) -> bool
 
 /// Whether each word of each span is one of the first `words`.
 pub fn all_fit<R: BitRegister, O: BitOrder<R>>(spans: &[BitSpan<R, O>], words: usize) -> bool
-    ensures { IsTrue result ↔ AllFit R.BITS spans.now words }
+    ensures fit { IsTrue result ↔ AllFit R.BITS spans.now words }
+
+    // What the spans' type says.
+    ensures heads { HeadsBelow R.BITS spans.now }
 {
     for k in 0..spans.len() {
         if !spans[k].fits(words) {
@@ -51,6 +57,9 @@ pub fn run<R: BitRegister, O: BitOrder<R>>(
     requires fit { AllFit R.BITS spans.now (length memory.old) }
     requires places { length replies.old ≡ length commands.now }
     ensures run { Runs (read_by R.BitRegister O.position) memory.old memory.new spans.now commands.now replies.new }
+
+    // What the spans' type says.
+    ensures heads { HeadsBelow R.BITS spans.now }
 {
     for k in 0..commands.len() {
         let (number, command) = commands[k];

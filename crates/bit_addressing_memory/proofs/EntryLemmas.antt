@@ -11,7 +11,7 @@ use Rattle.std.proofs.lemmas.List.{get_or-set_other, get_or_past}
 use Rattle.std.proofs.lemmas.Nat.{div-mul-add, mod-mul-add, div-add-mod', div_below, mod_below}
 use Rattle.bit_addressing_order.proofs.CallerLemmas.{digit_at-with_digit_same, digit_at-with_digit_other}
 use Rattle.bit_addressing_order.specs.Bits.{digit_at, with_digit}
-use Rattle.bit_addressing_order.specs.Law.{IsLawful}
+use Rattle.bit_addressing_order.specs.BitOrder.{IsLawful}
 use Rattle.bit_addressing_memory.proofs.OverwriteLemmas.{writes_from}
 use Rattle.bit_addressing_memory.specs.Memory.{Reading, entry, indexed, reading_in, Writes}
 

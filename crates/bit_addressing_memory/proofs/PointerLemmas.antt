@@ -8,7 +8,7 @@ use Rattle.std.proofs.lemmas.Int.{ints, fits_signed_from_abs, fits_signed_mul, u
 use Rattle.std.specs.Int.{w64, w128}
 use mir.Val.{to_z, of_z}
 use Rattle.std.specs.Int.RustNames.{FitsSigned, unsigned_abs}
-use Rattle.bit_addressing_order.specs.Index.{IsOffset}
+use Rattle.bit_addressing_order.specs.BitIdx.{IsOffset}
 use Rattle.bit_addressing_memory.proofs.PlaceLemmas.{word_within}
 use Rattle.bit_addressing_memory.specs.Pointer.{Pointer, StaysIn, whole_place}
 use Rattle.bit_addressing_memory.specs.PointerRange.{PointerRange, IsRange, bits_between, pointers-none}

@@ -2,7 +2,7 @@
 use Rattle.std.specs.Prelude.{ℕ, ℤ, ◌≡◌, ◌+◌, ◌*◌, ◌^◌, ◌<◌, ◌≤◌, pos, ◌+ℤ◌, ◌*ℤ◌, neg_ℤ, ◌<ℤ◌, ◌≤ℤ◌}
 use Rattle.std.specs.Int.{w64, int_wrap}
 use Rattle.std.specs.Int.RustNames.{unsigned_abs}
-use Rattle.bit_addressing_order.specs.Index.{IsOffset}
+use Rattle.bit_addressing_order.specs.BitIdx.{IsOffset}
 
 -- what a pointer is seen as: the number of its word, and the index of its bit there
 pub record Pointer : Type 0 where

@@ -5,7 +5,7 @@
 ghost use Rattle.std.specs.Prelude.{◌≡◌, ◌↔◌, IsTrue, ◌+◌, ◌*◌, ◌^◌, ◌<◌, ◌≤◌, pos, ◌+ℤ◌, ◌-ℤ◌, ◌*ℤ◌, neg_ℤ, FitsSigned};
 ghost use Rattle.std.specs.Int.{w64, int_wrap};
 ghost use Rattle.std.specs.Int.RustNames.{unsigned_abs};
-ghost use Rattle.bit_addressing_order.specs.Index.{IsOffset};
+ghost use Rattle.bit_addressing_order.specs.BitIdx.{IsOffset};
 ghost use Rattle.bit_addressing_memory.specs.Pointer.{whole_place, StaysIn, WrapsTo};
 
 use crate::place::Place;

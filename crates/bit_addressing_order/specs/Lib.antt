@@ -9,6 +9,3 @@ pub mod Text
 -- the words of registers
 pub use Rattle.bit_addressing_register.specs.BitRegister
 pub use Rattle.bit_addressing_register.specs.RegisterLaws
--- former names
-pub use Rattle.bit_addressing_order.specs.BitIdx as Index
-pub use Rattle.bit_addressing_order.specs.BitOrder as Law

@@ -3,7 +3,7 @@ use Rattle.std.proofs.Common.{◌≡◌, ◌≢◌, ℕ, ◌<◌, ◌≤◌, ◌
 use Rattle.std.proofs.lemmas.Nat.Bits.{bit_at_and, bit_at-lt}
 use Rattle.std.specs.Int.{bit_at}
 use Rattle.bit_addressing_order.proofs.CallerLemmas.{mask_has}
-use Rattle.bit_addressing_order.specs.Law.{IsLawful}
+use Rattle.bit_addressing_order.specs.BitOrder.{IsLawful}
 use Rattle.bit_addressing_memory.specs.Memory.{reading_in}
 use Rattle.bit_addressing_span.specs.Partial.{part_mask, IsMasked}
 

@@ -110,15 +110,14 @@ impl<R: BitRegister, O: BitOrder<R>> BitPtrRange<R, O> {
     pub fn start(&self) -> BitPtr<R, O>
         ensures { result ≡ self.now.start }
     {
-        self.start
+        self.ends().0
     }
 
     /// The pointer before which it ends.
-    #[tactic(auto, using(crate::specs::PointerRange::end_seen))]
     pub fn end(&self) -> BitPtr<R, O>
         ensures { result ≡ end_of R.BITS self.now }
     {
-        self.end
+        self.ends().1
     }
 
     /// Whether it has no pointer.
@@ -126,6 +125,15 @@ impl<R: BitRegister, O: BitOrder<R>> BitPtrRange<R, O> {
         ensures { IsTrue result ↔ (self.now.len ≡ 0) }
     {
         self.bits_left() == 0
+    }
+
+    // The pointer that the range begins with, and the one before which it ends.
+    #[tactic(auto, using(crate::specs::PointerRange::end_seen))]
+    fn ends(&self) -> (BitPtr<R, O>, BitPtr<R, O>)
+        ensures start { result.0 ≡ self.now.start }
+        ensures end { result.1 ≡ end_of R.BITS self.now }
+    {
+        (self.start, self.end)
     }
 
     // How many pointers it has.

@@ -5,10 +5,10 @@
 use Rattle.std.proofs.Common.{◌≡◌, ◌≢◌, ℕ, zero, suc, ◌+◌, ◌-◌, ◌*◌, ◌<◌, ◌≤◌, ◌==◌, ◌⊎◌, Bool, false}
 use Rattle.std.proofs.Common.{List, [], ◌∷◌, ◌++◌, length, get_or, refl, sym, ap, ◌∙◌, inl, inr, arith}
 use Rattle.std.proofs.lemmas.Bool.{cases_eq, cases_lt, cases_Bool, eq-eqb, ne_eqb}
-use Rattle.std.proofs.lemmas.List.{ext_get_or, length-take, length-drop, map_push}
+use Rattle.std.proofs.lemmas.List.{ext_get_or, get_or_default, length-take, length-drop, map_push}
 use Rattle.std.proofs.lemmas.List.Elements.{All-push, All-nil}
-use Rattle.bit_addressing_memory.specs.Memory.{entry, memory, piece}
-use Rattle.bit_addressing_span.specs.Span.{Extent}
+use Rattle.bit_addressing_memory.specs.Memory.{Reading, entry, memory, piece}
+use Rattle.bit_addressing_span.specs.Span.{Extent, extent, span_bits, span_place}
 use Rattle.bit_addressing_memory.proofs.MemoryLemmas.{entry_memory, get_or-piece, length-memory, same_memory}
 use Rattle.bit_addressing.specs.declared.command.SpanCommand.{SpanCommand}
 use Rattle.bit_addressing.specs.declared.command.SpanReply.{SpanReply}
@@ -16,7 +16,6 @@ use Rattle.bit_addressing.specs.declared.command.SpanReply.TheVariants.{Refused}
 use Rattle.bit_addressing.specs.Own.{own_after, own_answer, own_answers, own_list, seen}
 use Rattle.bit_addressing.specs.Runs.{AreDisjoint, CarriesOut, IsInside, IsOutside, OrderOfSpansIsFree}
 use Rattle.bit_addressing.specs.Runs.{Runs, commands_of, replies_of, span_at}
-use Rattle.bit_addressing.specs.Runs.{span_bits, span_place}
 
 -- ---- lists with one more at their end
 
@@ -71,24 +70,25 @@ replies_of_other s (x ∷ xs) next (y ∷ ys) reply same other =
     ]
 
 -- a list after one more command
-own_list-push : {R : Type 0} (b : ℕ) (digit : R → ℕ → Bool) (head : ℕ) (commands : List (SpanCommand R))
+own_list-push : {R : Type 0} (reading : Reading R) (head : ℕ) (commands : List (SpanCommand R))
     (next : SpanCommand R) (bits : List Bool)
-    → own_list b digit head (commands ++ next ∷ []) bits
-    ≡ own_after b digit head next (own_list b digit head commands bits)
+    → own_list reading head (commands ++ next ∷ []) bits
+    ≡ own_after reading head next (own_list reading head commands bits)
 unfolding own_list
-own_list-push b digit head [] next bits = refl
-own_list-push b digit head (x ∷ xs) next bits = own_list-push b digit head xs next (own_after b digit head x bits)
+own_list-push reading head [] next bits = refl
+own_list-push reading head (x ∷ xs) next bits = own_list-push reading head xs next (own_after reading head x bits)
 
 -- and what is answered to it
-own_answers-push : {R : Type 0} (b : ℕ) (digit : R → ℕ → Bool) (head : ℕ) (commands : List (SpanCommand R))
+own_answers-push : {R : Type 0} (reading : Reading R) (head : ℕ) (commands : List (SpanCommand R))
     (next : SpanCommand R) (bits : List Bool)
-    → own_answers b digit head (commands ++ next ∷ []) bits
-    ≡ own_answers b digit head commands bits ++ own_answer b head next (own_list b digit head commands bits) ∷ []
+    → own_answers reading head (commands ++ next ∷ []) bits
+    ≡ own_answers reading head commands bits ++ own_answer reading.bits head next
+    (own_list reading head commands bits) ∷ []
 unfolding own_answers own_list
-own_answers-push b digit head [] next bits = refl
-own_answers-push b digit head (x ∷ xs) next bits =
-    ap (λ rest. own_answer b head x bits ∷ rest)
-    (own_answers-push b digit head xs next (own_after b digit head x bits))
+own_answers-push reading head [] next bits = refl
+own_answers-push reading head (x ∷ xs) next bits =
+    ap (λ rest. own_answer reading.bits head x bits ∷ rest)
+    (own_answers-push reading head xs next (own_after reading head x bits))
 
 -- ---- spans
 
@@ -102,44 +102,42 @@ unfolding piece
 piece_short xs p n = simp length-take (omega arith)
 
 -- the bits of a span whose entries are as before
-pub span_bits_same : {R : Type 0} (b : ℕ) (digit : R → ℕ → Bool) (before after : List R) (span : Extent) → 0 < b
+pub span_bits_same : {R : Type 0} (reading : Reading R) (before after : List R) (span : Extent) → 0 < reading.bits
     → length after ≡ length before
-    → ((p : ℕ) → IsInside b span p → entry b digit after p ≡ entry b digit before p)
-    → span_bits b digit after span ≡ span_bits b digit before span
-unfolding span_bits
-span_bits_same b digit before after span some same equal =
-    let old = memory b digit before in
-    let new = memory b digit after in
-    let first : ℕ = span_place b span in
+    → ((p : ℕ) → IsInside reading.bits span p → entry reading after p ≡ entry reading before p)
+    → span_bits reading after span ≡ span_bits reading before span
+span_bits_same reading before after span some same equal =
+    let old = memory reading before in
+    let new = memory reading after in
+    let first : ℕ = span_place reading.bits span in
     let size : length new ≡ length old =
-    length-memory b digit after ∙ ap (λ n. n * b) same ∙ sym (length-memory b digit before) in
+    length-memory reading after ∙ ap (λ n. n * reading.bits) same ∙ sym (length-memory reading before) in
     ext_get_or false (piece new first span.len) (piece old first span.len)
     (length-pieces new old first span.len size)
     (λ k within.
     let small : k < span.len = omega (arith, piece_short new first span.len) in
     get_or-piece new first span.len k false small
-    ∙ entry_memory b digit after (first + k) some
+    ∙ entry_memory reading after (first + k) some
     ∙ equal (first + k) (omega arith, omega arith)
-    ∙ sym (entry_memory b digit before (first + k) some)
+    ∙ sym (entry_memory reading before (first + k) some)
     ∙ sym (get_or-piece old first span.len k false small))
 
 -- and the entries of a span of the same bits
-pub span_entries : {R : Type 0} (b : ℕ) (digit : R → ℕ → Bool) (one other : List R) (span : Extent) (p : ℕ) → 0 < b
-    → span_bits b digit one span ≡ span_bits b digit other span → IsInside b span p
-    → entry b digit one p ≡ entry b digit other p
-unfolding span_bits
-span_entries b digit one other span p some same inside =
-    let first : ℕ = span_place b span in
+pub span_entries : {R : Type 0} (reading : Reading R) (one other : List R) (span : Extent) (p : ℕ) → 0 < reading.bits
+    → span_bits reading one span ≡ span_bits reading other span → IsInside reading.bits span p
+    → entry reading one p ≡ entry reading other p
+span_entries reading one other span p some same inside =
+    let first : ℕ = span_place reading.bits span in
     let k : ℕ = p - first in
     let at : first + k ≡ p = omega arith in
     let small : k < span.len = omega arith in
-    ap (entry b digit one) (sym at)
-    ∙ sym (entry_memory b digit one (first + k) some)
-    ∙ sym (get_or-piece (memory b digit one) first span.len k false small)
+    ap (entry reading one) (sym at)
+    ∙ sym (entry_memory reading one (first + k) some)
+    ∙ sym (get_or-piece (memory reading one) first span.len k false small)
     ∙ ap (λ bits. get_or bits k false) same
-    ∙ get_or-piece (memory b digit other) first span.len k false small
-    ∙ entry_memory b digit other (first + k) some
-    ∙ ap (entry b digit other) at
+    ∙ get_or-piece (memory reading other) first span.len k false small
+    ∙ entry_memory reading other (first + k) some
+    ∙ ap (entry reading other) at
 
 -- no place is in two spans of other numbers
 outside_other : (b : ℕ) (spans : List Extent) (s t p : ℕ) → AreDisjoint b spans → s < length spans
@@ -160,10 +158,10 @@ outside_other b spans s t p apart in_s in_t ne inside = elim (cases_lt t s) [
 -- ---- a run
 
 -- no command yet
-pub runs_none : {R : Type 0} (b : ℕ) (digit : R → ℕ → Bool) (before : List R) (spans : List Extent)
-    → Runs b digit before before spans [] []
+pub runs_none : {R : Type 0} (reading : Reading R) (before : List R) (spans : List Extent)
+    → Runs reading before before spans [] []
 unfolding own_answers own_list commands_of replies_of
-runs_none b digit before spans = record {
+runs_none reading before spans = record {
   replied = λ s _. refl;
   lists = λ s _. refl;
   refused = λ s _. All-nil (λ reply. reply ≡ Refused);
@@ -172,32 +170,32 @@ runs_none b digit before spans = record {
 }
 
 -- one more, at a span
-pub runs_carried : {R : Type 0} (b : ℕ) (digit : R → ℕ → Bool) (before now after : List R) (spans : List Extent)
+pub runs_carried : {R : Type 0} (reading : Reading R) (before now after : List R) (spans : List Extent)
     (commands : List (ℕ × SpanCommand R)) (replies : List (SpanReply R)) (next : ℕ × SpanCommand R)
-    (reply : SpanReply R) → 0 < b → AreDisjoint b spans → length commands ≡ length replies
-    → next.0 < length spans → CarriesOut b digit now after (span_at spans next.0) next.1 reply
-    → Runs b digit before now spans commands replies
-    → Runs b digit before after spans (commands ++ next ∷ []) (replies ++ reply ∷ [])
-runs_carried b digit before now after spans commands replies next reply some apart same within is run =
+    (reply : SpanReply R) → 0 < reading.bits → AreDisjoint reading.bits spans → length commands ≡ length replies
+    → next.0 < length spans → CarriesOut reading now after (span_at spans next.0) next.1 reply
+    → Runs reading before now spans commands replies
+    → Runs reading before after spans (commands ++ next ∷ []) (replies ++ reply ∷ [])
+runs_carried reading before now after spans commands replies next reply some apart same within is run =
     let kept = λ (t : ℕ) (in_t : t < length spans) (ne : next.0 ≢ t).
-    span_bits_same b digit now after (span_at spans t) some is.words
-    (λ p inside. is.others p (outside_other b spans next.0 t p apart within in_t ne inside)) in
+    span_bits_same reading now after (span_at spans t) some is.words
+    (λ p inside. is.others p (outside_other reading.bits spans next.0 t p apart within in_t ne inside)) in
     let replied_more = λ (t : ℕ) (own : next.0 ≡ t) (in_t : t < length spans).
     let here = rw own at is in
     let head : ℕ = (span_at spans t).head in
     let own_commands = commands_of t commands in
-    let bits = span_bits b digit before (span_at spans t) in
-    map_push (seen b digit) (replies_of t commands replies) reply
-    ∙ ap (λ rs. rs ++ seen b digit reply ∷ []) (run.replied t in_t)
-    ∙ ap (λ r. own_answers b digit head own_commands bits ++ r ∷ [])
-    (here.replied ∙ ap (own_answer b head next.1) (run.lists t in_t))
-    ∙ sym (own_answers-push b digit head own_commands next.1 bits) in
+    let bits = span_bits reading before (span_at spans t) in
+    map_push (seen reading) (replies_of t commands replies) reply
+    ∙ ap (λ rs. rs ++ seen reading reply ∷ []) (run.replied t in_t)
+    ∙ ap (λ r. own_answers reading head own_commands bits ++ r ∷ [])
+    (here.replied ∙ ap (own_answer reading.bits head next.1) (run.lists t in_t))
+    ∙ sym (own_answers-push reading head own_commands next.1 bits) in
     let listed_more = λ (t : ℕ) (own : next.0 ≡ t) (in_t : t < length spans).
     let here = rw own at is in
     let head : ℕ = (span_at spans t).head in
     here.list
-    ∙ ap (own_after b digit head next.1) (run.lists t in_t)
-    ∙ sym (own_list-push b digit head (commands_of t commands) next.1 (span_bits b digit before (span_at spans t))) in
+    ∙ ap (own_after reading head next.1) (run.lists t in_t)
+    ∙ sym (own_list-push reading head (commands_of t commands) next.1 (span_bits reading before (span_at spans t))) in
     record {
       replied = λ t in_t. elim (cases_eq next.0 t) [
         | inl own ↦
@@ -219,12 +217,12 @@ runs_carried b digit before now after spans commands replies next reply some apa
     }
 
 -- one more, at no span
-pub runs_refused : {R : Type 0} (b : ℕ) (digit : R → ℕ → Bool) (before now : List R) (spans : List Extent)
+pub runs_refused : {R : Type 0} (reading : Reading R) (before now : List R) (spans : List Extent)
     (commands : List (ℕ × SpanCommand R)) (replies : List (SpanReply R)) (next : ℕ × SpanCommand R)
     (reply : SpanReply R) → length commands ≡ length replies → length spans ≤ next.0 → reply ≡ Refused
-    → Runs b digit before now spans commands replies
-    → Runs b digit before now spans (commands ++ next ∷ []) (replies ++ reply ∷ [])
-runs_refused b digit before now spans commands replies next reply same past is run = record {
+    → Runs reading before now spans commands replies
+    → Runs reading before now spans (commands ++ next ∷ []) (replies ++ reply ∷ [])
+runs_refused reading before now spans commands replies next reply same past is run = record {
   replied = λ t in_t.
       let ne : next.0 ≢ t = omega arith in
       rw (replies_of_other t commands next replies reply same ne, commands_of_other t commands next ne)
@@ -269,24 +267,29 @@ span_of b spans p (suc n) = elim (span_of b spans p n) [
   ]
 ]
 
-pub order_is_free : {R : Type 0} (b : ℕ) (digit : R → ℕ → Bool) → 0 < b → OrderOfSpansIsFree b digit
-order_is_free b digit some before one other spans commands others replies answers same run runs = (
+pub order_is_free : {R : Type 0} (reading : Reading R) → 0 < reading.bits → OrderOfSpansIsFree reading
+order_is_free reading some before one other spans commands others replies answers same run runs = (
   λ s in_s.
       run.replied s in_s
-      ∙ ap (λ cs. own_answers b digit (span_at spans s).head cs (span_bits b digit before (span_at spans s)))
+      ∙ ap (λ cs. own_answers reading (span_at spans s).head cs (span_bits reading before (span_at spans s)))
       (same s in_s)
       ∙ sym (runs.replied s in_s),
-  same_memory b digit one other some (run.words ∙ sym runs.words) (λ p _.
-      elim (span_of b spans p (length spans)) [
+  same_memory reading one other some (run.words ∙ sym runs.words) (λ p _.
+      elim (span_of reading.bits spans p (length spans)) [
         | inl found ↦
             let s : ℕ = found.0 in
             let in_s : s < length spans = found.1 in
             let bits =
             run.lists s in_s
-            ∙ ap (λ cs. own_list b digit (span_at spans s).head cs (span_bits b digit before (span_at spans s)))
+            ∙ ap (λ cs. own_list reading (span_at spans s).head cs (span_bits reading before (span_at spans s)))
             (same s in_s)
             ∙ sym (runs.lists s in_s) in
-            span_entries b digit one other (span_at spans s) p some bits found.2
+            span_entries reading one other (span_at spans s) p some bits found.2
         | inr out ↦ run.others p out ∙ sym (runs.others p out)
       ]),
 )
+
+-- a span read by its number is the span of that number
+pub span_read : (spans : List Extent) (k : ℕ) (span : Extent) → k < length spans → span ≡ get_or spans k span
+    → span ≡ span_at spans k
+span_read spans k span within is = is ∙ get_or_default spans k span (extent 0 0 0) within

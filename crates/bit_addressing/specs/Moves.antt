@@ -1,11 +1,11 @@
 -- What a move of bits inside one memory does, and how many words it changes.
 use Rattle.std.specs.Prelude.{ℕ, ◌+◌, ◌==◌, Bool, List, [], ◌∷◌, if◌then◌else◌}
-use Rattle.bit_addressing_memory.specs.Memory.{Copies}
+use Rattle.bit_addressing_memory.specs.Memory.{Reading, Copies}
 
 -- after is before with the len entries from target on made what those from source on were: each other entry
 -- is as before, and there are as many words
-abbrev pub Moves : {R : Type 0} → ℕ → (R → ℕ → Bool) → List R → List R → ℕ → ℕ → ℕ → Type 0
-Moves b digit before after source target len = Copies b digit before after b digit before source target len
+abbrev pub Moves : {R : Type 0} → Reading R → List R → List R → ℕ → ℕ → ℕ → Type 0
+Moves reading before after source target len = Copies reading before after reading before source target len
 
 -- how many words of one list hold another number than those of the other list
 unfoldable pub changed : {R : Type 0} → (R → ℕ) → List R → List R → ℕ

@@ -6,7 +6,7 @@
 use Rattle.std.specs.Prelude.{ℕ, ◌+◌, ◌-◌, ◌*◌, ◌/◌, ◌%◌, ◌==◌, ◌&&◌, Bool, true, false, not, List, [], ◌∷◌}
 use Rattle.std.specs.Prelude.{length, map, if◌then◌else◌, nat_le, nat_lt, slice_index_or, slice_set}
 use Rattle.std.specs.List.{range_with_len}
-use Rattle.bit_addressing_memory.specs.Memory.{digits, piece, touched, with_piece}
+use Rattle.bit_addressing_memory.specs.Memory.{Reading, digits, piece, with_piece, touched}
 use Rattle.bit_addressing.specs.declared.command.SpanCommand.{SpanCommand}
 use Rattle.bit_addressing.specs.declared.command.SpanCommand.TheVariants.{Load, Store, Set, Clear, Invert}
 use Rattle.bit_addressing.specs.declared.command.SpanCommand.TheVariants.{Read, Replace, Swap, Copy}
@@ -43,22 +43,22 @@ over_word b head k now bits =
     (range_with_len 0 (length bits))
 
 -- what a command with its numbers in range makes of the list
-abbrev pub own_edit : {R : Type 0} → ℕ → (R → ℕ → Bool) → ℕ → SpanCommand R → List Bool → List Bool
-own_edit b digit head (Load k) bits = bits
-own_edit b digit head (Store k word) bits = over_word b head k (λ i _. digit word i) bits
-own_edit b digit head (Set k) bits = over_word b head k (λ _ _. true) bits
-own_edit b digit head (Clear k) bits = over_word b head k (λ _ _. false) bits
-own_edit b digit head (Invert k) bits = over_word b head k (λ _ was. not was) bits
-own_edit b digit head (Read i) bits = bits
-own_edit b digit head (Replace i bit) bits = slice_set bits i bit
-own_edit b digit head (Swap i j) bits =
+abbrev pub own_edit : {R : Type 0} → Reading R → ℕ → SpanCommand R → List Bool → List Bool
+own_edit reading head (Load k) bits = bits
+own_edit reading head (Store k word) bits = over_word reading.bits head k (λ i _. reading.digit word i) bits
+own_edit reading head (Set k) bits = over_word reading.bits head k (λ _ _. true) bits
+own_edit reading head (Clear k) bits = over_word reading.bits head k (λ _ _. false) bits
+own_edit reading head (Invert k) bits = over_word reading.bits head k (λ _ was. not was) bits
+own_edit reading head (Read i) bits = bits
+own_edit reading head (Replace i bit) bits = slice_set bits i bit
+own_edit reading head (Swap i j) bits =
     slice_set (slice_set bits i (slice_index_or bits j false)) j (slice_index_or bits i false)
-own_edit b digit head (Copy from to count) bits = with_piece bits to (piece bits from count)
+own_edit reading head (Copy from to count) bits = with_piece bits to (piece bits from count)
 
 -- what a command makes of the list: nothing, where a number is out of range
-unfoldable pub own_after : {R : Type 0} → ℕ → (R → ℕ → Bool) → ℕ → SpanCommand R → List Bool → List Bool
-own_after b digit head command bits =
-    if lies_in b head (length bits) command then own_edit b digit head command bits else bits
+unfoldable pub own_after : {R : Type 0} → Reading R → ℕ → SpanCommand R → List Bool → List Bool
+own_after reading head command bits =
+    if lies_in reading.bits head (length bits) command then own_edit reading head command bits else bits
 
 -- what is answered to a command with its numbers in range, a word by its digits: what stood in the list
 abbrev pub own_reading : {R : Type 0} → ℕ → ℕ → SpanCommand R → List Bool → SpanReply (List Bool)
@@ -78,20 +78,20 @@ own_answer b head command bits =
     if lies_in b head (length bits) command then own_reading b head command bits else Refused
 
 -- the list after one command after another
-unfoldable pub own_list : {R : Type 0} → ℕ → (R → ℕ → Bool) → ℕ → List (SpanCommand R) → List Bool → List Bool
-own_list b digit head [] bits = bits
-own_list b digit head (command ∷ rest) bits = own_list b digit head rest (own_after b digit head command bits)
+unfoldable pub own_list : {R : Type 0} → Reading R → ℕ → List (SpanCommand R) → List Bool → List Bool
+own_list reading head [] bits = bits
+own_list reading head (command ∷ rest) bits = own_list reading head rest (own_after reading head command bits)
 
 -- what is answered to one command after another
-unfoldable pub own_answers : {R : Type 0} → ℕ → (R → ℕ → Bool) → ℕ → List (SpanCommand R) → List Bool
+unfoldable pub own_answers : {R : Type 0} → Reading R → ℕ → List (SpanCommand R) → List Bool
     → List (SpanReply (List Bool))
-own_answers b digit head [] bits = []
-own_answers b digit head (command ∷ rest) bits =
-    own_answer b head command bits ∷ own_answers b digit head rest (own_after b digit head command bits)
+own_answers reading head [] bits = []
+own_answers reading head (command ∷ rest) bits =
+    own_answer reading.bits head command bits ∷ own_answers reading head rest (own_after reading head command bits)
 
 -- a reply with its word, where it has one, by its digits
-abbrev pub seen : {R : Type 0} → ℕ → (R → ℕ → Bool) → SpanReply R → SpanReply (List Bool)
-seen b digit (Word word) = Word (digits b digit word)
-seen b digit (Bit bit) = Bit bit
-seen b digit Done = Done
-seen b digit Refused = Refused
+abbrev pub seen : {R : Type 0} → Reading R → SpanReply R → SpanReply (List Bool)
+seen reading (Word word) = Word (digits reading word)
+seen reading (Bit bit) = Bit bit
+seen reading Done = Done
+seen reading Refused = Refused

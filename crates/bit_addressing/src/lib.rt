@@ -2,9 +2,9 @@
 //! itself, moves of bits by it, and a runner of commands over spans of one memory.
 #![tactic(auto)]
 
-mod carry;
 mod command;
 mod moves;
+mod one_command;
 mod runner;
 mod sweep;
 
@@ -14,8 +14,8 @@ pub use bit_addressing_memory::{
 };
 pub use bit_addressing_order::{
     AllOrNone, BitEnd, BitIdx, BitIdxError, BitMask, BitOrder, BitPos, BitRegister, BitSel,
-    EndRange, IndexRange, Limits, LocalBits, Lsb0, Msb0, OrderCandidate, Positions, SelectorRange,
-    disjoint_masks, mask_from_at, mem, select_from_at,
+    EndRange, IndexRange, Limits, LocalBits, Lsb0, Msb0, OrderCandidate, Place, PlaceRange,
+    Positions, SelectorRange, disjoint_masks, mask_from_at, mem, select_from_at,
 };
 pub use bit_addressing_span::{
     BitSpan, BitSpanError, Domain, DomainMut, DomainWords, MAX_BITS, PartialElement,

@@ -1,12 +1,13 @@
 //! Commands at disjoint spans of one memory.
 
 ghost use Rattle.std.specs.Prelude.{◌≡◌, ℕ, ◌+◌, ◌<◌, ◌≤◌, ◌↔◌, IsTrue, length};
-ghost use Rattle.bit_addressing_memory.specs.Memory.{indexed};
-ghost use Rattle.bit_addressing.specs.Runs.{AllFit, AreDisjoint, IsInside, IsOutside, span_at, span_place};
+ghost use Rattle.bit_addressing_memory.specs.Memory.{read_by};
+ghost use Rattle.bit_addressing_span.specs.Span.{span_place};
+ghost use Rattle.bit_addressing.specs.Runs.{AllFit, AreDisjoint, HeadsBelow, IsInside, IsOutside, span_at};
 ghost use Rattle.bit_addressing.specs.Runs.{CarriesOut, OrderOfSpansIsFree, Runs};
 
-use crate::carry::carry_out;
 use crate::command::{SpanCommand, SpanReply};
+use crate::one_command::run_one;
 use bit_addressing_order::{BitOrder, BitRegister};
 use bit_addressing_span::BitSpan;
 
@@ -16,7 +17,7 @@ pub fn disjoint<R: BitRegister, O: BitOrder<R>>(spans: &[BitSpan<R, O>]) -> bool
 {
     for later in 0..spans.len() {
         for earlier in 0..later {
-            if !are_apart(span_of(spans, earlier), span_of(spans, later)) {
+            if !are_apart(spans[earlier], spans[later]) {
                 return false;
             }
         }
@@ -26,10 +27,13 @@ pub fn disjoint<R: BitRegister, O: BitOrder<R>>(spans: &[BitSpan<R, O>]) -> bool
 
 /// Whether each word of each span is one of the first `words`.
 pub fn all_fit<R: BitRegister, O: BitOrder<R>>(spans: &[BitSpan<R, O>], words: usize) -> bool
-    ensures { IsTrue result ↔ AllFit R.BITS spans.now words }
+    ensures fit { IsTrue result ↔ AllFit R.BITS spans.now words }
+
+    // What the spans' type says, told where each was looked at.
+    ensures heads { IsTrue result → HeadsBelow R.BITS spans.now }
 {
     for k in 0..spans.len() {
-        if !span_of(spans, k).fits(words) {
+        if !spans[k].fits(words) {
             return false;
         }
     }
@@ -49,22 +53,22 @@ pub fn run<R: BitRegister, O: BitOrder<R>>(
     requires disjoint { AreDisjoint R.BITS spans.now }
     requires fit { AllFit R.BITS spans.now (length memory.old) }
     requires places { length replies.old ≡ length commands.now }
-    ensures run { Runs R.BITS (indexed R.number O.position) memory.old memory.new spans.now commands.now replies.new }
+    ensures run { Runs (read_by R.BitRegister O.position) memory.old memory.new spans.now commands.now replies.new }
 {
     for k in 0..commands.len() {
         let (number, command) = commands[k];
-        replies[k] = carry_out_at(memory, spans, number, command);
+        replies[k] = run_at(memory, spans, number, command);
     }
 }
 
 /// Two lists of commands that keep each span's own commands in their order give each span the same replies and
 /// end in the same memory: a law, which the contract states.
 pub fn order_of_spans_is_free<R: BitRegister, O: BitOrder<R>>()
-    ensures { OrderOfSpansIsFree R.BITS (indexed R.number O.position) }
+    ensures { OrderOfSpansIsFree (read_by R.BitRegister O.position) }
 {}
 
 // Carries one command out at the span of a number, where there is one.
-fn carry_out_at<R: BitRegister, O: BitOrder<R>>(
+fn run_at<R: BitRegister, O: BitOrder<R>>(
     memory: &mut [R],
     spans: &[BitSpan<R, O>],
     number: usize,
@@ -72,7 +76,7 @@ fn carry_out_at<R: BitRegister, O: BitOrder<R>>(
 ) -> SpanReply<R>
     requires fit { AllFit R.BITS spans.now (length memory.old) }
     ensures carried { number < length spans.now
-        → CarriesOut R.BITS (indexed R.number O.position) memory.old memory.new
+        → CarriesOut (read_by R.BitRegister O.position) memory.old memory.new
         (span_at spans.now number) command result }
     ensures refused { length spans.now ≤ number → result ≡ SpanReply.Refused }
     ensures same { length spans.now ≤ number → memory.new ≡ memory.old }
@@ -80,15 +84,7 @@ fn carry_out_at<R: BitRegister, O: BitOrder<R>>(
     if number >= spans.len() {
         return SpanReply::Refused;
     }
-    carry_out(memory, span_of(spans, number), command)
-}
-
-// The span of a number, and one without bits where there is none. A span whose order is not known to be `Copy` is
-// not read by an index.
-fn span_of<R: BitRegister, O: BitOrder<R>>(spans: &[BitSpan<R, O>], number: usize) -> BitSpan<R, O>
-    ensures { result ≡ span_at spans.now number }
-{
-    spans.get(number).copied().unwrap_or_default()
+    run_one(memory, spans[number], command)
 }
 
 // Whether no bit is in both spans.

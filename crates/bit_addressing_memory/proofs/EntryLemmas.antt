@@ -11,54 +11,59 @@ use Rattle.std.proofs.lemmas.List.{get_or-set_other, get_or_past}
 use Rattle.std.proofs.lemmas.Nat.{div-mul-add, mod-mul-add, div-add-mod', div_below, mod_below}
 use Rattle.bit_addressing_order.proofs.CallerLemmas.{digit_at-with_digit_same, digit_at-with_digit_other}
 use Rattle.bit_addressing_order.specs.Bits.{digit_at, with_digit}
-use Rattle.bit_addressing_order.specs.Law.{IsLawful}
-use Rattle.bit_addressing_memory.specs.Memory.{entry, indexed, Writes}
+use Rattle.bit_addressing_order.specs.BitOrder.{IsLawful}
+use Rattle.bit_addressing_memory.proofs.OverwriteLemmas.{writes_from}
+use Rattle.bit_addressing_memory.specs.Memory.{Reading, entry, indexed, reading_in, Writes}
 
 -- the entry of the word j at index i
-pub entry_at : {R : Type 0} (b : ℕ) (digit : R → ℕ → Bool) (words : List R) (j i : ℕ) (d : R) → i < b
-    → j < length words → entry b digit words (j * b + i) ≡ digit (get_or words j d) i
+pub entry_at : {R : Type 0} (reading : Reading R) (words : List R) (j i : ℕ) (d : R) → i < reading.bits
+    → j < length words → entry reading words (j * reading.bits + i) ≡ reading.digit (get_or words j d) i
 unfolding entry
-entry_at b digit words j i d low h =
-    rw (div-mul-add j b i low, mod-mul-add j b i low) (get_or-map (λ w. digit w i) words j d false h)
+entry_at reading words j i d low h =
+    rw (div-mul-add j reading.bits i low, mod-mul-add j reading.bits i low)
+    (get_or-map (λ w. reading.digit w i) words j d false h)
 
 -- a word read at j has the entries of that word
-pub entry_read : {R : Type 0} (b : ℕ) (digit : R → ℕ → Bool) (words : List R) (j i : ℕ) (x : R) → i < b
-    → j < length words → x ≡ get_or words j x → digit x i ≡ entry b digit words (j * b + i)
-entry_read b digit words j i x low h e = ap (λ w. digit w i) e ∙ sym (entry_at b digit words j i x low h)
+pub entry_read : {R : Type 0} (reading : Reading R) (words : List R) (j i : ℕ) (x : R) → i < reading.bits
+    → j < length words → x ≡ get_or words j x → reading.digit x i ≡ entry reading words (j * reading.bits + i)
+entry_read reading words j i x low h e = ap (λ w. reading.digit w i) e ∙ sym (entry_at reading words j i x low h)
 
 -- the same at a place p, which is index i of word j
-pub entry_read_place : {R : Type 0} (b : ℕ) (digit : R → ℕ → Bool) (words : List R) (p j i : ℕ) (x : R) → 0 < b
-    → p < length words * b → j ≡ p / b → i ≡ p % b → x ≡ get_or words j x → digit x i ≡ entry b digit words p
-entry_read_place b digit words p j i x some h is_word is_index e =
-    let within : j < length words = rw is_word (div_below p b (length words) some h) in
-    let low : i < b = rw is_index (mod_below p b some) in
-    let place : j * b + i ≡ p = rw (is_word, is_index) (div-add-mod' p b) in
-    entry_read b digit words j i x low within e ∙ ap (entry b digit words) place
+pub entry_read_place : {R : Type 0} (reading : Reading R) (words : List R) (p j i : ℕ) (x : R) → 0 < reading.bits
+    → p < length words * reading.bits → j ≡ p / reading.bits → i ≡ p % reading.bits → x ≡ get_or words j x
+    → reading.digit x i ≡ entry reading words p
+entry_read_place reading words p j i x some h is_word is_index e =
+    let within : j < length words = rw is_word (div_below p reading.bits (length words) some h) in
+    let low : i < reading.bits = rw is_index (mod_below p reading.bits some) in
+    let place : j * reading.bits + i ≡ p = rw (is_word, is_index) (div-add-mod' p reading.bits) in
+    entry_read reading words j i x low within e ∙ ap (entry reading words) place
 
 -- past the last word each entry is false
-pub entry_past : {R : Type 0} (b : ℕ) (digit : R → ℕ → Bool) (words : List R) (k : ℕ) → length words ≤ k / b
-    → entry b digit words k ≡ false
+pub entry_past : {R : Type 0} (reading : Reading R) (words : List R) (k : ℕ) → length words ≤ k / reading.bits
+    → entry reading words k ≡ false
 unfolding entry
-entry_past b digit words k h =
-    get_or_past (map (λ w. digit w (k % b)) words) (k / b) false
-    (omega (arith, length-map words (λ w. digit w (k % b))))
+entry_past reading words k h =
+    get_or_past (map (λ w. reading.digit w (k % reading.bits)) words) (k / reading.bits) false
+    (omega (arith, length-map words (λ w. reading.digit w (k % reading.bits))))
 
 -- a word written at j has its own digits there
-pub entry-set_same : {R : Type 0} (b : ℕ) (digit : R → ℕ → Bool) (words : List R) (j : ℕ) (w : R) (k : ℕ)
-    → k / b ≡ j → j < length words → entry b digit (set words j w) k ≡ digit w (k % b)
+pub entry-set_same : {R : Type 0} (reading : Reading R) (words : List R) (j : ℕ) (w : R) (k : ℕ)
+    → k / reading.bits ≡ j → j < length words → entry reading (set words j w) k ≡ reading.digit w (k % reading.bits)
 unfolding entry
-entry-set_same b digit words j w k e h =
-    let column = λ (v : _). digit v (k % b) in
+entry-set_same reading words j w k e h =
+    let column = λ (v : _). reading.digit v (k % reading.bits) in
     rw (e, map-set column words j w)
-    (get_or-set_same (map column words) j (digit w (k % b)) false (omega (arith, length-map words column)))
+    (get_or-set_same (map column words) j (reading.digit w (k % reading.bits)) false
+    (omega (arith, length-map words column)))
 
 -- and leaves the entries of every other word
-pub entry-set_other : {R : Type 0} (b : ℕ) (digit : R → ℕ → Bool) (words : List R) (j : ℕ) (w : R) (k : ℕ)
-    → k / b ≢ j → entry b digit (set words j w) k ≡ entry b digit words k
+pub entry-set_other : {R : Type 0} (reading : Reading R) (words : List R) (j : ℕ) (w : R) (k : ℕ)
+    → k / reading.bits ≢ j → entry reading (set words j w) k ≡ entry reading words k
 unfolding entry
-entry-set_other b digit words j w k ne =
-    rw (map-set (λ v. digit v (k % b)) words j w)
-    (get_or-set_other (map (λ v. digit v (k % b)) words) j (k / b) (digit w (k % b)) false ne)
+entry-set_other reading words j w k ne =
+    rw (map-set (λ v. reading.digit v (k % reading.bits)) words j w)
+    (get_or-set_other (map (λ v. reading.digit v (k % reading.bits)) words) j (k / reading.bits)
+    (reading.digit w (k % reading.bits)) false ne)
 
 -- a word with the digit of index i made `bit` has that bit there
 pub indexed_same : {R : Type 0} (number : R → ℕ) (at : ℕ → ℕ) (x w : R) (i : ℕ) (bit : Bool)
@@ -81,29 +86,28 @@ same_place b p q e1 e2 = sym (div-add-mod' p b) ∙ rw (e1, e2) (div-add-mod' q 
 pub writes_bit : {R : Type 0} (b : ℕ) (number : R → ℕ) (at select : ℕ → ℕ) (mask : Option ℕ → Option ℕ → ℕ)
     (words : List R) (x w : R) (j i : ℕ) (bit : Bool) → IsLawful b at select mask → i < b → j < length words
     → x ≡ get_or words j x → number w ≡ with_digit (number x) (at i) bit
-    → Writes b (indexed number at) words (set words j w) (j * b + i) bit
+    → Writes (reading_in b number at) words (set words j w) (j * b + i) bit
 writes_bit b number at select mask words x w j i bit law low within e is =
-    let digit = indexed number at in
+    let reading = reading_in b number at in
     let p : ℕ = j * b + i in
     let some : 0 < b = omega arith in
     let row : p / b ≡ j = div-mul-add j b i low in
     let column : p % b ≡ i = mod-mul-add j b i low in
-    record {
-      there =
-          entry-set_same b digit words j w p row within
-          ∙ ap (digit w) column
-          ∙ indexed_same number at x w i bit is;
-      others = λ q ne. elim (cases_eq (q / b) j) [
-        | inl same ↦
-            let small : q % b < b = mod_below q b some in
-            let old = indexed_other b number at select mask x w i bit (q % b) law low is small
-            (λ r. ne (same_place b q p (same ∙ sym row) (r ∙ sym column))) in
-            let place : j * b + q % b ≡ q = ap (λ k. k * b + q % b) (sym same) ∙ div-add-mod' q b in
-            entry-set_same b digit words j w q same within
-            ∙ old
-            ∙ entry_read b digit words j (q % b) x small within e
-            ∙ ap (entry b digit words) place
-        | inr other ↦ entry-set_other b digit words j w q other
-      ];
-      words = length-set words j w;
-    }
+    let there =
+    entry-set_same reading words j w p row within
+    ∙ ap (indexed number at w) column
+    ∙ indexed_same number at x w i bit is in
+    writes_from {reading = reading} there
+    (λ q ne. elim (cases_eq (q / b) j) [
+      | inl same ↦
+          let small : q % b < b = mod_below q b some in
+          let old = indexed_other b number at select mask x w i bit (q % b) law low is small
+          (λ r. ne (same_place b q p (same ∙ sym row) (r ∙ sym column))) in
+          let place : j * b + q % b ≡ q = ap (λ k. k * b + q % b) (sym same) ∙ div-add-mod' q b in
+          entry-set_same reading words j w q same within
+          ∙ old
+          ∙ entry_read reading words j (q % b) x small within e
+          ∙ ap (entry reading words) place
+      | inr other ↦ entry-set_other reading words j w q other
+    ])
+    (length-set words j w)

@@ -17,124 +17,131 @@ use Rattle.std.proofs.lemmas.List.{take_at, drop_at, drop-drop, drop_more, take_
 use Rattle.std.proofs.lemmas.List.Concat.{flat_map-append}
 use Rattle.std.proofs.lemmas.List.FromFn.{length-map-range_with_len, get_or-map-range_with_len}
 use Rattle.std.proofs.lemmas.Nat.{div-mul-add, mod-mul-add, div-add-mod', mod_below}
-use Rattle.bit_addressing_memory.specs.Memory.{entry, memory, digits, piece, with_piece, Writes, Copies}
+use Rattle.bit_addressing_memory.proofs.OverwriteLemmas.{written_there, written_others}
+use Rattle.bit_addressing_memory.specs.Memory.{Reading, entry, digits, memory, piece, with_piece}
+use Rattle.bit_addressing_memory.specs.Memory.{Overwrites, Writes, Copies}
 
 -- ---- the list
 
 -- so many words of b bits
-pub length-memory : {R : Type 0} (b : ℕ) (digit : R → ℕ → Bool) (words : List R)
-    → length (memory b digit words) ≡ length words * b
+pub length-memory : {R : Type 0} (reading : Reading R) (words : List R)
+    → length (memory reading words) ≡ length words * reading.bits
 unfolding memory
-length-memory b digit [] = omega arith
-length-memory b digit (x ∷ xs) = omega (
+length-memory reading [] = omega arith
+length-memory reading (x ∷ xs) = omega (
   arith,
-  length-append (digits b digit x) (memory b digit xs),
-  length-map-range_with_len (digit x) 0 b,
-  length-memory b digit xs,
+  length-append (digits reading x) (memory reading xs),
+  length-map-range_with_len (reading.digit x) 0 reading.bits,
+  length-memory reading xs,
 )
 
-entry_first : {R : Type 0} (b : ℕ) (digit : R → ℕ → Bool) (x : R) (xs : List R) (k : ℕ) → k < b
-    → entry b digit (x ∷ xs) k ≡ digit x k
+entry_first : {R : Type 0} (reading : Reading R) (x : R) (xs : List R) (k : ℕ) → k < reading.bits
+    → entry reading (x ∷ xs) k ≡ reading.digit x k
 unfolding entry
-entry_first b digit x xs k h =
-    let is : 0 * b + k ≡ k = omega arith in
-    let row : k / b ≡ 0 = ap (λ q. q / b) (sym is) ∙ div-mul-add 0 b k h in
-    let col : k % b ≡ k = ap (λ q. q % b) (sym is) ∙ mod-mul-add 0 b k h in
+entry_first reading x xs k h =
+    let is : 0 * reading.bits + k ≡ k = omega arith in
+    let row : k / reading.bits ≡ 0 = ap (λ q. q / reading.bits) (sym is) ∙ div-mul-add 0 reading.bits k h in
+    let col : k % reading.bits ≡ k = ap (λ q. q % reading.bits) (sym is) ∙ mod-mul-add 0 reading.bits k h in
     simp (row, col)
 
-entry_rest : {R : Type 0} (b : ℕ) (digit : R → ℕ → Bool) (x : R) (xs : List R) (k : ℕ) → 0 < b → b ≤ k
-    → entry b digit (x ∷ xs) k ≡ entry b digit xs (k - b)
+entry_rest : {R : Type 0} (reading : Reading R) (x : R) (xs : List R) (k : ℕ) → 0 < reading.bits → reading.bits ≤ k
+    → entry reading (x ∷ xs) k ≡ entry reading xs (k - reading.bits)
 unfolding entry
-entry_rest b digit x xs k some h =
-    let m : ℕ = k - b in
-    let is : (m / b + 1) * b + m % b ≡ k = omega (arith, div-add-mod' m b) in
-    let low : m % b < b = mod_below m b some in
-    let row : k / b ≡ suc (m / b) =
-    ap (λ q. q / b) (sym is) ∙ div-mul-add (m / b + 1) b (m % b) low ∙ add-one (m / b) in
-    let col : k % b ≡ m % b = ap (λ q. q % b) (sym is) ∙ mod-mul-add (m / b + 1) b (m % b) low in
-    ap (λ q. get_or (map (λ w. digit w (k % b)) (x ∷ xs)) q false) row
-    ∙ ap (λ q. get_or (map (λ w. digit w q) xs) (m / b) false) col
+entry_rest reading x xs k some h =
+    let m : ℕ = k - reading.bits in
+    let is : (m / reading.bits + 1) * reading.bits + m % reading.bits ≡ k = omega (arith, div-add-mod' m reading.bits)
+    in
+    let low : m % reading.bits < reading.bits = mod_below m reading.bits some in
+    let row : k / reading.bits ≡ suc (m / reading.bits) =
+    ap (λ q. q / reading.bits) (sym is) ∙ div-mul-add (m / reading.bits + 1) reading.bits (m % reading.bits) low
+    ∙ add-one (m / reading.bits) in
+    let col : k % reading.bits ≡ m % reading.bits = ap (λ q. q % reading.bits) (sym is)
+    ∙ mod-mul-add (m / reading.bits + 1) reading.bits (m % reading.bits) low in
+    ap (λ q. get_or (map (λ w. reading.digit w (k % reading.bits)) (x ∷ xs)) q false) row
+    ∙ ap (λ q. get_or (map (λ w. reading.digit w q) xs) (m / reading.bits) false) col
 
 -- an entry of the memory is an element of its list
-pub entry_memory : {R : Type 0} (b : ℕ) (digit : R → ℕ → Bool) (words : List R) (k : ℕ) → 0 < b
-    → get_or (memory b digit words) k false ≡ entry b digit words k
+pub entry_memory : {R : Type 0} (reading : Reading R) (words : List R) (k : ℕ) → 0 < reading.bits
+    → get_or (memory reading words) k false ≡ entry reading words k
 unfolding memory entry
-entry_memory b digit [] k some = refl
-entry_memory b digit (x ∷ xs) k some =
-    let front = digits b digit x in
-    let size : length front ≡ b = length-map-range_with_len (digit x) 0 b in
-    elim (cases_lt k b) [
+entry_memory reading [] k some = refl
+entry_memory reading (x ∷ xs) k some =
+    let front = digits reading x in
+    let size : length front ≡ reading.bits = length-map-range_with_len (reading.digit x) 0 reading.bits in
+    elim (cases_lt k reading.bits) [
       | inl h ↦
-          get_or_append_left front (memory b digit xs) false k (omega arith)
-          ∙ get_or-map-range_with_len (digit x) 0 b k k false h (omega arith)
-          ∙ sym (entry_first b digit x xs k h)
+          get_or_append_left front (memory reading xs) false k (omega arith)
+          ∙ get_or-map-range_with_len (reading.digit x) 0 reading.bits k k false h (omega arith)
+          ∙ sym (entry_first reading x xs k h)
       | inr h ↦
-          get_or-append_right front (memory b digit xs) b k false size h
-          ∙ entry_memory b digit xs (k - b) some
-          ∙ sym (entry_rest b digit x xs k some h)
+          get_or-append_right front (memory reading xs) reading.bits k false size h
+          ∙ entry_memory reading xs (k - reading.bits) some
+          ∙ sym (entry_rest reading x xs k some h)
     ]
 
 -- two memories of as many words with equal entries are equal lists
-pub same_memory : {R : Type 0} (b : ℕ) (digit : R → ℕ → Bool) (xs ys : List R) → 0 < b → length xs ≡ length ys
-    → ((k : ℕ) → k < length xs * b → entry b digit xs k ≡ entry b digit ys k)
-    → memory b digit xs ≡ memory b digit ys
-same_memory b digit xs ys some same equal =
-    ext_get_or false (memory b digit xs) (memory b digit ys)
-    (length-memory b digit xs ∙ ap (λ n. n * b) same ∙ sym (length-memory b digit ys))
+pub same_memory : {R : Type 0} (reading : Reading R) (xs ys : List R) → 0 < reading.bits → length xs ≡ length ys
+    → ((k : ℕ) → k < length xs * reading.bits → entry reading xs k ≡ entry reading ys k)
+    → memory reading xs ≡ memory reading ys
+same_memory reading xs ys some same equal =
+    ext_get_or false (memory reading xs) (memory reading ys)
+    (length-memory reading xs ∙ ap (λ n. n * reading.bits) same ∙ sym (length-memory reading ys))
     (λ k h.
-    let within : k < length xs * b = omega (arith, length-memory b digit xs) in
-    entry_memory b digit xs k some ∙ equal k within ∙ sym (entry_memory b digit ys k some))
+    let within : k < length xs * reading.bits = omega (arith, length-memory reading xs) in
+    entry_memory reading xs k some ∙ equal k within ∙ sym (entry_memory reading ys k some))
 
 -- and equal lists have equal entries
-pub same_entries : {R : Type 0} (b : ℕ) (digit : R → ℕ → Bool) (xs ys : List R) (k : ℕ) → 0 < b
-    → memory b digit xs ≡ memory b digit ys → entry b digit xs k ≡ entry b digit ys k
-same_entries b digit xs ys k some same =
-    sym (entry_memory b digit xs k some) ∙ ap (λ m. get_or m k false) same ∙ entry_memory b digit ys k some
+pub same_entries : {R : Type 0} (reading : Reading R) (xs ys : List R) (k : ℕ) → 0 < reading.bits
+    → memory reading xs ≡ memory reading ys → entry reading xs k ≡ entry reading ys k
+same_entries reading xs ys k some same =
+    sym (entry_memory reading xs k some) ∙ ap (λ m. get_or m k false) same ∙ entry_memory reading ys k some
 
 -- ---- its parts
 
-pub memory-append : {R : Type 0} (b : ℕ) (digit : R → ℕ → Bool) (xs ys : List R)
-    → memory b digit (xs ++ ys) ≡ memory b digit xs ++ memory b digit ys
+pub memory-append : {R : Type 0} (reading : Reading R) (xs ys : List R)
+    → memory reading (xs ++ ys) ≡ memory reading xs ++ memory reading ys
 unfolding memory
-memory-append b digit xs ys = flat_map-append (λ w. digits b digit w) xs ys
+memory-append reading xs ys = flat_map-append (λ w. digits reading w) xs ys
 
-memory_split : {R : Type 0} (b : ℕ) (digit : R → ℕ → Bool) (words : List R) (i : ℕ)
-    → memory b digit words ≡ memory b digit (take i words) ++ memory b digit (drop i words)
-memory_split b digit words i =
-    ap (memory b digit) (sym (take-append-drop i words)) ∙ memory-append b digit (take i words) (drop i words)
+memory_split : {R : Type 0} (reading : Reading R) (words : List R) (i : ℕ)
+    → memory reading words ≡ memory reading (take i words) ++ memory reading (drop i words)
+memory_split reading words i =
+    ap (memory reading) (sym (take-append-drop i words)) ∙ memory-append reading (take i words) (drop i words)
 
-front_len : {R : Type 0} (b : ℕ) (digit : R → ℕ → Bool) (words : List R) (i : ℕ) → i ≤ length words
-    → length (memory b digit (take i words)) ≡ i * b
-front_len b digit words i h =
-    length-memory b digit (take i words) ∙ ap (λ n. n * b) (length-take-le i words h)
+front_len : {R : Type 0} (reading : Reading R) (words : List R) (i : ℕ) → i ≤ length words
+    → length (memory reading (take i words)) ≡ i * reading.bits
+front_len reading words i h =
+    length-memory reading (take i words) ∙ ap (λ n. n * reading.bits) (length-take-le i words h)
 
 -- the first i words
-pub memory-take : {R : Type 0} (b : ℕ) (digit : R → ℕ → Bool) (words : List R) (i : ℕ) → i ≤ length words
-    → memory b digit (take i words) ≡ take (i * b) (memory b digit words)
-memory-take b digit words i h =
-    let front = memory b digit (take i words) in
-    let rest = memory b digit (drop i words) in
-    sym (ap (take (i * b)) (memory_split b digit words i) ∙ take_at front rest (i * b) (front_len b digit words i h))
+pub memory-take : {R : Type 0} (reading : Reading R) (words : List R) (i : ℕ) → i ≤ length words
+    → memory reading (take i words) ≡ take (i * reading.bits) (memory reading words)
+memory-take reading words i h =
+    let front = memory reading (take i words) in
+    let rest = memory reading (drop i words) in
+    sym (ap (take (i * reading.bits)) (memory_split reading words i)
+    ∙ take_at front rest (i * reading.bits) (front_len reading words i h))
 
 -- the words from i on
-pub memory-drop : {R : Type 0} (b : ℕ) (digit : R → ℕ → Bool) (words : List R) (i : ℕ) → i ≤ length words
-    → memory b digit (drop i words) ≡ drop (i * b) (memory b digit words)
-memory-drop b digit words i h =
-    let front = memory b digit (take i words) in
-    let rest = memory b digit (drop i words) in
-    sym (ap (drop (i * b)) (memory_split b digit words i) ∙ drop_at front rest (i * b) (front_len b digit words i h))
+pub memory-drop : {R : Type 0} (reading : Reading R) (words : List R) (i : ℕ) → i ≤ length words
+    → memory reading (drop i words) ≡ drop (i * reading.bits) (memory reading words)
+memory-drop reading words i h =
+    let front = memory reading (take i words) in
+    let rest = memory reading (drop i words) in
+    sym (ap (drop (i * reading.bits)) (memory_split reading words i)
+    ∙ drop_at front rest (i * reading.bits) (front_len reading words i h))
 
 -- n words from i on
-pub memory_part : {R : Type 0} (b : ℕ) (digit : R → ℕ → Bool) (words : List R) (i n : ℕ) → i + n ≤ length words
-    → memory b digit (take n (drop i words)) ≡ piece (memory b digit words) (i * b) (n * b)
+pub memory_part : {R : Type 0} (reading : Reading R) (words : List R) (i n : ℕ) → i + n ≤ length words
+    → memory reading (take n (drop i words)) ≡ piece (memory reading words) (i * reading.bits) (n * reading.bits)
 unfolding piece
-memory_part b digit words i n h =
+memory_part reading words i n h =
     let fits : n ≤ length (drop i words) = simp length-drop (omega arith) in
-    memory-take b digit (drop i words) n fits ∙ ap (take (n * b)) (memory-drop b digit words i (omega arith))
+    memory-take reading (drop i words) n fits ∙ ap (take (n * reading.bits)) (memory-drop reading words i (omega arith))
 
-memory_one : {R : Type 0} (b : ℕ) (digit : R → ℕ → Bool) (x : R) → memory b digit (x ∷ []) ≡ digits b digit x
+memory_one : {R : Type 0} (reading : Reading R) (x : R) → memory reading (x ∷ []) ≡ digits reading x
 unfolding memory
-memory_one b digit x = append-nil (digits b digit x)
+memory_one reading x = append-nil (digits reading x)
 
 -- ---- pieces
 
@@ -174,28 +181,28 @@ piece_piece xs p y q n h =
     (λ k d h. grind (arith, places))
 
 -- a part of the digits of the word j
-pub word_part : {R : Type 0} (b : ℕ) (digit : R → ℕ → Bool) (words : List R) (j : ℕ) (x : R) (from n : ℕ)
-    → j < length words → x ≡ get_or words j x → from + n ≤ b
-    → piece (digits b digit x) from n ≡ piece (memory b digit words) (j * b + from) n
-word_part b digit words j x from n h is short =
-    let m = memory b digit words in
+pub word_part : {R : Type 0} (reading : Reading R) (words : List R) (j : ℕ) (x : R) (from n : ℕ)
+    → j < length words → x ≡ get_or words j x → from + n ≤ reading.bits
+    → piece (digits reading x) from n ≡ piece (memory reading words) (j * reading.bits + from) n
+word_part reading words j x from n h is short =
+    let m = memory reading words in
     let one : take 1 (drop j words) ≡ x ∷ [] = ap (take 1) (drop_more words j x h) ∙ ap (λ y. y ∷ []) (sym is) in
-    let single : 1 * b ≡ b = omega arith in
-    let whole : digits b digit x ≡ piece m (j * b) b =
-    sym (memory_one b digit x)
-    ∙ ap (memory b digit) (sym one)
-    ∙ memory_part b digit words j 1 (omega arith)
-    ∙ ap (piece m (j * b)) single in
-    ap (λ m. piece m from n) whole ∙ piece_piece m (j * b) b from n short
+    let single : 1 * reading.bits ≡ reading.bits = omega arith in
+    let whole : digits reading x ≡ piece m (j * reading.bits) reading.bits =
+    sym (memory_one reading x)
+    ∙ ap (memory reading) (sym one)
+    ∙ memory_part reading words j 1 (omega arith)
+    ∙ ap (piece m (j * reading.bits)) single in
+    ap (λ m. piece m from n) whole ∙ piece_piece m (j * reading.bits) reading.bits from n short
 
 -- the digits of the word j
-pub word_whole : {R : Type 0} (b : ℕ) (digit : R → ℕ → Bool) (words : List R) (j : ℕ) (x : R) → j < length words
-    → x ≡ get_or words j x → digits b digit x ≡ piece (memory b digit words) (j * b) b
-word_whole b digit words j x h is =
-    let start : j * b + 0 ≡ j * b = omega arith in
-    sym (piece_all (digits b digit x) b (length-map-range_with_len (digit x) 0 b))
-    ∙ word_part b digit words j x 0 b h is (omega arith)
-    ∙ ap (λ q. piece (memory b digit words) q b) start
+pub word_whole : {R : Type 0} (reading : Reading R) (words : List R) (j : ℕ) (x : R) → j < length words
+    → x ≡ get_or words j x → digits reading x ≡ piece (memory reading words) (j * reading.bits) reading.bits
+word_whole reading words j x h is =
+    let start : j * reading.bits + 0 ≡ j * reading.bits = omega arith in
+    sym (piece_all (digits reading x) reading.bits (length-map-range_with_len (reading.digit x) 0 reading.bits))
+    ∙ word_part reading words j x 0 reading.bits h is (omega arith)
+    ∙ ap (λ q. piece (memory reading words) q reading.bits) start
 
 -- ---- a list written over
 
@@ -222,54 +229,62 @@ with_piece_above xs p ys k d h high = search (rules, places)
 -- ---- what a call leaves, as a list
 
 -- one entry written is one element set
-pub memory_written : {R : Type 0} (b : ℕ) (digit : R → ℕ → Bool) (before after : List R) (k : ℕ) (bit : Bool)
-    → 0 < b → k < length before * b → Writes b digit before after k bit
-    → memory b digit after ≡ set (memory b digit before) k bit
-memory_written b digit before after k bit some within is =
-    let m = memory b digit before in
-    let size : length m ≡ length before * b = length-memory b digit before in
-    ext_get_or false (memory b digit after) (set m k bit)
-    (length-memory b digit after ∙ ap (λ n. n * b) is.words ∙ sym size ∙ sym (length-set m k bit))
-    (λ p _. entry_memory b digit after p some ∙ elim (cases_eq p k) [
-      | inl same ↦ rw same (is.there ∙ sym (get_or-set_same m k bit false (omega arith)))
+pub memory_written : {R : Type 0} (reading : Reading R) (before after : List R) (k : ℕ) (bit : Bool)
+    → 0 < reading.bits → k < length before * reading.bits → Writes reading before after k bit
+    → memory reading after ≡ set (memory reading before) k bit
+memory_written reading before after k bit some within is =
+    let m = memory reading before in
+    let size : length m ≡ length before * reading.bits = length-memory reading before in
+    ext_get_or false (memory reading after) (set m k bit)
+    (length-memory reading after ∙ ap (λ n. n * reading.bits) is.words ∙ sym size ∙ sym (length-set m k bit))
+    (λ p _. entry_memory reading after p some ∙ elim (cases_eq p k) [
+      | inl same ↦ rw same (written_there is ∙ sym (get_or-set_same m k bit false (omega arith)))
       | inr other ↦
-          is.others p other ∙ sym (entry_memory b digit before p some) ∙ sym (get_or-set_other m k p bit false other)
+          written_others is p other ∙ sym (entry_memory reading before p some)
+          ∙ sym (get_or-set_other m k p bit false other)
+    ])
+
+-- entries overwritten are a list written over
+pub memory_overwritten : {R : Type 0} (reading : Reading R) (before after : List R) (place n : ℕ) (now : ℕ → Bool)
+    (ys : List Bool) → 0 < reading.bits → place + n ≤ length before * reading.bits → length ys ≡ n
+    → ((k : ℕ) → k < n → now k ≡ get_or ys k false) → Overwrites reading before after place n now
+    → memory reading after ≡ with_piece (memory reading before) place ys
+memory_overwritten reading before after place n now ys some within count same is =
+    let m = memory reading before in
+    let size : length m ≡ length before * reading.bits = length-memory reading before in
+    let fits : place + length ys ≤ length m = omega arith in
+    ext_get_or false (memory reading after) (with_piece m place ys)
+    (length-memory reading after ∙ ap (λ n. n * reading.bits) is.words ∙ sym size
+    ∙ sym (length-with_piece m place ys fits))
+    (λ p _. entry_memory reading after p some ∙ elim (cases_lt p place) [
+      | inl low ↦
+          is.below p low
+          ∙ sym (entry_memory reading before p some)
+          ∙ sym (with_piece_below m place ys p false fits low)
+      | inr high ↦ elim (cases_lt p (place + n)) [
+        | inl inside ↦
+            let i : ℕ = p - place in
+            let at : place + i ≡ p = omega arith in
+            let small : i < n = omega arith in
+            ap (entry reading after) (sym at)
+            ∙ is.there i small
+            ∙ same i small
+            ∙ sym (with_piece_inside m place ys p i false fits (sym at) (omega arith))
+        | inr past ↦
+            is.above p past
+            ∙ sym (entry_memory reading before p some)
+            ∙ sym (with_piece_above m place ys p false fits (omega arith))
+      ]
     ])
 
 -- entries copied are a piece written over
-pub memory_copied : {R Q : Type 0} (b : ℕ) (digit : R → ℕ → Bool) (before after : List R) (c : ℕ)
-    (its : Q → ℕ → Bool) (other : List Q) (source target len : ℕ)
-    → 0 < b → 0 < c → source + len ≤ length other * c → target + len ≤ length before * b
-    → Copies b digit before after c its other source target len
-    → memory b digit after ≡ with_piece (memory b digit before) target (piece (memory c its other) source len)
-memory_copied b digit before after c its other source target len some some_c from to is =
-    let m = memory b digit before in
-    let o = memory c its other in
-    let ys = piece o source len in
-    let size : length m ≡ length before * b = length-memory b digit before in
-    let source_in : source + len ≤ length o = omega (arith, length-memory c its other) in
-    let count : length ys ≡ len = length-piece o source len source_in in
-    let fits : target + length ys ≤ length m = omega arith in
-    ext_get_or false (memory b digit after) (with_piece m target ys)
-    (length-memory b digit after ∙ ap (λ n. n * b) is.words ∙ sym size ∙ sym (length-with_piece m target ys fits))
-    (λ p _. entry_memory b digit after p some ∙ elim (cases_lt p target) [
-      | inl low ↦
-          is.below p low
-          ∙ sym (entry_memory b digit before p some)
-          ∙ sym (with_piece_below m target ys p false fits low)
-      | inr high ↦ elim (cases_lt p (target + len)) [
-        | inl inside ↦
-            let i : ℕ = p - target in
-            let at : target + i ≡ p = omega arith in
-            let small : i < len = omega arith in
-            ap (entry b digit after) (sym at)
-            ∙ is.copied i small
-            ∙ sym (entry_memory c its other (source + i) some_c)
-            ∙ sym (get_or-piece o source len i false small)
-            ∙ sym (with_piece_inside m target ys p i false fits (sym at) (omega arith))
-        | inr past ↦
-            is.above p past
-            ∙ sym (entry_memory b digit before p some)
-            ∙ sym (with_piece_above m target ys p false fits (omega arith))
-      ]
-    ])
+pub memory_copied : {R Q : Type 0} (reading : Reading R) (before after : List R) (its : Reading Q) (other : List Q)
+    (source target len : ℕ) → 0 < reading.bits → 0 < its.bits → source + len ≤ length other * its.bits
+    → target + len ≤ length before * reading.bits → Copies reading before after its other source target len
+    → memory reading after ≡ with_piece (memory reading before) target (piece (memory its other) source len)
+memory_copied reading before after its other source target len some its_some from to is =
+    let o = memory its other in
+    let source_in : source + len ≤ length o = omega (arith, length-memory its other) in
+    memory_overwritten reading before after target len (λ k. entry its other (source + k)) (piece o source len) some to
+    (length-piece o source len source_in)
+    (λ k small. sym (get_or-piece o source len k false small ∙ entry_memory its other (source + k) its_some)) is

@@ -35,7 +35,7 @@ place_after_next b size j i by e past =
     omega arith
 
 -- a place in an earlier word comes before
-pub place_order : (b v i w j : ℕ) → i < b → v < w → v * b + i ≤ w * b + j
+pub place_order : (b v i w j : ℕ) → i < b → v < w → v * b + i < w * b + j
 place_order b v i w j low before =
     let next : v + 1 ≤ w = omega arith in
     let past : (v + 1) * b ≤ w * b = mul-le-mul_right b next in

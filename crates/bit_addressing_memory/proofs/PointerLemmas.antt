@@ -1,5 +1,5 @@
 -- Word numbers and places over the whole numbers.
-use Rattle.std.proofs.Common.{◌≡◌, ℕ, zero, suc, ◌+◌, ◌-◌, ◌*◌, ◌^◌, ◌<◌, ◌≤◌, ◌∷◌, ◌++◌, [], length, sym}
+use Rattle.std.proofs.Common.{◌≡◌, ◌↔◌, ℕ, zero, suc, ◌+◌, ◌-◌, ◌*◌, ◌^◌, ◌<◌, ◌≤◌, ◌∷◌, ◌++◌, [], length, sym}
 use Rattle.std.proofs.Common.{ap, ◌∙◌, arith}
 use Rattle.std.proofs.Math.Nat.{mul-le-mul}
 use Rattle.std.proofs.Math.IntN.{ℤ, pos, negsuc, ◌+ℤ◌, ◌-ℤ◌, ◌*ℤ◌, neg_ℤ, pred_ℤ, +ℤ-suc_ℤ, +ℤ-pred_ℤ, +ℤ_idr}
@@ -8,12 +8,12 @@ use Rattle.std.proofs.lemmas.Int.{ints, fits_signed_from_abs, fits_signed_mul, u
 use Rattle.std.specs.Int.{w64, w128}
 use mir.Val.{to_z, of_z}
 use Rattle.std.specs.Int.RustNames.{FitsSigned, unsigned_abs}
-use Rattle.bit_addressing_order.specs.Index.{IsOffset}
+use Rattle.bit_addressing_order.specs.BitIdx.{IsOffset}
 use Rattle.bit_addressing_memory.proofs.PlaceLemmas.{word_within}
 use Rattle.bit_addressing_memory.specs.Pointer.{Pointer, StaysIn, whole_place}
-use Rattle.bit_addressing_memory.specs.PointerRange.{PointerRange, IsRange, bits_between, pointers-none}
-use Rattle.bit_addressing_memory.specs.PointerRange.{length-pointers, pointers_of, pointers-first}
-use Rattle.bit_addressing_memory.specs.PointerRange.{pointers-last, stays_here}
+use Rattle.bit_addressing_memory.specs.PointerRange.{PointerRange, IsRange, bits_between, pointers_of}
+use Rattle.bit_addressing_memory.proofs.PointerRangeLemmas.{pointers-none, pointers-first, pointers-last, length-pointers}
+use Rattle.bit_addressing_memory.proofs.PointerRangeLemmas.{stays_here}
 
 -- words times bits, of a sum of word numbers
 pub times_sum : (w v : ℤ) (b : ℕ) → (w +ℤ v) *ℤ pos b ≡ (w *ℤ pos b) +ℤ (v *ℤ pos b)
@@ -190,3 +190,14 @@ fewer_last b range s e l is seen some place =
 pub ruleset steps_from_front = (pointers-none, first_stays, without_first, gives_first, fewer_first)
 
 pub ruleset steps_from_back = (pointers-none, last_stays, without_last, gives_last, fewer_last)
+
+-- the number of the word of a bit so many bits on, as code adds it up, fits exactly where the bit's place stays in
+pub fits_where_stays : (b : ℕ) (p : Pointer) (w words by : ℤ) (i j : ℕ) → w ≡ p.word → i ≡ p.bit
+    → FitsSigned w64 w → FitsSigned w64 words → IsOffset b i by words j
+    → FitsSigned w64 (to_z w64 (of_z w64 w) +ℤ to_z w64 (of_z w64 words)) ↔ StaysIn b (whole_place b p +ℤ by)
+fits_where_stays b p w words by i j is_word is_bit fit_w fit_words is =
+    let there = moved_place b w words by i j is in
+    rw (← is_word, ← is_bit, to_z-of_z w64 w fit_w, to_z-of_z w64 words fit_words) (
+      λ fits. rw (← there) (stays_here b (w +ℤ words) j is.within fits),
+      λ stays. moved_fits b w words by i j is stays,
+    )

@@ -1,8 +1,8 @@
 -- Pointers as whole numbers: a pointer is a word number, which may be below 0, and the index of a bit.
-use Rattle.std.specs.Prelude.{ℕ, ℤ, ◌≡◌, ◌+◌, ◌*◌, ◌^◌, ◌≤◌, pos, ◌+ℤ◌, ◌*ℤ◌, neg_ℤ, ◌<ℤ◌, ◌≤ℤ◌}
+use Rattle.std.specs.Prelude.{ℕ, ℤ, ◌≡◌, ◌+◌, ◌*◌, ◌^◌, ◌<◌, ◌≤◌, pos, ◌+ℤ◌, ◌*ℤ◌, neg_ℤ, ◌<ℤ◌, ◌≤ℤ◌}
 use Rattle.std.specs.Int.{w64, int_wrap}
 use Rattle.std.specs.Int.RustNames.{unsigned_abs}
-use Rattle.bit_addressing_order.specs.Index.{IsOffset}
+use Rattle.bit_addressing_order.specs.BitIdx.{IsOffset}
 
 -- what a pointer is seen as: the number of its word, and the index of its bit there
 pub record Pointer : Type 0 where
@@ -28,7 +28,7 @@ pub record WrapsTo (b : ℕ) (from : Pointer) (by : ℤ) (to : Pointer) : Type 0
 abbrev pub memory_place : ℕ → Pointer → ℕ
 memory_place b p = unsigned_abs p.word * b + p.bit
 
--- the n places from the pointer's on lie in a memory of so many words
+-- the n places from the pointer's on, if any, lie in a memory of so many words
 pub record LiesIn (b : ℕ) (p : Pointer) (n words : ℕ) : Type 0 where
-  pub from : pos 0 ≤ℤ p.word
-  pub upto : memory_place b p + n ≤ words * b
+  pub from : 0 < n → pos 0 ≤ℤ p.word
+  pub upto : 0 < n → memory_place b p + n ≤ words * b

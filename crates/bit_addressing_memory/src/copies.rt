@@ -3,7 +3,7 @@
 //! Every function here touches the places that it names, and no other bit.
 
 ghost use Rattle.std.specs.Prelude.{◌≡◌, ◌+◌, ◌*◌, ◌<◌, ◌≤◌, length, true, false};
-ghost use Rattle.bit_addressing_memory.specs.Memory.{indexed, Copies, Swaps};
+ghost use Rattle.bit_addressing_memory.specs.Memory.{read_by, Copies, Swaps};
 ghost use Rattle.bit_addressing_memory.specs.Place.{place_of};
 
 use crate::entry::{read_at, write_at};
@@ -21,8 +21,8 @@ pub fn copy_between<Q: BitRegister, P: BitOrder<Q>, R: BitRegister, O: BitOrder<
 )
     requires source_in { source + len ≤ length from.now * Q.BITS }
     requires target_in { target + len ≤ length words.old * R.BITS }
-    ensures copied { Copies R.BITS (indexed R.number O.position) words.old words.new
-        Q.BITS (indexed Q.number P.position) from.now source target len }
+    ensures copied { Copies (read_by R.BitRegister O.position) words.old words.new
+        (read_by Q.BitRegister P.position) from.now source target len }
 {
     copy_between_at::<Q, P, R, O>(from, Place::new(source), words, Place::new(target), len);
 }
@@ -37,8 +37,8 @@ pub fn copy_within<R: BitRegister, O: BitOrder<R>>(
 )
     requires source_in { source + len ≤ length words.old * R.BITS }
     requires target_in { target + len ≤ length words.old * R.BITS }
-    ensures copied { Copies R.BITS (indexed R.number O.position) words.old words.new
-        R.BITS (indexed R.number O.position) words.old source target len }
+    ensures copied { Copies (read_by R.BitRegister O.position) words.old words.new
+        (read_by R.BitRegister O.position) words.old source target len }
 {
     let upward = target <= source;
     copy_within_at::<R, O>(words, Place::new(source), Place::new(target), len, upward);
@@ -55,10 +55,10 @@ pub fn swap_between<R: BitRegister, O: BitOrder<R>, Q: BitRegister, P: BitOrder<
 )
     requires first_in { first + len ≤ length words.old * R.BITS }
     requires second_in { second + len ≤ length others.old * Q.BITS }
-    ensures to_words { Copies R.BITS (indexed R.number O.position) words.old words.new
-        Q.BITS (indexed Q.number P.position) others.old second first len }
-    ensures to_others { Copies Q.BITS (indexed Q.number P.position) others.old others.new
-        R.BITS (indexed R.number O.position) words.old first second len }
+    ensures to_words { Copies (read_by R.BitRegister O.position) words.old words.new
+        (read_by Q.BitRegister P.position) others.old second first len }
+    ensures to_others { Copies (read_by Q.BitRegister P.position) others.old others.new
+        (read_by R.BitRegister O.position) words.old first second len }
 {
     swap_between_at::<R, O, Q, P>(words, Place::new(first), others, Place::new(second), len);
 }
@@ -74,7 +74,7 @@ pub fn swap_within<R: BitRegister, O: BitOrder<R>>(
 )
     requires apart { first + len ≤ second }
     requires within { second + len ≤ length words.old * R.BITS }
-    ensures swapped { Swaps R.BITS (indexed R.number O.position) words.old words.new first second len }
+    ensures swapped { Swaps (read_by R.BitRegister O.position) words.old words.new first second len }
 {
     for k in 0..len {
         swap_at::<R, O>(
@@ -89,7 +89,7 @@ pub fn swap_within<R: BitRegister, O: BitOrder<R>>(
 pub fn swap_entries<R: BitRegister, O: BitOrder<R>>(words: &mut [R], first: usize, second: usize)
     requires first_in { first < length words.old * R.BITS }
     requires second_in { second < length words.old * R.BITS }
-    ensures swapped { Swaps R.BITS (indexed R.number O.position) words.old words.new first second 1 }
+    ensures swapped { Swaps (read_by R.BitRegister O.position) words.old words.new first second 1 }
 {
     swap_at::<R, O>(words, Place::new(first), Place::new(second));
 }
@@ -105,8 +105,8 @@ pub(crate) fn copy_between_at<Q: BitRegister, P: BitOrder<Q>, R: BitRegister, O:
 )
     requires source_in { place_of Q.BITS source + len ≤ length from.now * Q.BITS }
     requires target_in { place_of R.BITS target + len ≤ length words.old * R.BITS }
-    ensures copied { Copies R.BITS (indexed R.number O.position) words.old words.new
-        Q.BITS (indexed Q.number P.position) from.now (place_of Q.BITS source) (place_of R.BITS target) len }
+    ensures copied { Copies (read_by R.BitRegister O.position) words.old words.new
+        (read_by Q.BitRegister P.position) from.now (place_of Q.BITS source) (place_of R.BITS target) len }
 {
     for k in 0..len {
         let bit = read_at::<Q, P>(from, source.after(k));
@@ -127,8 +127,8 @@ pub(crate) fn copy_within_at<R: BitRegister, O: BitOrder<R>>(
     requires target_in { place_of R.BITS target + len ≤ length words.old * R.BITS }
     requires up { upward ≡ true → place_of R.BITS target ≤ place_of R.BITS source }
     requires down { upward ≡ false → place_of R.BITS source ≤ place_of R.BITS target }
-    ensures copied { Copies R.BITS (indexed R.number O.position) words.old words.new
-        R.BITS (indexed R.number O.position) words.old (place_of R.BITS source) (place_of R.BITS target) len }
+    ensures copied { Copies (read_by R.BitRegister O.position) words.old words.new
+        (read_by R.BitRegister O.position) words.old (place_of R.BITS source) (place_of R.BITS target) len }
 {
     if upward {
         'up: for k in 0..len {
@@ -154,10 +154,10 @@ pub(crate) fn swap_between_at<R: BitRegister, O: BitOrder<R>, Q: BitRegister, P:
 )
     requires first_in { place_of R.BITS first + len ≤ length words.old * R.BITS }
     requires second_in { place_of Q.BITS second + len ≤ length others.old * Q.BITS }
-    ensures to_words { Copies R.BITS (indexed R.number O.position) words.old words.new
-        Q.BITS (indexed Q.number P.position) others.old (place_of Q.BITS second) (place_of R.BITS first) len }
-    ensures to_others { Copies Q.BITS (indexed Q.number P.position) others.old others.new
-        R.BITS (indexed R.number O.position) words.old (place_of R.BITS first) (place_of Q.BITS second) len }
+    ensures to_words { Copies (read_by R.BitRegister O.position) words.old words.new
+        (read_by Q.BitRegister P.position) others.old (place_of Q.BITS second) (place_of R.BITS first) len }
+    ensures to_others { Copies (read_by Q.BitRegister P.position) others.old others.new
+        (read_by R.BitRegister O.position) words.old (place_of R.BITS first) (place_of Q.BITS second) len }
 {
     for k in 0..len {
         let here = first.after(k);
@@ -178,7 +178,7 @@ pub(crate) fn swap_at<R: BitRegister, O: BitOrder<R>>(
 )
     requires first_in { place_of R.BITS first < length words.old * R.BITS }
     requires second_in { place_of R.BITS second < length words.old * R.BITS }
-    ensures swapped { Swaps R.BITS (indexed R.number O.position) words.old words.new
+    ensures swapped { Swaps (read_by R.BitRegister O.position) words.old words.new
         (place_of R.BITS first) (place_of R.BITS second) 1 }
 {
     let bit = read_at::<R, O>(words, first);

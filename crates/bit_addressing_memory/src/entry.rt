@@ -5,7 +5,7 @@
 
 ghost use Rattle.std.specs.Prelude.{◌≡◌, ◌*◌, ◌<◌, length};
 ghost use Rattle.bit_addressing_order.specs.Bits.{with_digit};
-ghost use Rattle.bit_addressing_memory.specs.Memory.{entry, indexed, Writes};
+ghost use Rattle.bit_addressing_memory.specs.Memory.{entry, indexed, read_by, Writes};
 ghost use Rattle.bit_addressing_memory.specs.Place.{place_of};
 
 use crate::place::Place;
@@ -42,7 +42,7 @@ pub fn write_bit<R: BitRegister, O: BitOrder<R>>(word: R, index: BitIdx<R>, bit:
 /// The bit at a place of the memory.
 pub fn read_entry<R: BitRegister, O: BitOrder<R>>(words: &[R], place: usize) -> bool
     requires within { place < length words.now * R.BITS }
-    ensures value { result ≡ entry R.BITS (indexed R.number O.position) words.now place }
+    ensures value { result ≡ entry (read_by R.BitRegister O.position) words.now place }
 {
     read_at::<R, O>(words, Place::new(place))
 }
@@ -50,7 +50,7 @@ pub fn read_entry<R: BitRegister, O: BitOrder<R>>(words: &[R], place: usize) -> 
 /// Makes the bit at a place of the memory `bit`. Every other bit of the memory stays.
 pub fn write_entry<R: BitRegister, O: BitOrder<R>>(words: &mut [R], place: usize, bit: bool)
     requires within { place < length words.old * R.BITS }
-    ensures written { Writes R.BITS (indexed R.number O.position) words.old words.new place bit }
+    ensures written { Writes (read_by R.BitRegister O.position) words.old words.new place bit }
 {
     write_at::<R, O>(words, Place::new(place), bit);
 }
@@ -63,8 +63,8 @@ pub fn replace_entry<R: BitRegister, O: BitOrder<R>>(
     bit: bool,
 ) -> bool
     requires within { place < length words.old * R.BITS }
-    ensures value { result ≡ entry R.BITS (indexed R.number O.position) words.old place }
-    ensures written { Writes R.BITS (indexed R.number O.position) words.old words.new place bit }
+    ensures value { result ≡ entry (read_by R.BitRegister O.position) words.old place }
+    ensures written { Writes (read_by R.BitRegister O.position) words.old words.new place bit }
 {
     let old = read_entry::<R, O>(words, place);
     write_entry::<R, O>(words, place, bit);
@@ -75,7 +75,7 @@ pub fn replace_entry<R: BitRegister, O: BitOrder<R>>(
 #[tactic(auto, using(crate::proofs::PlaceLemmas::word_within))]
 pub(crate) fn read_at<R: BitRegister, O: BitOrder<R>>(words: &[R], place: Place<R>) -> bool
     requires within { place_of R.BITS place < length words.now * R.BITS }
-    ensures value { result ≡ entry R.BITS (indexed R.number O.position) words.now (place_of R.BITS place) }
+    ensures value { result ≡ entry (read_by R.BitRegister O.position) words.now (place_of R.BITS place) }
 {
     read_bit::<R, O>(words[place.word()], place.index())
 }
@@ -84,7 +84,7 @@ pub(crate) fn read_at<R: BitRegister, O: BitOrder<R>>(words: &[R], place: Place<
 #[tactic(auto, using(crate::proofs::PlaceLemmas::word_within))]
 pub(crate) fn write_at<R: BitRegister, O: BitOrder<R>>(words: &mut [R], place: Place<R>, bit: bool)
     requires within { place_of R.BITS place < length words.old * R.BITS }
-    ensures written { Writes R.BITS (indexed R.number O.position)
+    ensures written { Writes (read_by R.BitRegister O.position)
         words.old words.new (place_of R.BITS place) bit }
 {
     let word = place.word();

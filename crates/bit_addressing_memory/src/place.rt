@@ -1,7 +1,7 @@
 //! Places in a memory as a word number and an index in that word, so that none is too large for its
 //! type.
 
-ghost use Rattle.std.specs.Prelude.{◌≡◌, ℕ, ◌+◌, ◌*◌, ◌^◌, ◌<◌, ◌≤◌, true, false};
+ghost use Rattle.std.specs.Prelude.{◌≡◌, ℕ, ◌+◌, ◌*◌, ◌^◌, ◌<◌, ◌↔◌, IsTrue};
 ghost use Rattle.bit_addressing_memory.specs.Place.{place_of};
 
 use bit_addressing_order::{BitIdx, BitRegister};
@@ -60,8 +60,7 @@ impl<R: BitRegister> Place<R> {
     // Whether the place lies before another.
     #[tactic(auto, using(crate::proofs::PlaceLemmas::place_order))]
     pub fn is_before(self, other: Place<R>) -> bool
-        ensures before { result ≡ true → place_of R.BITS self ≤ place_of R.BITS other }
-        ensures not_before { result ≡ false → place_of R.BITS other ≤ place_of R.BITS self }
+        ensures { IsTrue result ↔ (place_of R.BITS self < place_of R.BITS other) }
     {
         if self.word() == other.word() {
             return self.index().into_inner() < other.index().into_inner();

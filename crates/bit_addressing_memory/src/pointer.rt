@@ -2,10 +2,10 @@
 //!
 //! A pointer is two numbers and no address, so its calls are handed the memory that they touch.
 
-ghost use Rattle.std.specs.Prelude.{◌≡◌, ◌+◌, ◌*◌, ◌^◌, ◌<◌, ◌≤◌, pos, ◌+ℤ◌, ◌-ℤ◌, ◌*ℤ◌, neg_ℤ, FitsSigned};
+ghost use Rattle.std.specs.Prelude.{◌≡◌, ◌↔◌, IsTrue, ◌+◌, ◌*◌, ◌^◌, ◌<◌, ◌≤◌, pos, ◌+ℤ◌, ◌-ℤ◌, ◌*ℤ◌, neg_ℤ, FitsSigned};
 ghost use Rattle.std.specs.Int.{w64, int_wrap};
 ghost use Rattle.std.specs.Int.RustNames.{unsigned_abs};
-ghost use Rattle.bit_addressing_order.specs.Index.{IsOffset};
+ghost use Rattle.bit_addressing_order.specs.BitIdx.{IsOffset};
 ghost use Rattle.bit_addressing_memory.specs.Pointer.{whole_place, StaysIn, WrapsTo};
 
 use crate::place::Place;
@@ -158,35 +158,33 @@ impl<R: BitRegister, O: BitOrder<R>> BitPtr<R, O> {
     }
 }
 
-// Copy from behind a reference: a pointer generic in its order is not `Copy`.
+// Test.
 impl<R: BitRegister, O: BitOrder<R>> BitPtr<R, O> {
-    // The same pointer.
-    pub(crate) fn copied(&self) -> BitPtr<R, O>
-        ensures value { result ≡ self.now }
-
-        // What the type says.
-        ensures word_fits { FitsSigned w64 result.word }
-        ensures bit_within { result.bit < R.BITS }
+    /// Whether `offset` may be called: whether the number of the word of the bit `by` bits on fits `isize`.
+    pub fn can_offset(self, by: isize) -> bool
+        ensures { IsTrue result ↔ StaysIn R.BITS (whole_place R.BITS self +ℤ by) }
     {
-        BitPtr::new(self.word, self.bit)
+        let (word, bit) = self.raw_parts();
+        let (words, _) = bit.offset(by);
+        fits_on(word, words)
     }
 
-    // The pointer to the next bit, whose word's number fits.
-    pub(crate) fn one_on(&self) -> BitPtr<R, O>
-        requires stays { StaysIn R.BITS (whole_place R.BITS self.now +ℤ pos 1) }
-        ensures place { whole_place R.BITS result ≡ whole_place R.BITS self.now +ℤ pos 1 }
-        ensures bit { result.bit < R.BITS }
+    /// Whether `add` may be called: whether the number of the word of the bit `count` bits on fits `isize`.
+    pub fn can_add(self, count: usize) -> bool
+        ensures { IsTrue result ↔ StaysIn R.BITS (whole_place R.BITS self +ℤ pos count) }
     {
-        self.copied().add(1)
+        let (word, bit) = self.raw_parts();
+        let (words, _) = bits_on::<R>(bit, count);
+        fits_on(word, words)
     }
 
-    // The pointer to the bit before, whose word's number fits.
-    pub(crate) fn one_back(&self) -> BitPtr<R, O>
-        requires stays { StaysIn R.BITS (whole_place R.BITS self.now -ℤ pos 1) }
-        ensures place { whole_place R.BITS result ≡ whole_place R.BITS self.now -ℤ pos 1 }
-        ensures bit { result.bit < R.BITS }
+    /// Whether `sub` may be called: whether the number of the word of the bit `count` bits back fits `isize`.
+    pub fn can_sub(self, count: usize) -> bool
+        ensures { IsTrue result ↔ StaysIn R.BITS (whole_place R.BITS self -ℤ pos count) }
     {
-        self.copied().sub(1)
+        let (word, bit) = self.raw_parts();
+        let (words, _) = bits_back::<R>(bit, count);
+        fits_on(word, words)
     }
 }
 
@@ -263,6 +261,13 @@ impl<R: BitRegister, O: BitOrder<R>> BitPtr<R, O> {
         let (first, start) = origin.raw_parts();
         distance::<R>(first, start, word, bit) as isize
     }
+}
+
+// Whether the number of the word so many words on fits.
+fn fits_on(word: isize, words: isize) -> bool
+    ensures { IsTrue result ↔ FitsSigned w64 (word +ℤ words) }
+{
+    word.checked_add(words).is_some()
 }
 
 // The pointer to a bit of the word so many words on from another, whose number fits.

@@ -5,7 +5,7 @@ ghost use Rattle.std.specs.Int.{w64};
 ghost use Rattle.std.specs.Iterator.{YieldsFirst, YieldsLast, UpTo, item_count};
 ghost use Rattle.std.specs.Iterator.SizeHint.{IsWithinCount};
 ghost use Rattle.bit_addressing_memory.specs.Pointer.{whole_place};
-ghost use Rattle.bit_addressing_memory.specs.PointerRange.{pointers_of};
+ghost use Rattle.bit_addressing_memory.specs.PointerRange.{end_of, pointers_of};
 
 use crate::pointer::{BitPtr, Dangling, distance};
 use bit_addressing_order::{BitOrder, BitRegister};
@@ -26,7 +26,8 @@ pub struct BitPtrRange<R: BitRegister, O: BitOrder<R>> {
 
 impl<R: BitRegister, O: BitOrder<R>> Model for BitPtrRange<R, O> {
     ghost use Rattle.std.proofs.Common.{ap};
-    ghost use Rattle.bit_addressing_memory.specs.PointerRange.{PointerRange, IsRange, bits_between, end_of, end_is};
+    ghost use Rattle.bit_addressing_memory.specs.PointerRange.{PointerRange, IsRange, bits_between, end_of};
+    ghost use Rattle.bit_addressing_memory.specs.PointerRangeLaws.{end_is};
 
     ghost Value = { PointerRange };
 
@@ -74,7 +75,7 @@ impl<R: BitRegister, O: BitOrder<R>> Default for BitPtrRange<R, O> {
 // Make and read.
 impl<R: BitRegister, O: BitOrder<R>> BitPtrRange<R, O> {
     /// The pointers of a range whose start is not past its end, and whose bits an `isize` counts.
-    #[tactic(auto, using(crate::specs::PointerRange::stays_here))]
+    #[tactic(auto, using(crate::proofs::PointerRangeLemmas::stays_here))]
     pub fn from_range(range: Range<BitPtr<R, O>>) -> BitPtrRange<R, O>
         requires order { whole_place R.BITS range.start ≤ℤ whole_place R.BITS range.end }
         requires fits { FitsSigned w64 (whole_place R.BITS range.end -ℤ whole_place R.BITS range.start) }
@@ -92,8 +93,7 @@ impl<R: BitRegister, O: BitOrder<R>> BitPtrRange<R, O> {
     /// The same range as the first pointer and the one before which it ends.
     pub fn into_range(self) -> Range<BitPtr<R, O>>
         ensures start { result.start ≡ self.start }
-        ensures end { whole_place R.BITS result.end ≡ whole_place R.BITS self.start +ℤ pos self.len }
-        ensures bit { result.end.bit < R.BITS }
+        ensures end { result.end ≡ end_of R.BITS self }
     {
         self.start()..self.end()
     }
@@ -103,7 +103,7 @@ impl<R: BitRegister, O: BitOrder<R>> BitPtrRange<R, O> {
         ensures { IsTrue result ↔ ((whole_place R.BITS self.now.start ≤ℤ whole_place R.BITS pointer.now)
             × (whole_place R.BITS pointer.now <ℤ (whole_place R.BITS self.now.start +ℤ pos self.now.len))) }
     {
-        let on = bits_to(self.start(), pointer.copied());
+        let on = bits_to(self.start(), *pointer);
         on >= 0 && on < self.bits_left() as i128
     }
 
@@ -111,15 +111,14 @@ impl<R: BitRegister, O: BitOrder<R>> BitPtrRange<R, O> {
     pub fn start(&self) -> BitPtr<R, O>
         ensures { result ≡ self.now.start }
     {
-        self.start.copied()
+        self.ends().0
     }
 
     /// The pointer before which it ends.
     pub fn end(&self) -> BitPtr<R, O>
-        ensures place { whole_place R.BITS result ≡ whole_place R.BITS self.now.start +ℤ pos self.now.len }
-        ensures bit { result.bit < R.BITS }
+        ensures { result ≡ end_of R.BITS self.now }
     {
-        self.end.copied()
+        self.ends().1
     }
 
     /// Whether it has no pointer.
@@ -129,16 +128,25 @@ impl<R: BitRegister, O: BitOrder<R>> BitPtrRange<R, O> {
         self.bits_left() == 0
     }
 
+    // The pointer that the range begins with, and the one before which it ends.
+    #[tactic(auto, using(crate::proofs::PointerRangeLemmas::end_seen))]
+    fn ends(&self) -> (BitPtr<R, O>, BitPtr<R, O>)
+        ensures start { result.0 ≡ self.now.start }
+        ensures end { result.1 ≡ end_of R.BITS self.now }
+    {
+        (self.start, self.end)
+    }
+
     // How many pointers it has.
     fn bits_left(&self) -> usize
         ensures value { result ≡ self.now.len }
         ensures small { result < 2 ^ 63 }
     {
-        bits_to(self.start.copied(), self.end.copied()) as usize
+        bits_to(self.start, self.end) as usize
     }
 }
 
-#[tactic(auto, using(crate::proofs::PointerLemmas::steps_from_front, crate::specs::PointerRange::ends_of_pointers))]
+#[tactic(auto, using(crate::proofs::PointerLemmas::steps_from_front, crate::proofs::PointerRangeLemmas::ends_of_pointers))]
 impl<R: BitRegister, O: BitOrder<R>> Iterator for BitPtrRange<R, O> {
     type Item = BitPtr<R, O>;
 
@@ -150,8 +158,8 @@ impl<R: BitRegister, O: BitOrder<R>> Iterator for BitPtrRange<R, O> {
         if self.bits_left() == 0 {
             return None;
         }
-        let first = self.start.copied();
-        self.start = self.start.one_on();
+        let first = self.start;
+        self.start = self.start.add(1);
         Some(first)
     }
 
@@ -173,12 +181,12 @@ impl<R: BitRegister, O: BitOrder<R>> DoubleEndedIterator for BitPtrRange<R, O> {
         if self.bits_left() == 0 {
             return None;
         }
-        self.end = self.end.one_back();
-        Some(self.end.copied())
+        self.end = self.end.sub(1);
+        Some(self.end)
     }
 }
 
-#[tactic(auto, using(crate::specs::PointerRange::ends_of_pointers))]
+#[tactic(auto, using(crate::proofs::PointerRangeLemmas::ends_of_pointers))]
 impl<R: BitRegister, O: BitOrder<R>> ExactSizeIterator for BitPtrRange<R, O> {
     fn len(&self) -> usize {
         self.bits_left()
@@ -187,7 +195,7 @@ impl<R: BitRegister, O: BitOrder<R>> ExactSizeIterator for BitPtrRange<R, O> {
 
 impl<R: BitRegister, O: BitOrder<R>> FusedIterator for BitPtrRange<R, O> {}
 
-#[tactic(auto, using(crate::specs::PointerRange::end_seen))]
+#[tactic(auto, using(crate::proofs::PointerRangeLemmas::end_seen))]
 impl<R: BitRegister, O: BitOrder<R>> RangeBounds<BitPtr<R, O>> for BitPtrRange<R, O> {
     ghost use Rattle.std.specs.Prelude.{⊤};
     ghost use Rattle.std.specs.declared.ops.Bound.TheVariants.{Included, Excluded};

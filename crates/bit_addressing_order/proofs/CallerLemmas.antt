@@ -15,10 +15,10 @@ use Rattle.std.proofs.lemmas.Nat.{or_lt, xor_lt}
 use Rattle.std.proofs.lemmas.Nat.Bits.{bit_at-lt, bit_at_or, bit_at_xor, bit_at-pow_same, bit_at-pow_other}
 use Rattle.std.proofs.lemmas.Nat.Bits.{same_from_bits, same_from_bits_below}
 use Rattle.std.specs.Int.{bit_at}
-use Rattle.bit_addressing_order.proofs.Onto.{onto}
+use Rattle.bit_addressing_order.proofs.OntoLemmas.{onto}
 use Rattle.bit_addressing_order.specs.Bits.{digit_at, with_digit, bits_in_order}
-use Rattle.bit_addressing_order.specs.Digits.{set_here, set_other, clear_here, clear_other, and_selector}
-use Rattle.bit_addressing_order.specs.Law.{lower, upper, IsIndexBound, IsLawful}
+use Rattle.bit_addressing_order.proofs.DigitLemmas.{set_here, set_other, clear_here, clear_other, and_selector}
+use Rattle.bit_addressing_order.specs.BitOrder.{lower, upper, IsIndexBound, IsLawful}
 
 -- ---- one digit
 

@@ -1,3 +1,7 @@
 pub mod CallerLemmas
+pub mod DigitLemmas
 mod MaskLemmas
-mod Onto
+mod OntoLemmas
+pub mod OrderLemmas
+mod RangeLemmas
+mod SelectorLemmas

@@ -6,8 +6,8 @@ use Rattle.std.proofs.lemmas.Bool.{cases_eq}
 use Rattle.std.proofs.lemmas.List.{map-append}
 use Rattle.std.proofs.lemmas.List.Elements.{Contains-append_left, Contains-push, Contains-push_cases}
 use Rattle.std.proofs.lemmas.Nat.Bits.{bit_at-zero, bit_at-lt, bit_at-pow_same, bit_at-pow_other, bit_at_or}
-use Rattle.bit_addressing_order.specs.Law.{IsSelector}
-use Rattle.bit_addressing_order.specs.Masks.{IsUnionOf}
+use Rattle.bit_addressing_order.specs.BitOrder.{IsSelector}
+use Rattle.bit_addressing_order.specs.BitMask.{IsUnionOf}
 
 -- no selector makes the empty mask
 pub IsUnionOf-none : (n : ℕ) → n ≡ 0 → IsUnionOf n []

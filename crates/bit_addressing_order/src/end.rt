@@ -87,6 +87,6 @@ impl<R: BitRegister> BitEnd<R> {
     pub fn range_from(from: BitIdx<R>) -> EndRange<R>
         ensures { result ≡ range_with_len from (R.BITS + 1 - from) }
     {
-        EndRange::new(from.into_inner())
+        EndRange::new(from.into_inner(), R::BITS + 1)
     }
 }

@@ -4,7 +4,7 @@ ghost use Rattle.std.specs.Prelude.{◌≡◌, ℕ, ◌+◌, ◌-◌, ◌<◌, �
 ghost use Rattle.std.specs.Prelude.{IsTrue, IsOk, MatchResult, FitsSigned};
 ghost use Rattle.std.specs.Int.{w64};
 ghost use Rattle.std.specs.List.{range_with_len};
-ghost use Rattle.bit_addressing_order.specs.Index.{next_index, prev_index, IsOffset};
+ghost use Rattle.bit_addressing_order.specs.BitIdx.{next_index, prev_index, IsOffset};
 
 use crate::end::BitEnd;
 use crate::limits::Limits;

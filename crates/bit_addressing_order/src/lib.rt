@@ -22,5 +22,5 @@ pub use order::{
     select_from_at,
 };
 pub use position::BitPos;
-pub use ranges::{EndRange, IndexRange, SelectorRange};
+pub use ranges::{EndRange, IndexRange, Place, PlaceRange, SelectorRange};
 pub use selector::BitSel;

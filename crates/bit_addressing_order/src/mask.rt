@@ -3,8 +3,8 @@
 ghost use Rattle.std.specs.Prelude.{◌≡◌, ℕ, ◌-◌, ◌^◌, ◌↔◌, bit_and, bit_or, map, IsTrue};
 ghost use Rattle.std.specs.Int.{bit_at};
 ghost use Rattle.std.specs.Iterator.{IsFinite, Drains};
-ghost use Rattle.bit_addressing_order.specs.Law.{IsOneBit};
-ghost use Rattle.bit_addressing_order.specs.Masks.{IsUnionOf};
+ghost use Rattle.bit_addressing_order.specs.BitOrder.{IsOneBit};
+ghost use Rattle.bit_addressing_order.specs.BitMask.{IsUnionOf};
 
 use crate::limits::AllOrNone;
 use crate::selector::BitSel;
@@ -94,7 +94,7 @@ impl<R: BitRegister> BitMask<R> {
     }
 
     /// Whether the selector's position is in the mask.
-    #[tactic(auto, using(crate::specs::Digits::test_of_one))]
+    #[tactic(auto, using(crate::proofs::DigitLemmas::test_of_one))]
     pub fn test(&self, selector: BitSel<R>) -> bool
         ensures { (p : ℕ) → IsOneBit (R.number selector) p
             → IsTrue result ↔ (bit_at (R.number self.now) p ≡ 1) }

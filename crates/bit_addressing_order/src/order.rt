@@ -1,8 +1,8 @@
 //! The orders in which the bits of a word are counted.
 
 ghost use Rattle.std.specs.Prelude.{◌≡◌, ℕ, Option, ◌+◌, ◌-◌, ◌^◌, ◌<◌, ◌≤◌, bit_and};
-ghost use Rattle.bit_addressing_order.specs.Law.{lower, upper, mask_from, selectors_from, masks_from};
-ghost use Rattle.bit_addressing_order.specs.Law.{IsLawful, IsSelector, IsIndexBound};
+ghost use Rattle.bit_addressing_order.specs.BitOrder.{lower, upper, mask_from, selectors_from, masks_from};
+ghost use Rattle.bit_addressing_order.specs.BitOrder.{IsLawful, IsSelector, IsIndexBound};
 
 use crate::end::BitEnd;
 use crate::index::BitIdx;
@@ -14,8 +14,9 @@ use bit_addressing_register::BitRegister;
 /// The position of each index, with no law: the part of an order that `select_from_at` and
 /// `mask_from_at` work from.
 ///
-/// An order writes `position_of`, over plain numbers; its users call `at`.
-pub trait Positions<R: BitRegister> {
+/// An order writes `position_of`, over plain numbers; its users call `at`. It is a unit struct, and
+/// copied as one.
+pub trait Positions<R: BitRegister>: Copy {
     ghost position: { ℕ → ℕ };
 
     /// The position of the index, both as plain numbers below `BITS`.
@@ -73,14 +74,8 @@ pub trait OrderCandidate<R: BitRegister>: Positions<R> {
         ensures from { IsIndexBound R.BITS from }
         ensures upto { upper R.BITS upto ≤ R.BITS }
     {
-        let from = match from {
-            Some(index) => Some(index.into_inner()),
-            None => None,
-        };
-        let upto = match upto {
-            Some(end) => Some(end.into_inner()),
-            None => None,
-        };
+        let from = from.map(|index| index.into_inner());
+        let upto = upto.map(|end| end.into_inner());
         BitMask::new(Self::mask_of(from, upto))
     }
 }
@@ -165,7 +160,7 @@ impl<R: BitRegister> BitOrder<R> for Msb0 {
 }
 
 // The word whose ones are the positions from one bound up to before another.
-#[tactic(auto, using(crate::specs::Digits::ones_between_word))]
+#[tactic(auto, using(crate::proofs::DigitLemmas::ones_between_word))]
 fn ones_between<R: BitRegister>(from: u8, upto: u8) -> R
     requires order { from ≤ upto }
     requires within { upto ≤ R.BITS }
@@ -198,7 +193,7 @@ pub fn mask_from_at<R: BitRegister, P: Positions<R>>(from: Option<u8>, upto: Opt
 }
 
 // The word whose ones are the positions of these indices.
-#[tactic(auto, using(crate::specs::OrderLaws::mask_from_none, crate::specs::OrderLaws::mask_from_more))]
+#[tactic(auto, using(crate::proofs::OrderLemmas::made_masks))]
 fn mask_of_indices<R: BitRegister, P: Positions<R>>(first: u8, end: u8) -> R
     requires order { first ≤ end }
     requires within { end ≤ R.BITS }

@@ -82,7 +82,7 @@ impl<R: BitRegister> BitPos<R> {
     }
 
     /// The word with the digit at this position alone.
-    #[tactic(auto, using(crate::specs::Digits::one_shl, crate::specs::Digits::IsSelector_pow))]
+    #[tactic(auto, using(crate::proofs::DigitLemmas::one_shl, crate::proofs::DigitLemmas::IsSelector_pow))]
     pub fn select(self) -> BitSel<R>
         ensures { R.number result ≡ 2 ^ self }
     {

@@ -1,8 +1,8 @@
 //! The iterators over the places of a word, from both ends.
 
-ghost use Rattle.std.specs.Prelude.{◌≡◌, ◌+◌, ◌-◌, ◌≤◌, ◌^◌, length, map, IfSome, Some, ⊤};
+ghost use Rattle.std.specs.Prelude.{◌≡◌, ℕ, ◌+◌, ◌-◌, ◌<◌, ◌≤◌, ◌^◌, length, map, IfSome, Some, ⊤};
 ghost use Rattle.std.specs.List.{range_with_len};
-ghost use Rattle.std.specs.Iterator.{YieldsFirst, YieldsLast, YieldsFirstBy, YieldsLastBy, item_count, at_most, UpTo};
+ghost use Rattle.std.specs.Iterator.{YieldsFirstBy, YieldsLastBy, item_count, at_most, UpTo};
 ghost use Rattle.std.specs.Iterator.SizeHint.{IsWithinCount};
 
 use crate::end::BitEnd;
@@ -14,17 +14,66 @@ use std::alloc::AllocError;
 use std::iter::FusedIterator;
 use std::marker::{Model, PhantomData};
 
-/// The indices of a range, ascending; a contract sees it as the list of those that are left.
-///
-/// It is exact in length, gives each index once from either end, and then `None` for good.
-#[derive(Drop)]
-pub struct IndexRange<R: BitRegister> {
-    from: u8,
-    upto: u8,
-    register: PhantomData<R>,
+/// What a range goes over: the places that are the numbers below a limit.
+pub trait Place: Copy {
+    ghost number: { Self → ℕ };
+
+    ghost limit: { ℕ };
+
+    /// The place of this number, which is below the limit.
+    fn of_number(place: u8) -> Self
+        requires { place < limit }
+        ensures { number result ≡ place };
 }
 
-impl<R: BitRegister> Model for IndexRange<R> {
+impl<R: BitRegister> Place for BitIdx<R> {
+    ghost number = { λ index. index };
+
+    ghost limit = { R.BITS };
+
+    fn of_number(place: u8) -> BitIdx<R> {
+        BitIdx::new_unchecked(place)
+    }
+}
+
+impl<R: BitRegister> Place for BitEnd<R> {
+    ghost number = { λ end. end };
+
+    ghost limit = { R.BITS + 1 };
+
+    fn of_number(place: u8) -> BitEnd<R> {
+        BitEnd::new_unchecked(place)
+    }
+}
+
+impl<R: BitRegister> Place for BitPos<R> {
+    ghost number = { λ position. position };
+
+    ghost limit = { R.BITS };
+
+    fn of_number(place: u8) -> BitPos<R> {
+        BitPos::new_unchecked(place)
+    }
+}
+
+/// The indices of a range, ascending.
+pub type IndexRange<R> = PlaceRange<BitIdx<R>>;
+
+/// The ends of ranges from one index on, ascending.
+pub type EndRange<R> = PlaceRange<BitEnd<R>>;
+
+/// The places of a range, ascending; a contract sees it as the list of the numbers of those that
+/// are left.
+///
+/// It is exact in length, gives each place once from either end, and then `None` for good.
+#[derive(Drop)]
+pub struct PlaceRange<P: Place> {
+    from: u8,
+    upto: u8,
+    place: PhantomData<P>,
+}
+
+impl<P: Place> Model for PlaceRange<P> {
     ghost use Rattle.std.specs.Prelude.{ℕ, List, ◌-◌, ◌≤◌};
     ghost use Rattle.std.specs.List.{range_with_len};
 
@@ -32,48 +81,49 @@ impl<R: BitRegister> Model for IndexRange<R> {
 
     ghost view = { λ range. range_with_len range.from (range.upto - range.from) };
 
-    ghost invariant = { λ range. (range.from ≤ range.upto) × (range.upto ≤ R.BITS) };
+    ghost invariant = { λ range. (range.from ≤ range.upto) × (range.upto ≤ P.limit) };
 }
 
-impl<R: BitRegister> IndexRange<R> {
-    pub(crate) fn new(from: u8, upto: u8) -> IndexRange<R>
+impl<P: Place> PlaceRange<P> {
+    // The places from one number up to before another.
+    pub(crate) fn new(from: u8, upto: u8) -> PlaceRange<P>
         requires order { from ≤ upto }
-        requires within { upto ≤ R.BITS }
+        requires within { upto ≤ P.limit }
         ensures { result ≡ range_with_len from (upto - from) }
     {
-        IndexRange {
+        PlaceRange {
             from,
             upto,
-            register: PhantomData,
+            place: PhantomData,
         }
     }
 }
 
-impl<R: BitRegister> Clone for IndexRange<R> {
+impl<P: Place> Clone for PlaceRange<P> {
     ghost is_clone = { λ range copy. copy ≡ range };
 
     ghost is_infallible = { λ _. ⊤ };
 
     fn clone(&self) -> Result<Self, AllocError> {
-        Ok(IndexRange::new(self.from, self.upto))
+        Ok(PlaceRange::new(self.from, self.upto))
     }
 }
 
-#[tactic(auto, using(crate::specs::Ranges::ends_of_range))]
-impl<R: BitRegister> Iterator for IndexRange<R> {
-    type Item = BitIdx<R>;
+#[tactic(auto, using(crate::proofs::RangeLemmas::ends_of_range))]
+impl<P: Place> Iterator for PlaceRange<P> {
+    type Item = P;
 
-    ghost next_gives = { YieldsFirst (λ rest. rest) };
+    ghost next_gives = { YieldsFirstBy P.number (λ rest. rest) };
 
     ghost remaining = { item_count (λ rest. rest) };
 
-    fn next(&mut self) -> Option<BitIdx<R>> {
+    fn next(&mut self) -> Option<P> {
         if self.from == self.upto {
             return None;
         }
-        let index = self.from;
-        self.from = index + 1;
-        Some(BitIdx::new_unchecked(index))
+        let first = self.from;
+        self.from = first + 1;
+        Some(P::of_number(first))
     }
 
     fn size_hint(&self) -> (usize, Option<usize>)
@@ -81,133 +131,33 @@ impl<R: BitRegister> Iterator for IndexRange<R> {
         ensures upper { IfSome result.1 (UpTo (at_most (length self.now))) }
         ensures exact { result ≡ (length self.now, Some (length self.now)) }
     {
-        let indices = self.len();
-        (indices, Some(indices))
+        let places = self.len();
+        (places, Some(places))
     }
 }
 
-#[tactic(auto, using(crate::specs::Ranges::ends_of_range))]
-impl<R: BitRegister> DoubleEndedIterator for IndexRange<R> {
-    ghost next_back_gives = { YieldsLast (λ rest. rest) };
+#[tactic(auto, using(crate::proofs::RangeLemmas::ends_of_range))]
+impl<P: Place> DoubleEndedIterator for PlaceRange<P> {
+    ghost next_back_gives = { YieldsLastBy P.number (λ rest. rest) };
 
-    fn next_back(&mut self) -> Option<BitIdx<R>> {
+    fn next_back(&mut self) -> Option<P> {
         if self.from == self.upto {
             return None;
         }
-        let index = self.upto - 1;
-        self.upto = index;
-        Some(BitIdx::new_unchecked(index))
+        let last = self.upto - 1;
+        self.upto = last;
+        Some(P::of_number(last))
     }
 }
 
-#[tactic(auto, using(crate::specs::Ranges::ends_of_range))]
-impl<R: BitRegister> ExactSizeIterator for IndexRange<R> {
+#[tactic(auto, using(crate::proofs::RangeLemmas::ends_of_range))]
+impl<P: Place> ExactSizeIterator for PlaceRange<P> {
     fn len(&self) -> usize {
         (self.upto - self.from) as usize
     }
 }
 
-impl<R: BitRegister> FusedIterator for IndexRange<R> {}
-
-/// The ends of ranges from one index on, ascending; a contract sees it as the list of those that
-/// are left.
-///
-/// It is exact in length, gives each end once from either end, and then `None` for good.
-#[derive(Drop)]
-pub struct EndRange<R: BitRegister> {
-    from: u8,
-    upto: u8,
-    register: PhantomData<R>,
-}
-
-impl<R: BitRegister> Model for EndRange<R> {
-    ghost use Rattle.std.specs.Prelude.{ℕ, List, ◌+◌, ◌-◌, ◌≤◌};
-    ghost use Rattle.std.specs.List.{range_with_len};
-
-    ghost Value = { List ℕ };
-
-    ghost view = { λ range. range_with_len range.from (range.upto - range.from) };
-
-    ghost invariant = { λ range. (range.from ≤ range.upto) × (range.upto ≤ R.BITS + 1) };
-}
-
-impl<R: BitRegister> EndRange<R> {
-    pub(crate) fn new(from: u8) -> EndRange<R>
-        requires { from ≤ R.BITS }
-        ensures { result ≡ range_with_len from (R.BITS + 1 - from) }
-    {
-        EndRange {
-            from,
-            upto: R::BITS + 1,
-            register: PhantomData,
-        }
-    }
-}
-
-impl<R: BitRegister> Clone for EndRange<R> {
-    ghost is_clone = { λ range copy. copy ≡ range };
-
-    ghost is_infallible = { λ _. ⊤ };
-
-    fn clone(&self) -> Result<Self, AllocError> {
-        Ok(EndRange {
-            from: self.from,
-            upto: self.upto,
-            register: PhantomData,
-        })
-    }
-}
-
-#[tactic(auto, using(crate::specs::Ranges::ends_of_range))]
-impl<R: BitRegister> Iterator for EndRange<R> {
-    type Item = BitEnd<R>;
-
-    ghost next_gives = { YieldsFirst (λ rest. rest) };
-
-    ghost remaining = { item_count (λ rest. rest) };
-
-    fn next(&mut self) -> Option<BitEnd<R>> {
-        if self.from == self.upto {
-            return None;
-        }
-        let end = self.from;
-        self.from = end + 1;
-        Some(BitEnd::new_unchecked(end))
-    }
-
-    fn size_hint(&self) -> (usize, Option<usize>)
-        ensures lower { IsWithinCount result.0 (at_most (length self.now)) }
-        ensures upper { IfSome result.1 (UpTo (at_most (length self.now))) }
-        ensures exact { result ≡ (length self.now, Some (length self.now)) }
-    {
-        let ends = self.len();
-        (ends, Some(ends))
-    }
-}
-
-#[tactic(auto, using(crate::specs::Ranges::ends_of_range))]
-impl<R: BitRegister> DoubleEndedIterator for EndRange<R> {
-    ghost next_back_gives = { YieldsLast (λ rest. rest) };
-
-    fn next_back(&mut self) -> Option<BitEnd<R>> {
-        if self.from == self.upto {
-            return None;
-        }
-        let end = self.upto - 1;
-        self.upto = end;
-        Some(BitEnd::new_unchecked(end))
-    }
-}
-
-#[tactic(auto, using(crate::specs::Ranges::ends_of_range))]
-impl<R: BitRegister> ExactSizeIterator for EndRange<R> {
-    fn len(&self) -> usize {
-        let left = self.upto - self.from;
-        left as usize
-    }
-}
-
-impl<R: BitRegister> FusedIterator for EndRange<R> {}
+impl<P: Place> FusedIterator for PlaceRange<P> {}
 
 /// The selectors of every position, ascending; a contract sees it as the list of the numbers of
 /// those that are left.
@@ -215,7 +165,7 @@ impl<R: BitRegister> FusedIterator for EndRange<R> {}
 /// It is exact in length, gives each selector once from either end, and then `None` for good.
 #[derive(Drop)]
 pub struct SelectorRange<R: BitRegister> {
-    positions: IndexRange<R>,
+    positions: PlaceRange<BitPos<R>>,
 }
 
 impl<R: BitRegister> Model for SelectorRange<R> {
@@ -227,11 +177,12 @@ impl<R: BitRegister> Model for SelectorRange<R> {
 }
 
 impl<R: BitRegister> SelectorRange<R> {
+    // The selectors of every position.
     pub(crate) fn new() -> SelectorRange<R>
         ensures { result ≡ map (λ position. 2 ^ position) (range_with_len 0 R.BITS) }
     {
         SelectorRange {
-            positions: IndexRange::new(0, R::BITS),
+            positions: PlaceRange::new(0, R::BITS),
         }
     }
 }
@@ -255,8 +206,7 @@ impl<R: BitRegister> Iterator for SelectorRange<R> {
     ghost remaining = { item_count (λ rest. rest) };
 
     fn next(&mut self) -> Option<BitSel<R>> {
-        let position = self.positions.next()?;
-        Some(BitPos::new_unchecked(position.into_inner()).select())
+        self.positions.next().map(|position| position.select())
     }
 
     fn size_hint(&self) -> (usize, Option<usize>)
@@ -273,8 +223,7 @@ impl<R: BitRegister> DoubleEndedIterator for SelectorRange<R> {
     ghost next_back_gives = { YieldsLastBy R.number (λ rest. rest) };
 
     fn next_back(&mut self) -> Option<BitSel<R>> {
-        let position = self.positions.next_back()?;
-        Some(BitPos::new_unchecked(position.into_inner()).select())
+        self.positions.next_back().map(|position| position.select())
     }
 }
 

@@ -2,7 +2,7 @@
 
 ghost use Rattle.std.specs.Prelude.{◌≡◌, ◌==◌, ℕ, ◌^◌, ◌<◌, ◌↔◌, IsSome, IfSome, map};
 ghost use Rattle.std.specs.List.{range_with_len};
-ghost use Rattle.bit_addressing_order.specs.Law.{IsSelector};
+ghost use Rattle.bit_addressing_order.specs.BitOrder.{IsSelector};
 
 use crate::mask::BitMask;
 use crate::position::BitPos;
@@ -18,7 +18,7 @@ pub struct BitSel<R: BitRegister> {
 }
 
 impl<R: BitRegister> Model for BitSel<R> {
-    ghost use Rattle.bit_addressing_order.specs.Law.{IsSelector};
+    ghost use Rattle.bit_addressing_order.specs.BitOrder.{IsSelector};
 
     ghost Value = { R };
 
@@ -43,18 +43,16 @@ impl<R: BitRegister> Clone for BitSel<R> {
 
 impl<R: BitRegister> BitSel<R> {
     /// The selector that is this word, or `None` where not exactly one bit is set.
-    #[tactic(auto, using(crate::specs::Digits::IsSelector_pow))]
+    #[tactic(auto, using(crate::proofs::SelectorLemmas::one_bit_is_selector))]
     pub fn new(word: R) -> Option<BitSel<R>>
         ensures some { IsSome result ↔ IsSelector R.BITS (R.number word) }
         ensures value { IfSome result (λ made. made ≡ word) }
     {
-        for position in 0..R::BITS {
-            let selector = BitPos::new_unchecked(position).select();
-            if word.equals(selector.into_inner()) {
-                return Some(BitSel::new_unchecked(word));
-            }
+        if word.value().is_power_of_two() {
+            Some(BitSel::new_unchecked(word))
+        } else {
+            None
         }
-        None
     }
 
     /// The selector that is this word, which has exactly one bit set: the caller shows it, or calls

@@ -3,7 +3,7 @@
 ghost use Rattle.std.specs.Prelude.{◌≡◌, ◌+◌, ◌<◌, ◌≤◌, [], ◌∷◌, ◌++◌, Some, codes};
 ghost use Rattle.std.specs.Fmt.{WritesOnOk, decimal};
 ghost use Rattle.std.specs.Int.{bit_at};
-ghost use Rattle.bit_addressing_order.specs.Index.{index_error_text};
+ghost use Rattle.bit_addressing_order.specs.BitIdx.{index_error_text};
 ghost use Rattle.bit_addressing_order.specs.Text.{binary_text, debug_text};
 
 use crate::end::BitEnd;

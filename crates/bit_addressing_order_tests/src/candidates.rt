@@ -1,11 +1,12 @@
 //! Candidates that break one law each.
 
 ghost use Rattle.std.specs.Prelude.{◌≡◌, ◌==◌, ◌&&◌, ℕ, ◌^◌, is_none, if◌then◌else◌};
-ghost use Rattle.bit_addressing_order.specs.Law.{lower, upper, selectors_from, masks_from};
+ghost use Rattle.bit_addressing_order.specs.BitOrder.{lower, upper, selectors_from, masks_from};
 
-use bit_addressing::{BitRegister, OrderCandidate, Positions, mask_from_at, select_from_at};
+use bit_addressing_order::{BitRegister, OrderCandidate, Positions, mask_from_at, select_from_at};
 
 /// Puts every index at position 0, and makes the rest from that.
+#[derive(Clone, Copy)]
 pub struct AllAtZero;
 
 impl<R: BitRegister> Positions<R> for AllAtZero {
@@ -31,6 +32,7 @@ impl<R: BitRegister> OrderCandidate<R> for AllAtZero {
 }
 
 /// Counts from the least significant bit, but selects position 4 for index 3.
+#[derive(Clone, Copy)]
 pub struct OtherSelector;
 
 impl<R: BitRegister> Positions<R> for OtherSelector {
@@ -60,6 +62,7 @@ impl<R: BitRegister> OrderCandidate<R> for OtherSelector {
 }
 
 /// Counts from the least significant bit, but the mask from 2 to 5 is empty.
+#[derive(Clone, Copy)]
 pub struct EmptyMask;
 
 impl<R: BitRegister> Positions<R> for EmptyMask {
@@ -90,6 +93,7 @@ impl<R: BitRegister> OrderCandidate<R> for EmptyMask {
 }
 
 /// Counts from the least significant bit, but the mask from 4 with no second bound is empty.
+#[derive(Clone, Copy)]
 pub struct EmptyTail;
 
 impl<R: BitRegister> Positions<R> for EmptyTail {

@@ -1,12 +1,15 @@
 //! The worked rows of orders and of their verification.
 
 use crate::candidates::{AllAtZero, EmptyMask, EmptyTail, OtherSelector};
-use bit_addressing::{
-    BitEnd, BitIdx, BitOrder, BitRegister, Lsb0, Msb0, OrderCandidate, OrderFault, WordFault,
-    disjoint_masks, mask_from_at, select_from_at, verify, verify_for_type,
+use bit_addressing_order::{
+    BitEnd, BitIdx, BitOrder, BitRegister, Lsb0, Msb0, OrderCandidate, disjoint_masks,
+    mask_from_at, select_from_at,
 };
-use bit_addressing_samples::word_callers::{entry, five, is_odd, with_entry, without_highest};
-use bit_addressing_samples::{FifthStep, Flipped};
+use bit_addressing_sample_orders::word_callers::{
+    both_positions, field, highest_four, parts, there_and_back, toggled,
+};
+use bit_addressing_sample_orders::{Count, FifthStep, Flipped, UpperHalfFirst};
+use bit_addressing_verify::{OrderFault, WordFault, verify, verify_for_type};
 use std::test::Fail;
 
 // The mask of the first three indices of a byte.
@@ -41,6 +44,18 @@ fn positions_and_selectors_of_the_orders(rt: HostRuntime) -> Result<(), Fail> {
         assert!(rt; index.select::<Msb0>().into_inner().value() == 1 << most);
         assert!(rt; index.mask::<FifthStep>().into_inner().value() == 1 << fifth);
     }
+    Ok(())
+}
+
+#[test]
+fn an_order_of_one_register(rt: HostRuntime) -> Result<(), Fail> {
+    for (index, position) in [(0, 16), (15, 31), (16, 0), (31, 15)] {
+        let index = BitIdx::<u32>::new(index)?;
+        assert!(rt; index.position::<UpperHalfFirst>().into_inner() == position);
+    }
+    let mask = UpperHalfFirst::mask(None, BitEnd::new(16));
+    assert!(rt; mask.into_inner() == 0xffff_0000);
+    assert!(rt; verify_for_type::<u32, UpperHalfFirst>() == Ok(()));
     Ok(())
 }
 
@@ -84,12 +99,52 @@ fn unlawful_candidates_are_told_their_first_fault(rt: HostRuntime) -> Result<(),
 }
 
 #[test]
-fn bits_are_read_and_written(rt: HostRuntime) -> Result<(), Fail> {
-    assert!(rt; five() == 5);
-    assert!(rt; without_highest() == 0x7f);
-    assert!(rt; is_odd());
-    let index = BitIdx::<u32>::new(1)?;
-    assert!(rt; with_entry::<u32, Msb0>(0, index, true) == 0x4000_0000);
-    assert!(rt; entry::<u32, Msb0>(0x4000_0000, index));
+fn parts_of_words(rt: HostRuntime) -> Result<(), Fail> {
+    let fourth = BitIdx::<u16>::new(4)?;
+    assert!(rt; field::<u16, Msb0>(0xabcd, fourth, BitEnd::new_unchecked(8)) == 0x0b00);
+    let first = BitIdx::<u8>::new(1)?;
+    assert!(rt; field::<u8, Lsb0>(0xff, first, BitEnd::new_unchecked(5)) == 0b0001_1110);
+    assert!(rt; field::<u8, FifthStep>(0xff, first, BitEnd::new_unchecked(3)) == 0b0010_0001);
+    let third = BitIdx::<u8>::new(3)?;
+    assert!(rt; parts::<u8, Lsb0>(0b1011_0110, third) == (0b0000_0110, 0b1011_0000));
+    assert!(rt; parts::<u8, FifthStep>(0xff, third) == (0b0010_1001, 0b1101_0110));
+    assert!(rt; highest_four() == 0b1111_0000);
     Ok(())
+}
+
+#[test]
+fn bits_are_flipped(rt: HostRuntime) -> Result<(), Fail> {
+    let first = BitIdx::<u32>::new(1)?;
+    assert!(rt; toggled::<u32, Msb0>(0, first) == 0x4000_0000);
+    assert!(rt; toggled::<u32, Msb0>(0x4000_0000, first) == 0);
+    assert!(rt; toggled::<u8, Flipped>(0xff, BitIdx::new(0)?) == 0b1110_1111);
+    Ok(())
+}
+
+#[test]
+fn neighbours_and_ends_of_indices(rt: HostRuntime) -> Result<(), Fail> {
+    for number in [0, 1, 62, 63] {
+        let index = BitIdx::<u64>::new(number)?;
+        assert!(rt; there_and_back(index) == index, "{number}");
+        assert!(rt; both_positions(index) == 63, "{number}");
+    }
+    Ok(())
+}
+
+// Whether an order's positions at words of one register are those that are counted by hand.
+fn counts_alike<R: BitRegister, O: BitOrder<R>>(count: Count) -> bool {
+    BitIdx::<R>::range_all().all(|index: BitIdx<R>| {
+        let counted = count.digit(R::BITS as usize, index.into_inner() as usize);
+        index.position::<O>().into_inner() as usize == counted
+    })
+}
+
+#[test]
+fn positions_are_those_counted_by_hand(rt: HostRuntime) {
+    assert!(rt; counts_alike::<u8, Lsb0>(Count::Lowest));
+    assert!(rt; counts_alike::<u64, Lsb0>(Count::Lowest));
+    assert!(rt; counts_alike::<u16, Msb0>(Count::Highest));
+    assert!(rt; counts_alike::<usize, Msb0>(Count::Highest));
+    assert!(rt; counts_alike::<u8, FifthStep>(Count::Fifths));
+    assert!(rt; counts_alike::<u32, FifthStep>(Count::Fifths));
 }

@@ -1,7 +1,7 @@
 //! Indices, ends, positions, selectors and masks: rows, and each call once.
 
-use bit_addressing::mem::{BitElement, bits_of, elts};
-use bit_addressing::{
+use bit_addressing_order::mem::{BitElement, bits_of, elts};
+use bit_addressing_order::{
     AllOrNone, BitEnd, BitIdx, BitMask, BitPos, BitRegister, BitSel, Limits, LocalBits, Lsb0,
 };
 use std::hash::{DefaultHasher, Hash, Hasher};
@@ -148,6 +148,7 @@ fn order_and_hash_go_by_number(rt: HostRuntime) -> Result<(), Fail> {
     Ok(())
 }
 
+// What a hasher makes of a value.
 fn hash_of<T: Hash>(value: &T) -> u64 {
     let mut state = DefaultHasher::new();
     value.hash(&mut state);

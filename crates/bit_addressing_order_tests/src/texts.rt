@@ -1,6 +1,7 @@
 //! The texts.
 
-use bit_addressing::{BitEnd, BitIdx, BitMask, BitPos, BitSel, OrderFault, WordFault};
+use bit_addressing_order::{BitEnd, BitIdx, BitMask, BitPos, BitSel};
+use bit_addressing_verify::{OrderFault, WordFault};
 use std::alloc::{AllocError, Global};
 use std::fmt;
 use std::test::Fail;
@@ -55,17 +56,44 @@ fn texts_of_errors(rt: HostRuntime) -> Result<(), Fail> {
     let error = BitIdx::<u8>::new(8).err().ok_or("no error")?;
     assert!(rt; format!(in alloc; "{error}")?.as_str() == "index 8 is not below 8 of u8");
     assert!(rt; format!(in alloc; "{error:?}")?.as_str() == "BitIdxError<u8>(8)");
-    let index = BitIdx::<u8>::new(5)?;
-    let fault = WordFault::U8(OrderFault::Selector(index));
-    let fault_text = format!(in alloc; "{fault}")?;
-    assert!(rt;
-        fault_text.as_str() == "at u8, the selector of index 101 is not its position alone"
-    );
-    let mask = OrderFault::Mask(Some(index), None);
-    let mask_text = format!(in alloc; "{mask}")?;
-    assert!(rt;
-        mask_text.as_str()
-            == "the mask from Some(BitIdx<u8>(101)) to None is not the positions of its indices"
-    );
+    Ok(())
+}
+
+#[test]
+fn texts_of_faults(rt: HostRuntime) -> Result<(), Fail> {
+    let index = Some(BitIdx::<u16>::new(10)?);
+    let rows = [
+        (
+            OrderFault::Selector(BitIdx::new(3)?),
+            "at u16, the selector of index 3 is not its position alone",
+        ),
+        (
+            OrderFault::Repeated(BitIdx::new(12)?),
+            "at u16, the position of index 12 is that of an index below it",
+        ),
+        (
+            OrderFault::Mask(index, BitEnd::new(16)),
+            "at u16, the mask from 10 to 16 is not the positions of its indices",
+        ),
+        (
+            OrderFault::Mask(index, None),
+            "at u16, the mask from 10 to the end is not the positions of its indices",
+        ),
+        (
+            OrderFault::Mask(None, BitEnd::new(2)),
+            "at u16, the mask from the start to 2 is not the positions of its indices",
+        ),
+        (
+            OrderFault::Mask(None, None),
+            "at u16, the mask from the start to the end is not the positions of its indices",
+        ),
+    ];
+    for (fault, text) in rows {
+        let fault = WordFault::U16(fault);
+        assert!(rt;
+            format!(in rt.alloc(); "{fault}")?.as_str() == text,
+            "{text}"
+        );
+    }
     Ok(())
 }

@@ -15,7 +15,7 @@ pub fn bits_of<R: BitRegister>() -> usize
 
 /// How many words hold `bits` bits: the least number of them. No step of it wraps, whatever `bits`
 /// is.
-#[tactic(auto, using(crate::specs::Registers::div_ceil_holds, crate::specs::Registers::div_ceil_least))]
+#[tactic(auto, using(crate::proofs::ElementLemmas::rounded_up))]
 pub fn elts<R: BitRegister>(bits: usize) -> usize
     ensures enough { bits ≤ result * R.BITS }
     ensures least { (words : ℕ) → bits ≤ words * R.BITS → result ≤ words }

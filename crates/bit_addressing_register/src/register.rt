@@ -3,7 +3,7 @@
 ghost use Rattle.std.specs.Prelude.{◌≡◌, ℕ, List, ◌-◌, ◌*◌, ◌/◌, ◌%◌, ◌^◌, ◌<◌, ◌≤◌, ◌↔◌};
 ghost use Rattle.std.specs.Prelude.{bit_and, bit_or, bit_xor, IsTrue};
 ghost use Rattle.std.specs.Ordering.{nat_cmp};
-ghost use Rattle.bit_addressing_register.specs.Registers.{IsRegisterSize};
+ghost use Rattle.bit_addressing_register.specs.BitRegister.{IsRegisterSize};
 
 use std::cmp::Ordering;
 

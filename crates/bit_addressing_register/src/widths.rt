@@ -5,7 +5,7 @@ use crate::register::BitRegister;
 impl BitRegister for u8 {
     ghost use Rattle.std.specs.Prelude.{◌%◌, ◌^◌, codes};
     ghost use Rattle.std.proofs.Common.{refl, lit≤};
-    ghost use Rattle.bit_addressing_register.specs.Registers.{below_power, size_of_indx};
+    ghost use Rattle.bit_addressing_register.specs.RegisterLaws.{below_power, size_of_8};
 
     ghost BITS = { 8 };
 
@@ -39,7 +39,7 @@ impl BitRegister for u8 {
 
     ghost number_fits = { λ word. below_power 8 word };
 
-    ghost size = { size_of_indx 3 (lit≤ tt) (lit≤ tt) };
+    ghost size = { size_of_8 };
 
     ghost least_bits = { lit≤ tt };
 
@@ -97,7 +97,7 @@ impl BitRegister for u8 {
 impl BitRegister for u16 {
     ghost use Rattle.std.specs.Prelude.{◌%◌, ◌^◌, codes};
     ghost use Rattle.std.proofs.Common.{refl, lit≤};
-    ghost use Rattle.bit_addressing_register.specs.Registers.{below_power, size_of_indx};
+    ghost use Rattle.bit_addressing_register.specs.RegisterLaws.{below_power, size_of_16};
 
     ghost BITS = { 16 };
 
@@ -131,7 +131,7 @@ impl BitRegister for u16 {
 
     ghost number_fits = { λ word. below_power 16 word };
 
-    ghost size = { size_of_indx 4 (lit≤ tt) (lit≤ tt) };
+    ghost size = { size_of_16 };
 
     ghost least_bits = { lit≤ tt };
 
@@ -189,7 +189,7 @@ impl BitRegister for u16 {
 impl BitRegister for u32 {
     ghost use Rattle.std.specs.Prelude.{◌%◌, ◌^◌, codes};
     ghost use Rattle.std.proofs.Common.{refl, lit≤};
-    ghost use Rattle.bit_addressing_register.specs.Registers.{below_power, size_of_indx};
+    ghost use Rattle.bit_addressing_register.specs.RegisterLaws.{below_power, size_of_32};
 
     ghost BITS = { 32 };
 
@@ -223,7 +223,7 @@ impl BitRegister for u32 {
 
     ghost number_fits = { λ word. below_power 32 word };
 
-    ghost size = { size_of_indx 5 (lit≤ tt) (lit≤ tt) };
+    ghost size = { size_of_32 };
 
     ghost least_bits = { lit≤ tt };
 
@@ -278,11 +278,11 @@ impl BitRegister for u32 {
     }
 }
 
-#[tactic(auto, using(crate::specs::Registers::wide))]
+#[tactic(auto, using(crate::proofs::WidthLemmas::wide))]
 impl BitRegister for u64 {
     ghost use Rattle.std.specs.Prelude.{◌%◌, ◌^◌, codes};
     ghost use Rattle.std.proofs.Common.{refl, lit≤};
-    ghost use Rattle.bit_addressing_register.specs.Registers.{below_power, size_of_indx};
+    ghost use Rattle.bit_addressing_register.specs.RegisterLaws.{below_power, size_of_64};
 
     ghost BITS = { 64 };
 
@@ -316,7 +316,7 @@ impl BitRegister for u64 {
 
     ghost number_fits = { λ word. below_power 64 word };
 
-    ghost size = { size_of_indx 6 (lit≤ tt) (lit≤ tt) };
+    ghost size = { size_of_64 };
 
     ghost least_bits = { lit≤ tt };
 
@@ -371,11 +371,11 @@ impl BitRegister for u64 {
     }
 }
 
-#[tactic(auto, using(crate::specs::Registers::wide))]
+#[tactic(auto, using(crate::proofs::WidthLemmas::wide))]
 impl BitRegister for usize {
     ghost use Rattle.std.specs.Prelude.{◌%◌, ◌^◌, codes};
     ghost use Rattle.std.proofs.Common.{refl, lit≤};
-    ghost use Rattle.bit_addressing_register.specs.Registers.{below_power, size_of_indx};
+    ghost use Rattle.bit_addressing_register.specs.RegisterLaws.{below_power, size_of_64};
 
     ghost BITS = { 64 };
 
@@ -409,7 +409,7 @@ impl BitRegister for usize {
 
     ghost number_fits = { λ word. below_power 64 word };
 
-    ghost size = { size_of_indx 6 (lit≤ tt) (lit≤ tt) };
+    ghost size = { size_of_64 };
 
     ghost least_bits = { lit≤ tt };
 

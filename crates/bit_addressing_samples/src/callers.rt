@@ -2,9 +2,10 @@
 //! and commands at two spans.
 
 ghost use Rattle.std.specs.Prelude.{◌≡◌, ◌+◌, ◌*◌, ◌^◌, ◌<◌, ◌≤◌, [], ◌∷◌, true, length, slice_index_or, slice_set};
-ghost use Rattle.bit_addressing_memory.specs.Memory.{entry, indexed, memory, piece, touched, with_piece};
+ghost use Rattle.bit_addressing.specs.Memory.{entry, read_by, memory, piece, touched, with_piece};
 ghost use Rattle.bit_addressing.specs.Moves.{Moves, changed};
-ghost use Rattle.bit_addressing.specs.Runs.{AllFit, AreDisjoint, span_at, span_place};
+ghost use Rattle.bit_addressing.specs.Span.{span_place};
+ghost use Rattle.bit_addressing.specs.Runs.{AllFit, AreDisjoint, HeadsBelow, span_at};
 
 use bit_addressing::{
     BitOrder, BitRegister, BitSpan, SpanCommand, SpanReply, Sweep, Way, move_in, run, way_for,
@@ -22,7 +23,7 @@ pub fn move_within<R: BitRegister, O: BitOrder<R>>(
     requires target_within { target + len ≤ length words.old * R.BITS }
     requires source_ends { source + len < 2 ^ 64 }
     requires target_ends { target + len < 2 ^ 64 }
-    ensures moved { Moves R.BITS (indexed R.number O.position) words.old words.new source target len }
+    ensures moved { Moves (read_by R.BitRegister O.position) words.old words.new source target len }
     ensures writes { result ≤ touched R.BITS target len }
     ensures changed { changed R.number words.old words.new ≤ result }
 {
@@ -42,9 +43,9 @@ pub fn move_list<R: BitRegister, O: BitOrder<R>>(
     requires target_within { target + len ≤ length words.old * R.BITS }
     requires source_ends { source + len < 2 ^ 64 }
     requires target_ends { target + len < 2 ^ 64 }
-    ensures moved { memory R.BITS (indexed R.number O.position) words.new
-        ≡ with_piece (memory R.BITS (indexed R.number O.position) words.old) target
-        (piece (memory R.BITS (indexed R.number O.position) words.old) source len) }
+    ensures moved { memory (read_by R.BitRegister O.position) words.new
+        ≡ with_piece (memory (read_by R.BitRegister O.position) words.old) target
+        (piece (memory (read_by R.BitRegister O.position) words.old) source len) }
     ensures writes { result ≤ touched R.BITS target len }
 {
     move_within::<R, O>(words, source, target, len)
@@ -52,9 +53,9 @@ pub fn move_list<R: BitRegister, O: BitOrder<R>>(
 
 /// Moves inside an array of its own and knows all of it, and the bound on the writes.
 pub fn own_array<R: BitRegister, O: BitOrder<R>>(a: R, b: R, c: R) -> ([R; 3], usize)
-    ensures moved { memory R.BITS (indexed R.number O.position) result.0
-        ≡ with_piece (memory R.BITS (indexed R.number O.position) (a ∷ b ∷ c ∷ [])) 0
-        (piece (memory R.BITS (indexed R.number O.position) (a ∷ b ∷ c ∷ [])) 4 16) }
+    ensures moved { memory (read_by R.BitRegister O.position) result.0
+        ≡ with_piece (memory (read_by R.BitRegister O.position) (a ∷ b ∷ c ∷ [])) 0
+        (piece (memory (read_by R.BitRegister O.position) (a ∷ b ∷ c ∷ [])) 4 16) }
     ensures writes { result.1 ≤ 2 }
 {
     let mut words = [a, b, c];
@@ -86,16 +87,36 @@ pub fn set_and_read<R: BitRegister, O: BitOrder<R>>(
 )
     requires disjoint { AreDisjoint R.BITS spans.now }
     requires fit { AllFit R.BITS spans.now (length memory.old) }
+    requires heads { HeadsBelow R.BITS spans.now }
     requires two { length spans.now ≡ 2 }
-    requires heads { ((span_at spans.now 0).head < R.BITS) × ((span_at spans.now 1).head < R.BITS) }
     requires bits { (0 < (span_at spans.now 0).len) × (0 < (span_at spans.now 1).len) }
     requires commands { commands.now ≡ (0, SpanCommand.Replace 0 true) ∷ (1, SpanCommand.Read 0) ∷ [] }
     requires places { length replies.old ≡ 2 }
-    ensures set { entry R.BITS (indexed R.number O.position) memory.new
+    ensures set { entry (read_by R.BitRegister O.position) memory.new
         (span_place R.BITS (span_at spans.now 0)) ≡ true }
     ensures read { slice_index_or replies.new 1 SpanReply.Refused
-        ≡ SpanReply.Bit (entry R.BITS (indexed R.number O.position) memory.old
+        ≡ SpanReply.Bit (entry (read_by R.BitRegister O.position) memory.old
         (span_place R.BITS (span_at spans.now 1))) }
 {
     run(memory, spans, commands, replies);
+}
+
+/// Writes one word through a sweep.
+pub fn put_one<R: BitRegister>(words: &mut [R], k: usize, word: R)
+    requires { k < length words.old }
+    ensures { words.new ≡ slice_set words.old k word }
+{
+    let mut sweep = Sweep::new(words, Way::Up);
+    sweep.put(k, word);
+}
+
+/// Writes one word through a sweep over a part of the caller's words. The part is handed to a function that makes the
+/// sweep, and the whole is known afterwards.
+pub fn put_in_part<R: BitRegister>(words: &mut [R], first: usize, count: usize, k: usize, word: R)
+    requires within { first + count ≤ length words.old }
+    requires inside { k < count }
+    requires ends { first + count < 2 ^ 64 }
+    ensures { words.new ≡ slice_set words.old (first + k) word }
+{
+    put_one(&mut words[first..first + count], k, word);
 }

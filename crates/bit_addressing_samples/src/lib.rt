@@ -3,11 +3,7 @@
 #![tactic(auto)]
 
 pub mod callers;
-mod count;
 pub mod memory_callers;
-mod orders;
 pub mod part_callers;
-pub mod word_callers;
 
-pub use count::Count;
-pub use orders::{FifthStep, Flipped};
+pub use bit_addressing_sample_orders::{Count, FifthStep, Flipped};

@@ -1,8 +1,8 @@
 //! What a user of the crate proves from its contracts alone.
 
 ghost use Rattle.std.specs.Prelude.{◌≡◌, ◌≢◌, ℕ, ◌+◌, ◌*◌, ◌<◌, pos, ◌+ℤ◌, ◌*ℤ◌, length, true, false};
-ghost use Rattle.bit_addressing_memory.specs.Memory.{entry, indexed};
-ghost use Rattle.bit_addressing_memory.specs.Pointer.{StaysIn};
+ghost use Rattle.bit_addressing.specs.Memory.{entry, read_by};
+ghost use Rattle.bit_addressing.specs.Pointer.{StaysIn};
 
 use bit_addressing::{BitIdx, BitOrder, BitPtr, BitRegister, read_entry, write_entry};
 
@@ -16,11 +16,11 @@ pub fn write_two<R: BitRegister, O: BitOrder<R>>(
 )
     requires neighbours { next ≡ place + 1 }
     requires within { next < length words.old * R.BITS }
-    ensures first { entry R.BITS (indexed R.number O.position) words.new place ≡ bit }
-    ensures second { entry R.BITS (indexed R.number O.position) words.new next ≡ next_bit }
+    ensures first { entry (read_by R.BitRegister O.position) words.new place ≡ bit }
+    ensures second { entry (read_by R.BitRegister O.position) words.new next ≡ next_bit }
     ensures others { (p : ℕ) → p ≢ place → p ≢ next
-        → entry R.BITS (indexed R.number O.position) words.new p
-        ≡ entry R.BITS (indexed R.number O.position) words.old p }
+        → entry (read_by R.BitRegister O.position) words.new p
+        ≡ entry (read_by R.BitRegister O.position) words.old p }
 {
     write_entry::<R, O>(words, place, bit);
     write_entry::<R, O>(words, next, next_bit);

@@ -1,34 +1,33 @@
 //! What callers know of parts of words and of spans, from their contracts alone.
 
 ghost use Rattle.std.specs.Prelude.{◌≡◌, ℕ, ◌+◌, ◌<◌, ◌≤◌, length};
-ghost use Rattle.bit_addressing_memory.specs.Memory.{entry, indexed, touched};
-ghost use Rattle.bit_addressing_span.specs.Partial.{IsMasked};
-ghost use Rattle.bit_addressing_span.specs.Parts.{part_from, part_place, part_count};
-ghost use Rattle.bit_addressing_span.specs.Written.{written_word, written_head, written_tail};
+ghost use Rattle.bit_addressing.specs.Memory.{entry, indexed, read_by, touched};
+ghost use Rattle.bit_addressing.specs.Partial.{IsMasked};
+ghost use Rattle.bit_addressing.specs.PartialElementMut.{part_words, part_head, part_tail};
+ghost use Rattle.bit_addressing.specs.Parts.{part_from, part_place, part_count};
 
 use bit_addressing::{BitOrder, BitRegister, BitSpan, PartialElementMut};
 
 /// What is loaded after a store is the value, masked.
-#[tactic(auto, using(bit_addressing_span::proofs::StoredLemmas::stored_then_masked))]
+#[tactic(auto, using(bit_addressing::proofs::CallerLemmas::parts))]
 pub fn store_and_load<'a, R: BitRegister, O: BitOrder<R>>(
     part: &mut PartialElementMut<'a, R, O>,
     value: R,
 ) -> R
-    ensures { IsMasked R.BITS (indexed R.number O.position) value result
-        (written_head part.old) (written_tail part.old) }
+    ensures { IsMasked (read_by R.BitRegister O.position) value result (part_head part.old) (part_tail part.old) }
 {
     part.store_value(value);
     part.load_value()
 }
 
 /// What a store answered restores the word, stored again.
-#[tactic(auto, using(bit_addressing_span::proofs::StoredLemmas::stored_back))]
+#[tactic(auto, using(bit_addressing::proofs::CallerLemmas::parts))]
 pub fn store_and_restore<'a, R: BitRegister, O: BitOrder<R>>(
     part: &mut PartialElementMut<'a, R, O>,
     value: R,
 )
-    ensures { (i : ℕ) → i < R.BITS → indexed R.number O.position (written_word part.new) i
-        ≡ indexed R.number O.position (written_word part.old) i }
+    ensures { (p : ℕ) → entry (read_by R.BitRegister O.position) (part_words part.new) p
+        ≡ entry (read_by R.BitRegister O.position) (part_words part.old) p }
 {
     let was = part.store_value(value);
     part.store_value(was);
@@ -45,17 +44,17 @@ pub fn write_two<R: BitRegister, O: BitOrder<R>>(
     requires fits { span.word + 2 ≤ length words.old }
     requires index { span.head < R.BITS }
     ensures first { (k : ℕ) → k < part_count R.BITS span 0
-        → entry R.BITS (indexed R.number O.position) words.new (part_place R.BITS span 0 + k)
+        → entry (read_by R.BitRegister O.position) words.new (part_place R.BITS span 0 + k)
         ≡ indexed R.number O.position first (part_from R.BITS span 0 + k) }
     ensures second { (k : ℕ) → k < part_count R.BITS span 1
-        → entry R.BITS (indexed R.number O.position) words.new (part_place R.BITS span 1 + k)
+        → entry (read_by R.BitRegister O.position) words.new (part_place R.BITS span 1 + k)
         ≡ indexed R.number O.position second (part_from R.BITS span 1 + k) }
     ensures below { (p : ℕ) → p < part_place R.BITS span 0
-        → entry R.BITS (indexed R.number O.position) words.new p
-        ≡ entry R.BITS (indexed R.number O.position) words.old p }
+        → entry (read_by R.BitRegister O.position) words.new p
+        ≡ entry (read_by R.BitRegister O.position) words.old p }
     ensures above { (p : ℕ) → part_place R.BITS span 1 + part_count R.BITS span 1 ≤ p
-        → entry R.BITS (indexed R.number O.position) words.new p
-        ≡ entry R.BITS (indexed R.number O.position) words.old p }
+        → entry (read_by R.BitRegister O.position) words.new p
+        ≡ entry (read_by R.BitRegister O.position) words.old p }
 {
     let mut domain = span.domain_mut(words);
     domain.store_value(0, first);

@@ -3,8 +3,8 @@ use Rattle.std.proofs.Common.{◌≡◌, ◌≢◌, ℕ, ◌<◌, ◌≤◌, ◌
 use Rattle.std.proofs.lemmas.Nat.Bits.{bit_at_and, bit_at-lt}
 use Rattle.std.specs.Int.{bit_at}
 use Rattle.bit_addressing_order.proofs.CallerLemmas.{mask_has}
-use Rattle.bit_addressing_order.specs.Law.{IsLawful}
-use Rattle.bit_addressing_memory.specs.Memory.{indexed}
+use Rattle.bit_addressing_order.specs.BitOrder.{IsLawful}
+use Rattle.bit_addressing_memory.specs.Memory.{reading_in}
 use Rattle.bit_addressing_span.specs.Partial.{part_mask, IsMasked}
 
 -- a digit of the mask of a part is 1 inside it
@@ -28,7 +28,7 @@ part_outside b at select mask from upto i law index order within small out =
 pub masked_digits : {R : Type 0} (b : ℕ) (number : R → ℕ) (at select : ℕ → ℕ) (mask : Option ℕ → Option ℕ → ℕ)
     (word result : R) (from upto : ℕ) → IsLawful b at select mask → from < b → from ≤ upto → upto ≤ b
     → number result ≡ bit_and (number word) (part_mask mask from upto)
-    → IsMasked b (indexed number at) word result from upto
+    → IsMasked (reading_in b number at) word result from upto
 masked_digits b number at select mask word result from upto law index order within e =
     let m : ℕ = part_mask mask from upto in
     let split = λ (p : ℕ). ap (λ n. bit_at n p) e ∙ bit_at_and (number word) m p in

@@ -4,9 +4,9 @@ use Rattle.std.proofs.Common.{bit_or, inl, inr, refl, ap, ◌∙◌, arith}
 use Rattle.std.proofs.lemmas.Bool.{cases_lt}
 use Rattle.std.proofs.lemmas.Nat.Bits.{bit_at_and, bit_at_or, bit_at-lt, bit_at-zero, bit_at_ones}
 use Rattle.std.specs.Int.{bit_at}
-use Rattle.bit_addressing_order.specs.Digits.{bit_at-complement}
-use Rattle.bit_addressing_order.specs.Law.{IsLawful}
-use Rattle.bit_addressing_memory.specs.Memory.{indexed}
+use Rattle.bit_addressing_order.proofs.DigitLemmas.{bit_at-complement}
+use Rattle.bit_addressing_order.specs.BitOrder.{IsLawful}
+use Rattle.bit_addressing_memory.specs.Memory.{Reading, indexed, reading_in}
 use Rattle.bit_addressing_span.specs.Partial.{part_mask, IsMasked, IsStored}
 use Rattle.bit_addressing_span.proofs.PartialLemmas.{part_inside, part_outside}
 
@@ -28,7 +28,7 @@ pub stored_digits : {R : Type 0} (b : ℕ) (number : R → ℕ) (at select : ℕ
     (word value result : R) (m from upto : ℕ) → IsLawful b at select mask
     → from < b → from ≤ upto → upto ≤ b → m < 2 ^ b → m ≡ part_mask mask from upto
     → number result ≡ bit_or (bit_and (number word) (2 ^ b - 1 - m)) (bit_and (number value) m)
-    → IsStored b (indexed number at) word result from upto (indexed number at value)
+    → IsStored (reading_in b number at) word result from upto (indexed number at value)
 stored_digits b number at select mask word value result m from upto law index order within fits is_m is =
     let digit = λ (i : ℕ) (small : i < b).
     digit_stored b (number word) (number value) m (2 ^ b - 1 - m) (bit_and (number word) (2 ^ b - 1 - m))
@@ -47,10 +47,10 @@ stored_digits b number at select mask word value result m from upto law index or
     }
 
 -- the same digits by another name
-pub stored_as : {R : Type 0} (b : ℕ) (digit : R → ℕ → Bool) (word result : R) (from upto : ℕ) (x y : ℕ → Bool)
-    → IsStored b digit word result from upto x → ((i : ℕ) → i < b → x i ≡ y i)
-    → IsStored b digit word result from upto y
-stored_as b digit word result from upto x y is same = record {
+pub stored_as : {R : Type 0} (reading : Reading R) (word result : R) (from upto : ℕ) (x y : ℕ → Bool)
+    → IsStored reading word result from upto x → ((i : ℕ) → i < reading.bits → x i ≡ y i)
+    → IsStored reading word result from upto y
+stored_as reading word result from upto x y is same = record {
   inside = λ i low high small. is.inside i low high small ∙ same i small;
   below = is.below;
   above = is.above;
@@ -80,51 +80,3 @@ digit_flipped b number at w z i e fits small =
     either zero h = refl
     either (suc zero) h = refl
     either (suc (suc d)) h = absurd (omega arith)
-
--- a word without digits stored in a part
-pub stored_none : {R : Type 0} (b : ℕ) (digit : R → ℕ → Bool) (word value result : R) (from upto : ℕ)
-    → IsStored b digit word result from upto (digit value) → ((i : ℕ) → i < b → digit value i ≡ false)
-    → IsStored b digit word result from upto (λ _. false)
-stored_none b digit word value result from upto is none =
-    stored_as b digit word result from upto (digit value) (λ _. false) is none
-
--- a word with each digit stored in a part
-pub stored_each : {R : Type 0} (b : ℕ) (digit : R → ℕ → Bool) (word value result : R) (from upto : ℕ)
-    → IsStored b digit word result from upto (digit value) → ((i : ℕ) → i < b → digit value i ≡ true)
-    → IsStored b digit word result from upto (λ _. true)
-stored_each b digit word value result from upto is each =
-    stored_as b digit word result from upto (digit value) (λ _. true) is each
-
--- a word flipped and stored in a part of itself
-pub stored_flipped : {R : Type 0} (b : ℕ) (digit : R → ℕ → Bool) (word value result : R) (from upto : ℕ)
-    → IsStored b digit word result from upto (digit value) → ((i : ℕ) → i < b → digit value i ≡ not (digit word i))
-    → IsStored b digit word result from upto (λ i. not (digit word i))
-stored_flipped b digit word value result from upto is turned =
-    stored_as b digit word result from upto (digit value) (λ i. not (digit word i)) is turned
-
--- a value stored, and the word then masked, is the value masked
-pub stored_then_masked : {R : Type 0} (b : ℕ) (digit : R → ℕ → Bool) (word value after result : R)
-    (from upto from' upto' : ℕ)
-    → from' ≡ from → upto' ≡ upto
-    → IsStored b digit word after from upto (digit value) → IsMasked b digit after result from' upto'
-    → IsMasked b digit value result from upto
-stored_then_masked b digit word value after result from upto from' upto' same_head same_tail stored masked = record {
-  inside = λ i low high small.
-      masked.inside i (omega arith) (omega arith) small ∙ stored.inside i low high small;
-  below = λ i low small. masked.below i (omega arith) small;
-  above = λ i high small. masked.above i (omega arith) small;
-}
-
--- what was masked, stored again, restores the word
-pub stored_back : {R : Type 0} (b : ℕ) (digit : R → ℕ → Bool) (word was between after : R) (from upto from' upto' : ℕ)
-    (now : ℕ → Bool) → from' ≡ from → upto' ≡ upto → IsMasked b digit word was from upto
-    → IsStored b digit word between from upto now → IsStored b digit between after from' upto' (digit was)
-    → (i : ℕ) → i < b → digit after i ≡ digit word i
-stored_back b digit word was between after from upto from' upto' now same_head same_tail masked first again i small =
-    elim (cases_lt i from) [
-      | inl low ↦ again.below i (omega arith) small ∙ first.below i low small
-      | inr begun ↦ elim (cases_lt i upto) [
-        | inl inside ↦ again.inside i (omega arith) (omega arith) small ∙ masked.inside i begun inside small
-        | inr past ↦ again.above i (omega arith) small ∙ first.above i past small
-      ]
-    ]

@@ -1,23 +1,23 @@
 -- What a domain shows: its bits and its masked words, in order, and how it is cut.
 use Rattle.std.specs.Prelude.{ℕ, ◌+◌, ◌*◌, ◌<◌, ◌≡◌, Bool, List, [], ◌++◌, Option, Some, None, IfSome, map}
 use Rattle.std.specs.Borrow.{Bor}
-use Rattle.bit_addressing_memory.specs.Memory.{memory, piece}
-use Rattle.bit_addressing_span.specs.Span.{Extent}
+use Rattle.bit_addressing_memory.specs.Memory.{Reading, memory}
+use Rattle.bit_addressing_span.specs.Span.{Extent, span_bits}
 use Rattle.bit_addressing_span.specs.Shown.{partial_bits, partial_numbers, partial_head, partial_tail}
 use Rattle.bit_addressing_span.specs.declared.partial.PartialElement.{PartialElement}
 use Rattle.bit_addressing_span.specs.declared.domain.Domain.{Domain}
 use Rattle.bit_addressing_span.specs.declared.domain.Domain.TheVariants.{Enclave, Region}
 
 -- the bits of a part, where there is one
-abbrev pub option_bits : {R O : Type 0} {g : _} → ℕ → (R → ℕ → Bool) → Option (PartialElement R O g) → List Bool
-option_bits b digit None = []
-option_bits b digit (Some p) = partial_bits b digit p
+abbrev pub option_bits : {R O : Type 0} {g : _} → Reading R → Option (PartialElement R O g) → List Bool
+option_bits reading None = []
+option_bits reading (Some p) = partial_bits reading p
 
 -- the bits that a domain gives, in order
-abbrev pub domain_bits : {R O : Type 0} {g : _} → ℕ → (R → ℕ → Bool) → Domain R O g → List Bool
-domain_bits b digit (Enclave p) = partial_bits b digit p
-domain_bits b digit (Region head body tail) =
-    option_bits b digit head ++ memory b digit body.now ++ option_bits b digit tail
+abbrev pub domain_bits : {R O : Type 0} {g : _} → Reading R → Domain R O g → List Bool
+domain_bits reading (Enclave p) = partial_bits reading p
+domain_bits reading (Region head body tail) =
+    option_bits reading head ++ memory reading body.now ++ option_bits reading tail
 
 -- the masked word of a part, where there is one
 abbrev pub option_numbers : {R O : Type 0} {g : _} → (R → ℕ) → (Option ℕ → Option ℕ → ℕ)
@@ -74,9 +74,9 @@ domain_region (Region head body tail) = Some (head, body, tail)
 
 -- the domain gives the bits of the span in these words, cut at the borders of words: it begins at the span's index,
 -- so its bits lie in its parts where they lie in these words
-pub record IsCutOf {R O : Type 0} {g : _} (b : ℕ) (digit : R → ℕ → Bool) (words : List R) (span : Extent)
+pub record IsCutOf {R O : Type 0} {g : _} (reading : Reading R) (words : List R) (span : Extent)
     (d : Domain R O g)
     : Type 0 where
-  pub bits : domain_bits b digit d ≡ piece (memory b digit words) (span.word * b + span.head) span.len
+  pub bits : domain_bits reading d ≡ span_bits reading words span
   pub start : 0 < span.len → domain_start d ≡ span.head
-  pub cut : IsCut b d
+  pub cut : IsCut reading.bits d

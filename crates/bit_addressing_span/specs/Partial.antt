@@ -2,20 +2,21 @@
 --
 -- The mask of a part: `part_mask`. A word masked: `IsMasked`. A word written in a part: `IsStored`.
 use Rattle.std.specs.Prelude.{ℕ, ◌<◌, ◌≤◌, ◌≡◌, Bool, false, Option, Some}
+use Rattle.bit_addressing_memory.specs.Memory.{Reading}
 
 -- the mask of the indices from one up to before another
 abbrev pub part_mask : (Option ℕ → Option ℕ → ℕ) → ℕ → ℕ → ℕ
 part_mask mask from upto = mask (Some from) (Some upto)
 
 -- the result has the digits of a word at the indices from `from` up to before `upto`, and each other reads as zero
-pub record IsMasked {R : Type 0} (b : ℕ) (digit : R → ℕ → Bool) (word result : R) (from upto : ℕ) : Type 0 where
-  pub inside : (i : ℕ) → from ≤ i → i < upto → i < b → digit result i ≡ digit word i
-  pub below : (i : ℕ) → i < from → i < b → digit result i ≡ false
-  pub above : (i : ℕ) → upto ≤ i → i < b → digit result i ≡ false
+pub record IsMasked {R : Type 0} (reading : Reading R) (word result : R) (from upto : ℕ) : Type 0 where
+  pub inside : (i : ℕ) → from ≤ i → i < upto → i < reading.bits → reading.digit result i ≡ reading.digit word i
+  pub below : (i : ℕ) → i < from → i < reading.bits → reading.digit result i ≡ false
+  pub above : (i : ℕ) → upto ≤ i → i < reading.bits → reading.digit result i ≡ false
 
 -- the result has these digits at the indices from `from` up to before `upto`, and each other digit is the word's
-pub record IsStored {R : Type 0} (b : ℕ) (digit : R → ℕ → Bool) (word result : R) (from upto : ℕ) (now : ℕ → Bool)
+pub record IsStored {R : Type 0} (reading : Reading R) (word result : R) (from upto : ℕ) (now : ℕ → Bool)
     : Type 0 where
-  pub inside : (i : ℕ) → from ≤ i → i < upto → i < b → digit result i ≡ now i
-  pub below : (i : ℕ) → i < from → i < b → digit result i ≡ digit word i
-  pub above : (i : ℕ) → upto ≤ i → i < b → digit result i ≡ digit word i
+  pub inside : (i : ℕ) → from ≤ i → i < upto → i < reading.bits → reading.digit result i ≡ now i
+  pub below : (i : ℕ) → i < from → i < reading.bits → reading.digit result i ≡ reading.digit word i
+  pub above : (i : ℕ) → upto ≤ i → i < reading.bits → reading.digit result i ≡ reading.digit word i

@@ -1,8 +1,8 @@
--- The parts of a span, a word each: where they are, and what reading and writing one is.
+-- The parts of a span, a word each: where they are, and what reading one is.
 --
--- The part of word k: `part_from`, `part_upto`, `part_place`, `part_count`. A read: `ReadsPart`. A write: `StoresPart`.
+-- The part of word k: `part_from`, `part_upto`, `part_place`, `part_count`. A read: `ReadsPart`.
 use Rattle.std.specs.Prelude.{ℕ, ◌+◌, ◌-◌, ◌*◌, ◌<◌, ◌≤◌, ◌≡◌, Bool, false, List, length, min}
-use Rattle.bit_addressing_memory.specs.Memory.{entry}
+use Rattle.bit_addressing_memory.specs.Memory.{Reading, entry}
 use Rattle.bit_addressing_span.specs.Span.{Extent}
 
 -- the index at which a span's part of its word k begins: the head in the first word, 0 in each other
@@ -22,16 +22,9 @@ abbrev pub part_count : ℕ → Extent → ℕ → ℕ
 part_count b span k = part_upto b span k - part_from b span k
 
 -- the word has the entries of the memory's word j at the indices from one up to before another, and false at each other
-pub record ReadsPart {R : Type 0} (b : ℕ) (digit : R → ℕ → Bool) (words : List R) (j : ℕ) (word : R) (from upto : ℕ)
+pub record ReadsPart {R : Type 0} (reading : Reading R) (words : List R) (j : ℕ) (word : R) (from upto : ℕ)
     : Type 0 where
-  pub inside : (i : ℕ) → from ≤ i → i < upto → i < b → digit word i ≡ entry b digit words (j * b + i)
-  pub below : (i : ℕ) → i < from → i < b → digit word i ≡ false
-  pub above : (i : ℕ) → upto ≤ i → i < b → digit word i ≡ false
-
--- each entry of a memory is as before, but for the n entries from a place on, which are these; and as many words
-pub record StoresPart {R : Type 0} (b : ℕ) (digit : R → ℕ → Bool) (before after : List R) (place n : ℕ)
-    (now : ℕ → Bool) : Type 0 where
-  pub there : (k : ℕ) → k < n → entry b digit after (place + k) ≡ now k
-  pub below : (p : ℕ) → p < place → entry b digit after p ≡ entry b digit before p
-  pub above : (p : ℕ) → place + n ≤ p → entry b digit after p ≡ entry b digit before p
-  pub words : length after ≡ length before
+  pub inside : (i : ℕ) → from ≤ i → i < upto → i < reading.bits
+      → reading.digit word i ≡ entry reading words (j * reading.bits + i)
+  pub below : (i : ℕ) → i < from → i < reading.bits → reading.digit word i ≡ false
+  pub above : (i : ℕ) → upto ≤ i → i < reading.bits → reading.digit word i ≡ false

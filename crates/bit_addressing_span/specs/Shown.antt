@@ -1,6 +1,6 @@
 -- What a partial element shows: its word, and the part of it.
 use Rattle.std.specs.Prelude.{ℕ, ◌-◌, Bool, List, Option, map, bit_and}
-use Rattle.bit_addressing_memory.specs.Memory.{memory, piece}
+use Rattle.bit_addressing_memory.specs.Memory.{Reading, memory, piece}
 use Rattle.bit_addressing_span.specs.Partial.{part_mask}
 use Rattle.bit_addressing_span.specs.declared.partial.PartialElement.{PartialElement}
 
@@ -17,8 +17,8 @@ abbrev pub partial_tail : {R O : Type 0} {g : _} → PartialElement R O g → �
 partial_tail p = p.tail
 
 -- its bits, in order, at words of b bits with these digits
-abbrev pub partial_bits : {R O : Type 0} {g : _} → ℕ → (R → ℕ → Bool) → PartialElement R O g → List Bool
-partial_bits b digit p = piece (memory b digit p.words.now) p.head (p.tail - p.head)
+abbrev pub partial_bits : {R O : Type 0} {g : _} → Reading R → PartialElement R O g → List Bool
+partial_bits reading p = piece (memory reading p.words.now) p.head (p.tail - p.head)
 
 -- its word masked, as a list of one number
 abbrev pub partial_numbers : {R O : Type 0} {g : _} → (R → ℕ) → (Option ℕ → Option ℕ → ℕ)

@@ -2,9 +2,10 @@
 
 ghost use Rattle.std.specs.Prelude.{◌≡◌, ℕ, ◌+◌, ◌-◌, ◌*◌, ◌/◌, ◌%◌, ◌^◌, ◌<◌, ◌≤◌, ◌↔◌};
 ghost use Rattle.std.specs.Prelude.{length, take, drop, min, IfSome};
-ghost use Rattle.bit_addressing_memory.specs.Memory.{memory, piece, indexed, touched};
+ghost use Rattle.bit_addressing_memory.specs.Memory.{read_by, memory, piece, touched};
 ghost use Rattle.bit_addressing_span.specs.Domain.{IsCut, IsEnclave, IsTail, domain_start, domain_bits};
 ghost use Rattle.bit_addressing_span.specs.Domain.{domain_numbers, option_bits, option_numbers};
+ghost use Rattle.bit_addressing_span.specs.Span.{span_bits, FitsIn, LiesInside};
 ghost use Rattle.bit_addressing_span.specs.Shown.{partial_head, partial_tail, partial_bits, partial_numbers};
 
 use crate::domain::Domain;
@@ -16,11 +17,11 @@ impl<R: BitRegister, O: BitOrder<R>> BitSpan<R, O> {
     /// The span's bits in these words, cut at the borders of words: each bit once, in order, and no
     /// other. The span fits.
     pub fn domain<'a>(self, words: &'a [R]) -> Domain<'a, R, O>
-        requires { self.word + touched R.BITS self.head self.len ≤ length words.now }
-        ensures bits { domain_bits R.BITS (indexed R.number O.position) result
-            ≡ piece (memory R.BITS (indexed R.number O.position) words.now) (self.word * R.BITS + self.head) self.len }
+        requires { FitsIn R.BITS self (length words.now) }
+        ensures bits { domain_bits (read_by R.BitRegister O.position) result
+            ≡ span_bits (read_by R.BitRegister O.position) words.now self }
         ensures start { 0 < self.len → domain_start result ≡ self.head }
-        ensures enclave { IsEnclave result ↔ (0 < self.len) × (0 < self.head) × (self.head + self.len < R.BITS) }
+        ensures enclave { IsEnclave result ↔ LiesInside R.BITS self }
         ensures cut { IsCut R.BITS result }
         ensures words { length (domain_numbers R.number O.masked result) ≡ touched R.BITS self.head self.len }
     {
@@ -30,7 +31,7 @@ impl<R: BitRegister, O: BitOrder<R>> BitSpan<R, O> {
 }
 
 // Some bits of a memory from an index of a word on, cut at the borders of words.
-#[tactic(auto, using(crate::proofs::CutLemmas::span_bits))]
+#[tactic(auto, using(crate::proofs::CutLemmas::bits_from_word))]
 pub(crate) fn cut_from<'a, R: BitRegister, O: BitOrder<R>>(
     words: &'a [R],
     word: usize,
@@ -40,8 +41,8 @@ pub(crate) fn cut_from<'a, R: BitRegister, O: BitOrder<R>>(
     requires index { head < R.BITS }
     requires fits { word + touched R.BITS head len ≤ length words.now }
     requires short { len ≤ MAX_BITS }
-    ensures bits { domain_bits R.BITS (indexed R.number O.position) result
-        ≡ piece (memory R.BITS (indexed R.number O.position) words.now) (word * R.BITS + head) len }
+    ensures bits { domain_bits (read_by R.BitRegister O.position) result
+        ≡ piece (memory (read_by R.BitRegister O.position) words.now) (word * R.BITS + head) len }
     ensures start { 0 < len → domain_start result ≡ head }
     ensures enclave { IsEnclave result ↔ (0 < len) × (0 < head) × (head + len < R.BITS) }
     ensures cut { IsCut R.BITS result }
@@ -67,8 +68,8 @@ fn cut_words<'a, R: BitRegister, O: BitOrder<R>>(
     requires some { 0 < len }
     requires within { head + len ≤ length words.now * R.BITS }
     requires short { len ≤ MAX_BITS }
-    ensures bits { domain_bits R.BITS (indexed R.number O.position) result
-        ≡ piece (memory R.BITS (indexed R.number O.position) words.now) head len }
+    ensures bits { domain_bits (read_by R.BitRegister O.position) result
+        ≡ piece (memory (read_by R.BitRegister O.position) words.now) head len }
     ensures start { 0 < len → domain_start result ≡ head }
     ensures enclave { IsEnclave result ↔ (0 < len) × (0 < head) × (head + len < R.BITS) }
     ensures cut { IsCut R.BITS result }
@@ -123,8 +124,8 @@ fn part_before<'a, R: BitRegister, O: BitOrder<R>>(
 ) -> Option<PartialElement<'a, R, O>>
     requires inside { 0 < upto → word < length words.now }
     requires short { upto < R.BITS }
-    ensures bits { option_bits R.BITS (indexed R.number O.position) result
-        ≡ piece (memory R.BITS (indexed R.number O.position) words.now) (word * R.BITS) upto }
+    ensures bits { option_bits (read_by R.BitRegister O.position) result
+        ≡ piece (memory (read_by R.BitRegister O.position) words.now) (word * R.BITS) upto }
     ensures cut { IfSome result (IsTail R.BITS) }
     ensures words { length (option_numbers R.number O.masked result) ≡ min 1 upto }
 {
@@ -144,8 +145,8 @@ fn part_of<'a, R: BitRegister, O: BitOrder<R>>(
 ) -> PartialElement<'a, R, O>
     requires inside { word < length words.now }
     requires ordered { head ≤ tail }
-    ensures bits { partial_bits R.BITS (indexed R.number O.position) result
-        ≡ piece (memory R.BITS (indexed R.number O.position) words.now) (word * R.BITS + head) (tail - head) }
+    ensures bits { partial_bits (read_by R.BitRegister O.position) result
+        ≡ piece (memory (read_by R.BitRegister O.position) words.now) (word * R.BITS + head) (tail - head) }
     ensures head { partial_head result ≡ head }
     ensures tail { partial_tail result ≡ tail }
     ensures words { length (partial_numbers R.number O.masked result) ≡ 1 }

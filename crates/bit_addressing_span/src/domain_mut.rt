@@ -3,15 +3,16 @@
 ghost use Rattle.std.specs.Prelude.{◌≡◌, ℕ, ◌+◌, ◌-◌, ◌*◌, ◌<◌, ◌≤◌, ◌↔◌, ◌^◌};
 ghost use Rattle.std.specs.Prelude.{not, true, false, length, slice_index_or, min, IsTrue};
 ghost use Rattle.bit_addressing_span.specs.Domain.{IsCutOf, IsEnclave, domain_numbers};
-ghost use Rattle.bit_addressing_memory.specs.Memory.{entry, indexed, touched};
+ghost use Rattle.bit_addressing_memory.specs.Memory.{indexed, read_by, entry, touched, Overwrites};
 ghost use Rattle.bit_addressing_span.specs.declared.span.TheConstants.{MAX_BITS};
-ghost use Rattle.bit_addressing_span.specs.Parts.{ReadsPart, StoresPart};
+ghost use Rattle.bit_addressing_span.specs.Parts.{ReadsPart};
+ghost use Rattle.bit_addressing_span.specs.Span.{extent, FitsIn, LiesInside};
 ghost use Rattle.bit_addressing_span.specs.Parts.{part_from, part_upto, part_place, part_count};
 
 use crate::cut::cut_from;
 use crate::domain::Domain;
+use crate::masking::{each_digit, flipped, load_in, no_digits, store_in};
 use crate::span::{BitSpan, words_touched};
-use crate::stored::{each_digit, flipped, load_in, no_digits, store_in};
 use bit_addressing_order::{BitEnd, BitIdx, BitOrder, BitRegister};
 use std::marker::PhantomData;
 
@@ -35,10 +36,9 @@ pub struct DomainMut<'a, R: BitRegister, O> {
 /// No word, and a span without bits.
 impl<'a, R: BitRegister, O: BitOrder<R>> Default for DomainMut<'a, R, O> {
     ghost use Rattle.std.specs.Prelude.{[]};
-    ghost use Rattle.bit_addressing_span.specs.Lent.{lent_words, lent_span};
-    ghost use Rattle.bit_addressing_span.specs.Span.{extent};
+    ghost use Rattle.bit_addressing_span.specs.DomainMut.{domain_words, domain_span};
 
-    ghost is_default = { λ domain. (lent_words domain ≡ []) × (lent_span domain ≡ extent 0 0 0) };
+    ghost is_default = { λ domain. (domain_words domain ≡ []) × (domain_span domain ≡ extent 0 0 0) };
 
     fn default() -> Self {
         DomainMut {
@@ -52,14 +52,28 @@ impl<'a, R: BitRegister, O: BitOrder<R>> Default for DomainMut<'a, R, O> {
 }
 
 impl<R: BitRegister, O: BitOrder<R>> BitSpan<R, O> {
-    ghost use Rattle.bit_addressing_span.specs.Lent.{lent_words, lent_lender, lent_span};
+    /// Word `k` of the span in this memory, with each digit outside the span read as zero. The span fits.
+    pub fn load_value(self, words: &[R], k: usize) -> R
+        requires fits { FitsIn R.BITS self (length words.now) }
+        requires some { k < touched R.BITS self.head self.len }
+        ensures { ReadsPart (read_by R.BitRegister O.position) words.now (self.word + k) result
+            (part_from R.BITS self k) (part_upto R.BITS self k) }
+    {
+        let (word, head, len) = self.raw_parts();
+        let (head, tail) = bounds_of(head.into_inner(), len, k);
+        load_in::<R, O>(words, word + k, head, tail)
+    }
+}
+
+impl<R: BitRegister, O: BitOrder<R>> BitSpan<R, O> {
+    ghost use Rattle.bit_addressing_span.specs.DomainMut.{domain_words, domain_lender, domain_span};
 
     /// The words of the span in this memory, to read and write. The span fits.
     pub fn domain_mut<'a>(self, words: &'a mut [R]) -> DomainMut<'a, R, O>
-        requires { self.word + touched R.BITS self.head self.len ≤ length words.old }
-        ensures same_reference { (lent_lender result).ghost_name ≡ words.entry.ghost_name }
-        ensures words { lent_words result ≡ words.old }
-        ensures span { lent_span result ≡ self }
+        requires { FitsIn R.BITS self (length words.old) }
+        ensures lender { (domain_lender result).ghost_name ≡ words.entry.ghost_name }
+        ensures words { domain_words result ≡ words.old }
+        ensures span { domain_span result ≡ self }
     {
         let (word, head, len) = self.raw_parts();
         DomainMut {
@@ -74,15 +88,14 @@ impl<R: BitRegister, O: BitOrder<R>> BitSpan<R, O> {
 
 // Read.
 impl<'a, R: BitRegister, O: BitOrder<R>> DomainMut<'a, R, O> {
-    ghost use Rattle.bit_addressing_span.specs.Lent.{lent_words, lent_span};
+    ghost use Rattle.bit_addressing_span.specs.DomainMut.{domain_words, domain_span};
 
     /// The same bits to read alone, cut at the borders of words.
     pub fn as_domain(&self) -> Domain<'_, R, O>
-        ensures cut { IsCutOf R.BITS (indexed R.number O.position) (lent_words self.now) (lent_span self.now) result }
+        ensures cut { IsCutOf (read_by R.BitRegister O.position) (domain_words self.now) (domain_span self.now) result }
         ensures words { length (domain_numbers R.number O.masked result)
-            ≡ touched R.BITS (lent_span self.now).head (lent_span self.now).len }
-        ensures enclave { IsEnclave result ↔ (0 < (lent_span self.now).len) × (0 < (lent_span self.now).head)
-            × ((lent_span self.now).head + (lent_span self.now).len < R.BITS) }
+            ≡ touched R.BITS (domain_span self.now).head (domain_span self.now).len }
+        ensures enclave { IsEnclave result ↔ LiesInside R.BITS (domain_span self.now) }
     {
         let head = BitIdx::new_unchecked(self.head);
         cut_from::<R, O>(self.words, self.word, head, self.len)
@@ -90,22 +103,21 @@ impl<'a, R: BitRegister, O: BitOrder<R>> DomainMut<'a, R, O> {
 
     /// How many words the span has.
     pub fn len(&self) -> usize
-        ensures { result ≡ touched R.BITS (lent_span self.now).head (lent_span self.now).len }
+        ensures { result ≡ touched R.BITS (domain_span self.now).head (domain_span self.now).len }
     {
         words_touched::<R>(BitIdx::new_unchecked(self.head), self.len)
     }
 
     /// Whether the span has no word.
     pub fn is_empty(&self) -> bool
-        ensures { IsTrue result ↔ (touched R.BITS (lent_span self.now).head (lent_span self.now).len ≡ 0) }
+        ensures { IsTrue result ↔ (touched R.BITS (domain_span self.now).head (domain_span self.now).len ≡ 0) }
     {
         self.len() == 0
     }
 
     /// Whether the span has bits, and lies in one word, touching neither edge of it.
     pub fn is_enclave(&self) -> bool
-        ensures { IsTrue result ↔ (0 < (lent_span self.now).len) × (0 < (lent_span self.now).head)
-            × ((lent_span self.now).head + (lent_span self.now).len < R.BITS) }
+        ensures { IsTrue result ↔ LiesInside R.BITS (domain_span self.now) }
     {
         let end = self.head as usize + self.len;
         self.len > 0 && self.head > 0 && end < R::BITS as usize
@@ -113,25 +125,20 @@ impl<'a, R: BitRegister, O: BitOrder<R>> DomainMut<'a, R, O> {
 
     /// The indices of word `k` that are in the span: from the first of them up to before an end.
     pub fn bounds(&self, k: usize) -> (BitIdx<R>, BitEnd<R>)
-        requires { k < touched R.BITS (lent_span self.now).head (lent_span self.now).len }
-        ensures head { result.0 ≡ part_from R.BITS (lent_span self.now) k }
-        ensures tail { result.1 ≡ part_upto R.BITS (lent_span self.now) k }
+        requires { k < touched R.BITS (domain_span self.now).head (domain_span self.now).len }
+        ensures head { result.0 ≡ part_from R.BITS (domain_span self.now) k }
+        ensures tail { result.1 ≡ part_upto R.BITS (domain_span self.now) k }
         ensures order { result.0 < result.1 }
     {
-        let bits = R::BITS as usize;
-        let (head, tail) = part_between(self.head as usize, self.len, k * bits, bits);
-        (
-            BitIdx::new_unchecked(head as u8),
-            BitEnd::new_unchecked(tail as u8),
-        )
+        bounds_of(self.head, self.len, k)
     }
 
     /// Word `k` of the span, with each digit outside the span read as zero.
     pub fn load_value(&self, k: usize) -> R
-        requires { k < touched R.BITS (lent_span self.now).head (lent_span self.now).len }
-        ensures { ReadsPart R.BITS (indexed R.number O.position) (lent_words self.now)
-            ((lent_span self.now).word + k) result
-            (part_from R.BITS (lent_span self.now) k) (part_upto R.BITS (lent_span self.now) k) }
+        requires { k < touched R.BITS (domain_span self.now).head (domain_span self.now).len }
+        ensures { ReadsPart (read_by R.BitRegister O.position) (domain_words self.now)
+            ((domain_span self.now).word + k) result
+            (part_from R.BITS (domain_span self.now) k) (part_upto R.BITS (domain_span self.now) k) }
     {
         let (head, tail) = self.bounds(k);
         load_in::<R, O>(self.words, self.word + k, head, tail)
@@ -140,20 +147,19 @@ impl<'a, R: BitRegister, O: BitOrder<R>> DomainMut<'a, R, O> {
 
 // Write.
 impl<'a, R: BitRegister, O: BitOrder<R>> DomainMut<'a, R, O> {
-    ghost use Rattle.bit_addressing_span.specs.Lent.{lent_words, lent_lender, lent_span};
+    ghost use Rattle.bit_addressing_span.specs.DomainMut.{domain_words, domain_span, IsSameDomain};
 
     /// Writes the digits of `value` into the part of word `k` that is in the span. Answers the word masked, as
     /// it was.
     pub fn store_value(&mut self, k: usize, value: R) -> R
-        requires { k < touched R.BITS (lent_span self.old).head (lent_span self.old).len }
-        ensures same_reference { (lent_lender self.new).ghost_name ≡ (lent_lender self.old).ghost_name }
-        ensures span { lent_span self.new ≡ lent_span self.old }
-        ensures was { ReadsPart R.BITS (indexed R.number O.position) (lent_words self.old)
-            ((lent_span self.old).word + k) result
-            (part_from R.BITS (lent_span self.old) k) (part_upto R.BITS (lent_span self.old) k) }
-        ensures now { StoresPart R.BITS (indexed R.number O.position) (lent_words self.old) (lent_words self.new)
-            (part_place R.BITS (lent_span self.old) k) (part_count R.BITS (lent_span self.old) k)
-            (λ i. indexed R.number O.position value (part_from R.BITS (lent_span self.old) k + i)) }
+        requires { k < touched R.BITS (domain_span self.old).head (domain_span self.old).len }
+        ensures same { IsSameDomain self.old self.new }
+        ensures was { ReadsPart (read_by R.BitRegister O.position) (domain_words self.old)
+            ((domain_span self.old).word + k) result
+            (part_from R.BITS (domain_span self.old) k) (part_upto R.BITS (domain_span self.old) k) }
+        ensures now { Overwrites (read_by R.BitRegister O.position) (domain_words self.old) (domain_words self.new)
+            (part_place R.BITS (domain_span self.old) k) (part_count R.BITS (domain_span self.old) k)
+            (λ i. indexed R.number O.position value (part_from R.BITS (domain_span self.old) k + i)) }
     {
         let (head, tail) = self.bounds(k);
         store_in::<R, O>(self.words, self.word + k, value, head, tail)
@@ -161,16 +167,15 @@ impl<'a, R: BitRegister, O: BitOrder<R>> DomainMut<'a, R, O> {
 
     /// Flips each bit of the part of word `k` that is in the span. Answers the word masked, as it was.
     pub fn invert(&mut self, k: usize) -> R
-        requires { k < touched R.BITS (lent_span self.old).head (lent_span self.old).len }
-        ensures same_reference { (lent_lender self.new).ghost_name ≡ (lent_lender self.old).ghost_name }
-        ensures span { lent_span self.new ≡ lent_span self.old }
-        ensures was { ReadsPart R.BITS (indexed R.number O.position) (lent_words self.old)
-            ((lent_span self.old).word + k) result
-            (part_from R.BITS (lent_span self.old) k) (part_upto R.BITS (lent_span self.old) k) }
-        ensures now { StoresPart R.BITS (indexed R.number O.position) (lent_words self.old) (lent_words self.new)
-            (part_place R.BITS (lent_span self.old) k) (part_count R.BITS (lent_span self.old) k)
-            (λ i. not (entry R.BITS (indexed R.number O.position) (lent_words self.old)
-            (part_place R.BITS (lent_span self.old) k + i))) }
+        requires { k < touched R.BITS (domain_span self.old).head (domain_span self.old).len }
+        ensures same { IsSameDomain self.old self.new }
+        ensures was { ReadsPart (read_by R.BitRegister O.position) (domain_words self.old)
+            ((domain_span self.old).word + k) result
+            (part_from R.BITS (domain_span self.old) k) (part_upto R.BITS (domain_span self.old) k) }
+        ensures now { Overwrites (read_by R.BitRegister O.position) (domain_words self.old) (domain_words self.new)
+            (part_place R.BITS (domain_span self.old) k) (part_count R.BITS (domain_span self.old) k)
+            (λ i. not (entry (read_by R.BitRegister O.position) (domain_words self.old)
+            (part_place R.BITS (domain_span self.old) k + i))) }
     {
         let turned = flipped::<R, O>(self.words[self.word + k]);
         self.store_value(k, turned)
@@ -179,14 +184,13 @@ impl<'a, R: BitRegister, O: BitOrder<R>> DomainMut<'a, R, O> {
     /// Makes each bit of the part of word `k` that is in the span 0. Answers the word masked, as it was.
     #[tactic(auto, using(crate::proofs::PartsLemmas::stores_none))]
     pub fn clear(&mut self, k: usize) -> R
-        requires { k < touched R.BITS (lent_span self.old).head (lent_span self.old).len }
-        ensures same_reference { (lent_lender self.new).ghost_name ≡ (lent_lender self.old).ghost_name }
-        ensures span { lent_span self.new ≡ lent_span self.old }
-        ensures was { ReadsPart R.BITS (indexed R.number O.position) (lent_words self.old)
-            ((lent_span self.old).word + k) result
-            (part_from R.BITS (lent_span self.old) k) (part_upto R.BITS (lent_span self.old) k) }
-        ensures now { StoresPart R.BITS (indexed R.number O.position) (lent_words self.old) (lent_words self.new)
-            (part_place R.BITS (lent_span self.old) k) (part_count R.BITS (lent_span self.old) k)
+        requires { k < touched R.BITS (domain_span self.old).head (domain_span self.old).len }
+        ensures same { IsSameDomain self.old self.new }
+        ensures was { ReadsPart (read_by R.BitRegister O.position) (domain_words self.old)
+            ((domain_span self.old).word + k) result
+            (part_from R.BITS (domain_span self.old) k) (part_upto R.BITS (domain_span self.old) k) }
+        ensures now { Overwrites (read_by R.BitRegister O.position) (domain_words self.old) (domain_words self.new)
+            (part_place R.BITS (domain_span self.old) k) (part_count R.BITS (domain_span self.old) k)
             (λ _. false) }
     {
         self.store_value(k, no_digits::<R, O>())
@@ -195,18 +199,34 @@ impl<'a, R: BitRegister, O: BitOrder<R>> DomainMut<'a, R, O> {
     /// Makes each bit of the part of word `k` that is in the span 1. Answers the word masked, as it was.
     #[tactic(auto, using(crate::proofs::PartsLemmas::stores_each))]
     pub fn set(&mut self, k: usize) -> R
-        requires { k < touched R.BITS (lent_span self.old).head (lent_span self.old).len }
-        ensures same_reference { (lent_lender self.new).ghost_name ≡ (lent_lender self.old).ghost_name }
-        ensures span { lent_span self.new ≡ lent_span self.old }
-        ensures was { ReadsPart R.BITS (indexed R.number O.position) (lent_words self.old)
-            ((lent_span self.old).word + k) result
-            (part_from R.BITS (lent_span self.old) k) (part_upto R.BITS (lent_span self.old) k) }
-        ensures now { StoresPart R.BITS (indexed R.number O.position) (lent_words self.old) (lent_words self.new)
-            (part_place R.BITS (lent_span self.old) k) (part_count R.BITS (lent_span self.old) k)
+        requires { k < touched R.BITS (domain_span self.old).head (domain_span self.old).len }
+        ensures same { IsSameDomain self.old self.new }
+        ensures was { ReadsPart (read_by R.BitRegister O.position) (domain_words self.old)
+            ((domain_span self.old).word + k) result
+            (part_from R.BITS (domain_span self.old) k) (part_upto R.BITS (domain_span self.old) k) }
+        ensures now { Overwrites (read_by R.BitRegister O.position) (domain_words self.old) (domain_words self.new)
+            (part_place R.BITS (domain_span self.old) k) (part_count R.BITS (domain_span self.old) k)
             (λ _. true) }
     {
         self.store_value(k, each_digit::<R, O>())
     }
+}
+
+// The indices of word `k` of some bits that begin at index `head` of a word: from the first of them up to before an end.
+fn bounds_of<R: BitRegister>(head: u8, len: usize, k: usize) -> (BitIdx<R>, BitEnd<R>)
+    requires index { head < R.BITS }
+    requires short { len ≤ MAX_BITS }
+    requires some { k < touched R.BITS head len }
+    ensures head { result.0 ≡ part_from R.BITS (extent 0 head len) k }
+    ensures tail { result.1 ≡ part_upto R.BITS (extent 0 head len) k }
+    ensures order { result.0 < result.1 }
+{
+    let bits = R::BITS as usize;
+    let (head, tail) = part_between(head as usize, len, k * bits, bits);
+    (
+        BitIdx::new_unchecked(head as u8),
+        BitEnd::new_unchecked(tail as u8),
+    )
 }
 
 // What lies between two edges of some bits from `head` on: up to before which end, both counted from the

@@ -5,8 +5,8 @@ ghost use Rattle.std.specs.Prelude.{◌≡◌, ℕ, List, ◌^◌, ◌<◌, ◌�
 ghost use Rattle.std.specs.Fmt.{WritesOnOk, HasWritten, IsPlainFormatter, digits};
 ghost use Rattle.bit_addressing_span.specs.Domain.{domain_numbers, option_numbers};
 ghost use Rattle.bit_addressing_span.specs.Form.{form_text};
-ghost use Rattle.bit_addressing_span.specs.Lent.{IsTextOf};
-ghost use Rattle.bit_addressing_memory.specs.Memory.{indexed};
+ghost use Rattle.bit_addressing_span.specs.DomainMut.{IsTextOf};
+ghost use Rattle.bit_addressing_memory.specs.Memory.{read_by};
 ghost use Rattle.bit_addressing_span.specs.Texts.{between, joined_text, numbers_text, begun_after};
 
 use crate::domain::Domain;
@@ -63,7 +63,7 @@ impl<'a, R: BitRegister, O: BitOrder<R>> fmt::UpperHex for Domain<'a, R, O> {
 impl<'a, R: BitRegister, O: BitOrder<R>> fmt::Binary for DomainMut<'a, R, O> {
     fn fmt<W: fmt::Write>(&self, f: &mut fmt::Formatter<W>) -> fmt::Result
         ensures { R.BITS ≤ 64 → (text : List ℕ)
-            × IsTextOf R.BITS (indexed R.number O.position) R.number O.masked (digits 2 false) self.now text
+            × IsTextOf (read_by R.BitRegister O.position) R.number O.masked (digits 2 false) self.now text
             × WritesOnOk W.write_str_gives f.old result text f.new }
     {
         write_domain(self.as_domain(), Form::Binary, f)
@@ -73,7 +73,7 @@ impl<'a, R: BitRegister, O: BitOrder<R>> fmt::Binary for DomainMut<'a, R, O> {
 impl<'a, R: BitRegister, O: BitOrder<R>> fmt::Octal for DomainMut<'a, R, O> {
     fn fmt<W: fmt::Write>(&self, f: &mut fmt::Formatter<W>) -> fmt::Result
         ensures { R.BITS ≤ 64 → (text : List ℕ)
-            × IsTextOf R.BITS (indexed R.number O.position) R.number O.masked (digits 8 false) self.now text
+            × IsTextOf (read_by R.BitRegister O.position) R.number O.masked (digits 8 false) self.now text
             × WritesOnOk W.write_str_gives f.old result text f.new }
     {
         write_domain(self.as_domain(), Form::Octal, f)
@@ -83,7 +83,7 @@ impl<'a, R: BitRegister, O: BitOrder<R>> fmt::Octal for DomainMut<'a, R, O> {
 impl<'a, R: BitRegister, O: BitOrder<R>> fmt::LowerHex for DomainMut<'a, R, O> {
     fn fmt<W: fmt::Write>(&self, f: &mut fmt::Formatter<W>) -> fmt::Result
         ensures { R.BITS ≤ 64 → (text : List ℕ)
-            × IsTextOf R.BITS (indexed R.number O.position) R.number O.masked (digits 16 false) self.now text
+            × IsTextOf (read_by R.BitRegister O.position) R.number O.masked (digits 16 false) self.now text
             × WritesOnOk W.write_str_gives f.old result text f.new }
     {
         write_domain(self.as_domain(), Form::LowerHex, f)
@@ -93,7 +93,7 @@ impl<'a, R: BitRegister, O: BitOrder<R>> fmt::LowerHex for DomainMut<'a, R, O> {
 impl<'a, R: BitRegister, O: BitOrder<R>> fmt::UpperHex for DomainMut<'a, R, O> {
     fn fmt<W: fmt::Write>(&self, f: &mut fmt::Formatter<W>) -> fmt::Result
         ensures { R.BITS ≤ 64 → (text : List ℕ)
-            × IsTextOf R.BITS (indexed R.number O.position) R.number O.masked (digits 16 true) self.now text
+            × IsTextOf (read_by R.BitRegister O.position) R.number O.masked (digits 16 true) self.now text
             × WritesOnOk W.write_str_gives f.old result text f.new }
     {
         write_domain(self.as_domain(), Form::UpperHex, f)

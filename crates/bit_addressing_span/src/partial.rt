@@ -1,10 +1,10 @@
 //! A part of one word, read.
 
 ghost use Rattle.std.specs.Prelude.{◌≡◌, ◌∷◌, [], ◌-◌, ◌<◌, ◌≤◌, length};
-ghost use Rattle.bit_addressing_memory.specs.Memory.{indexed};
+ghost use Rattle.bit_addressing_memory.specs.Memory.{read_by};
 ghost use Rattle.bit_addressing_span.specs.Partial.{part_mask, IsMasked};
 
-use crate::stored::masked;
+use crate::masking::masked;
 use bit_addressing_order::{BitEnd, BitIdx, BitMask, BitOrder, BitRegister};
 use std::alloc::AllocError;
 use std::marker::PhantomData;
@@ -57,7 +57,7 @@ impl<'a, R: BitRegister, O: BitOrder<R>> PartialElement<'a, R, O> {
     pub fn load_value(self) -> R
         ensures number { partial_numbers R.number O.masked self.entry ≡ R.number result ∷ [] }
         ensures digits { (word : R) → partial_words self.entry ≡ word ∷ []
-            → IsMasked R.BITS (indexed R.number O.position) word result
+            → IsMasked (read_by R.BitRegister O.position) word result
             (partial_head self.entry) (partial_tail self.entry) }
     {
         let (head, tail) = self.bounds();

@@ -2,7 +2,7 @@
 
 ghost use Rattle.std.specs.Prelude.{◌≡◌, ◌+◌, ◌*◌, ◌<◌, ◌≤◌, ◌^◌, ◌↔◌, IsOk, IsTrue, MatchResult, length, ⊤};
 ghost use Rattle.bit_addressing_memory.specs.Memory.{touched};
-ghost use Rattle.bit_addressing_span.specs.Span.{extent, end_inside, IsExtent, IsRefusal};
+ghost use Rattle.bit_addressing_span.specs.Span.{extent, end_inside, FitsIn, IsExtent, IsRefusal};
 
 use crate::span_error::BitSpanError;
 use bit_addressing_order::{BitEnd, BitIdx, BitOrder, BitRegister, Limits};
@@ -107,7 +107,10 @@ impl<R: BitRegister, O: BitOrder<R>> BitSpan<R, O> {
 
     /// Whether each word of the span is one of the first `words`.
     pub fn fits(self, words: usize) -> bool
-        ensures { IsTrue result ↔ (self.word + touched R.BITS self.head self.len ≤ words) }
+        ensures fit { IsTrue result ↔ FitsIn R.BITS self words }
+
+        // What the type says.
+        ensures index { self.head < R.BITS }
     {
         let word = self.word;
         word + words_touched::<R>(self.head, self.len) <= words

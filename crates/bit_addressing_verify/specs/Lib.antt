@@ -1,4 +1,12 @@
-pub mod Verify
-pub mod VerifyLemmas
+pub mod OrderFault
 pub mod VerifySteps
-pub mod Words
+pub mod WordFault
+-- the words of orders and registers
+pub use Rattle.bit_addressing_order.specs.BitIdx
+pub use Rattle.bit_addressing_order.specs.BitMask
+pub use Rattle.bit_addressing_order.specs.BitOrder
+pub use Rattle.bit_addressing_order.specs.BitRegister
+pub use Rattle.bit_addressing_order.specs.Bits
+pub use Rattle.bit_addressing_order.specs.OrderLaws
+pub use Rattle.bit_addressing_order.specs.RegisterLaws
+pub use Rattle.bit_addressing_order.specs.Text

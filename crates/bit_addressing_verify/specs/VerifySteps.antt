@@ -1,7 +1,7 @@
 -- What the steps of `verify_for_type` answer. No public clause cites this module.
 use Rattle.std.specs.Prelude.{◌≡◌, ℕ, ◌<◌, ◌≤◌, Option, Some, None}
-use Rattle.bit_addressing_order.specs.Law.{IsOneBit}
-use Rattle.bit_addressing_verify.specs.Verify.{IsGoodMask, IsGoodRow, AreGoodRows, AreGoodEnds, AreGoodStarts}
+use Rattle.bit_addressing_order.specs.BitOrder.{IsOneBit}
+use Rattle.bit_addressing_verify.specs.OrderFault.{IsGoodMask, IsGoodRow, AreGoodRows, AreGoodEnds, AreGoodStarts}
 use Rattle.bit_addressing_verify.specs.declared.fault.OrderFault.{OrderFault}
 use Rattle.bit_addressing_verify.specs.declared.fault.OrderFault.TheVariants.{Selector, Repeated, Mask}
 

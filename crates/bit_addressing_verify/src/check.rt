@@ -1,9 +1,9 @@
 //! Whether a candidate is a lawful order.
 
 ghost use Rattle.std.specs.Prelude.{◌≡◌, ℕ, ◌+◌, ◌-◌, ◌^◌, ◌<◌, ◌≤◌, ◌↔◌, IsOk, IfErr, IsTrue, MatchResult};
-ghost use Rattle.bit_addressing_order.specs.Law.{lower, upper, mask_from, masks_from, IsLawful};
-ghost use Rattle.bit_addressing_verify.specs.Verify.{AreGoodIndices, IsGoodIndex, IsGoodMask, IsGoodRow};
-ghost use Rattle.bit_addressing_verify.specs.Verify.{AreGoodRows, AreGoodEnds, AreGoodStarts, IsFirstFault};
+ghost use Rattle.bit_addressing_order.specs.BitOrder.{lower, upper, mask_from, masks_from, IsLawful};
+ghost use Rattle.bit_addressing_verify.specs.OrderFault.{AreGoodIndices, IsGoodIndex, IsGoodMask, IsGoodRow};
+ghost use Rattle.bit_addressing_verify.specs.OrderFault.{AreGoodRows, AreGoodEnds, AreGoodStarts, IsFirstFault};
 ghost use Rattle.bit_addressing_verify.specs.VerifySteps.{AreWithin, IsIndexFault, IsRowFault};
 ghost use Rattle.bit_addressing_verify.specs.VerifySteps.{IsPairFault, IsEndFault, IsStartFault};
 
@@ -18,7 +18,7 @@ use bit_addressing_order::{BitEnd, BitIdx, BitRegister, OrderCandidate, mask_fro
 /// the second ascending; then up to each end with no first bound; then from each index with no
 /// second bound; then with neither. In bitvec the call is told whether to print, and panics at the
 /// first fault.
-#[tactic(auto, using(crate::specs::VerifyLemmas::first_faults, crate::specs::VerifyLemmas::lawful_from_checks))]
+#[tactic(auto, using(crate::proofs::VerifyLemmas::verdicts))]
 pub fn verify_for_type<R: BitRegister, C: OrderCandidate<R>>() -> Result<(), OrderFault<R>>
     ensures lawful { IsOk result ↔ IsLawful R.BITS C.position C.selector C.masked }
     ensures fault { IfErr result (IsFirstFault R.BITS C.position C.selector C.masked) }
@@ -34,8 +34,8 @@ pub fn verify_for_type<R: BitRegister, C: OrderCandidate<R>>() -> Result<(), Ord
     }
 }
 
-// Checks every index, ascending.
-#[tactic(auto, using(crate::specs::VerifyLemmas::first_of_index, crate::specs::VerifyLemmas::good_more, crate::specs::VerifyLemmas::within_more))]
+// The first fault of the indices, ascending.
+#[tactic(auto, using(crate::proofs::VerifyLemmas::indices_so_far))]
 fn verify_indices<R: BitRegister, C: OrderCandidate<R>>() -> Result<(), OrderFault<R>>
     ensures { MatchResult result
         (λ _. AreGoodIndices C.position C.selector R.BITS × AreWithin R.BITS C.position R.BITS)
@@ -48,8 +48,8 @@ fn verify_indices<R: BitRegister, C: OrderCandidate<R>>() -> Result<(), OrderFau
     Ok(())
 }
 
-// Checks one index, where `met` has the positions of those below, and adds its position.
-#[tactic(auto, using(crate::specs::VerifyLemmas::index_steps))]
+// The fault of one index, or the positions met with its own: `met` has those of the indices below.
+#[tactic(auto, using(crate::proofs::VerifyLemmas::index_steps))]
 fn verify_index<R: BitRegister, C: OrderCandidate<R>>(
     index: BitIdx<R>,
     met: R,
@@ -72,8 +72,8 @@ fn verify_index<R: BitRegister, C: OrderCandidate<R>>(
     Ok(met.or(position))
 }
 
-// Checks the masks between each two present bounds.
-#[tactic(auto, using(crate::specs::VerifyLemmas::rows_more, crate::specs::VerifyLemmas::pair_of_row))]
+// The first fault of the masks between each two present bounds.
+#[tactic(auto, using(crate::proofs::VerifyLemmas::masks_so_far))]
 fn verify_pairs<R: BitRegister, C: OrderCandidate<R>>() -> Result<(), OrderFault<R>>
     ensures { MatchResult result
         (λ _. AreGoodRows R.BITS C.position C.masked R.BITS)
@@ -85,8 +85,8 @@ fn verify_pairs<R: BitRegister, C: OrderCandidate<R>>() -> Result<(), OrderFault
     Ok(())
 }
 
-// Checks the masks from one index up to each end.
-#[tactic(auto, using(crate::specs::VerifyLemmas::row_more))]
+// The first fault of the masks from one index up to each end.
+#[tactic(auto, using(crate::proofs::VerifyLemmas::masks_so_far))]
 fn verify_row<R: BitRegister, C: OrderCandidate<R>>(from: BitIdx<R>) -> Result<(), OrderFault<R>>
     ensures { MatchResult result
         (λ _. IsGoodRow R.BITS C.position C.masked from (R.BITS + 1))
@@ -101,8 +101,8 @@ fn verify_row<R: BitRegister, C: OrderCandidate<R>>(from: BitIdx<R>) -> Result<(
     Ok(())
 }
 
-// Checks the masks up to each end with no first bound.
-#[tactic(auto, using(crate::specs::VerifyLemmas::ends_more))]
+// The first fault of the masks up to each end with no first bound.
+#[tactic(auto, using(crate::proofs::VerifyLemmas::masks_so_far))]
 fn verify_ends<R: BitRegister, C: OrderCandidate<R>>() -> Result<(), OrderFault<R>>
     ensures { MatchResult result
         (λ _. AreGoodEnds R.BITS C.position C.masked (R.BITS + 1))
@@ -117,8 +117,8 @@ fn verify_ends<R: BitRegister, C: OrderCandidate<R>>() -> Result<(), OrderFault<
     Ok(())
 }
 
-// Checks the masks from each index with no second bound.
-#[tactic(auto, using(crate::specs::VerifyLemmas::starts_more))]
+// The first fault of the masks from each index with no second bound.
+#[tactic(auto, using(crate::proofs::VerifyLemmas::masks_so_far))]
 fn verify_starts<R: BitRegister, C: OrderCandidate<R>>() -> Result<(), OrderFault<R>>
     ensures { MatchResult result
         (λ _. AreGoodStarts R.BITS C.position C.masked R.BITS)

@@ -2,9 +2,9 @@
 #![tactic(auto)]
 
 mod check;
+mod every_register;
 mod fault;
-mod words;
 
 pub use check::verify_for_type;
+pub use every_register::verify;
 pub use fault::{OrderFault, WordFault};
-pub use words::verify;

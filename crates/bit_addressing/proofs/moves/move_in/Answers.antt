@@ -1,6 +1,6 @@
 use Rattle.std.proofs.Common.{arith, rules, refl, ◌≡◌, ◌+◌, ◌-◌, ◌/◌, ◌<◌, ◌≤◌, set, length}
 use Rattle.std.proofs.lemmas.Grind.{common_steps}
-use Rattle.bit_addressing_memory.specs.Memory.{indexed}
+use Rattle.bit_addressing_memory.specs.Memory.{read_by}
 use Rattle.bit_addressing.proofs.Changes.{changed-set}
 use Rattle.bit_addressing.proofs.Sweeps.{swept_up, swept_down, moved_all, first_le_last}
 use Rattle.bit_addressing.proofs.WayLemmas.{way_up, way_down}
@@ -9,7 +9,7 @@ use Rattle.bit_addressing.proofs.moves.move_in.Goals as goal
 pub up-preserved : goal.up-preserved
 up-preserved g c =
     let b = g.R.BitRegister.BITS in
-    let digit = indexed g.R.BitRegister.number g.O.Positions.position in
+    let reading = read_by g.R.BitRegister g.O.Positions.position in
     let before = c.args.sweep.now.words.now in
     let now = c.up.sweep.words.now in
     let word = c.gathered-word.result in
@@ -21,7 +21,7 @@ up-preserved g c =
     let within : k < length now = grind (arith, common_steps) in
     let order : first ≤ k = omega arith in
     let swept =
-    swept_up b digit before now c.args.source c.args.target c.args.len first k word some way within order
+    swept_up reading before now c.args.source c.args.target c.args.len first k word some way within order
     c.up.invariant.swept c.gathered-word.ensures.digits in
     record {
       swept = rw is swept;
@@ -35,7 +35,7 @@ up-preserved g c =
 pub down-preserved : goal.down-preserved
 down-preserved g c =
     let b = g.R.BitRegister.BITS in
-    let digit = indexed g.R.BitRegister.number g.O.Positions.position in
+    let reading = read_by g.R.BitRegister g.O.Positions.position in
     let before = c.args.sweep.now.words.now in
     let now = c.down.sweep.words.now in
     let word = c.gathered-word-in-down.result in
@@ -47,7 +47,7 @@ down-preserved g c =
     let within : k < length now = grind (arith, common_steps) in
     let next : k + 1 ≡ c.down.k = omega arith in
     let swept =
-    swept_down b digit before now c.args.source c.args.target c.args.len k c.down.k high word some way within next
+    swept_down reading before now c.args.source c.args.target c.args.len k c.down.k high word some way within next
     c.down.auto.k c.down.invariant.swept c.gathered-word-in-down.ensures.digits in
     record {
       swept = rw is swept;
@@ -62,24 +62,24 @@ down-preserved g c =
 pub returns-after-up-clause-moved : goal.returns-after-up-clause-moved
 returns-after-up-clause-moved g c =
     let b = g.R.BitRegister.BITS in
-    let digit = indexed g.R.BitRegister.number g.O.Positions.position in
+    let reading = read_by g.R.BitRegister g.O.Positions.position in
     let bits = c.bits_of-bits.result in
     let some : 0 < b = omega (arith, g.met.R.BitRegister.least_bits) in
     let any : 0 < c.args.len = omega arith in
     let positive : 0 < bits = rw c.bits_of-bits.ensures some in
     let high : c.up.k ≡ (c.args.target + c.args.len - 1) / bits + 1 =
     omega (arith, first_le_last bits c.args.target c.args.len positive any) in
-    moved_all b digit c.args.sweep.now.words.now c.up.sweep.words.now c.args.source c.args.target c.args.len
+    moved_all reading c.args.sweep.now.words.now c.up.sweep.words.now c.args.source c.args.target c.args.len
     (c.args.target / bits) c.up.k bits some any c.bits_of-bits.ensures refl high c.up.invariant.swept
 
 pub returns-after-down-clause-moved : goal.returns-after-down-clause-moved
 returns-after-down-clause-moved g c =
     let b = g.R.BitRegister.BITS in
-    let digit = indexed g.R.BitRegister.number g.O.Positions.position in
+    let reading = read_by g.R.BitRegister g.O.Positions.position in
     let bits = c.bits_of-bits.result in
     let some : 0 < b = omega (arith, g.met.R.BitRegister.least_bits) in
     let any : 0 < c.args.len = omega arith in
     let low : c.down.k ≡ c.args.target / bits = omega arith in
-    moved_all b digit c.args.sweep.now.words.now c.down.sweep.words.now c.args.source c.args.target c.args.len
+    moved_all reading c.args.sweep.now.words.now c.down.sweep.words.now c.args.source c.args.target c.args.len
     c.down.k ((c.args.target + c.args.len - 1) / bits + 1) bits some any c.bits_of-bits.ensures low refl
     c.down.invariant.swept

@@ -1,7 +1,7 @@
-use Rattle.bit_addressing_memory.specs.Memory.{indexed, Swaps}
+use Rattle.bit_addressing_memory.specs.Memory.{read_by, Swaps}
 use Rattle.bit_addressing_memory.proofs.copies.swap_within.Given as goal
 
 abbrev pub invariant-loop-k : goal.invariant-loop-k
 invariant-loop-k g l =
-    Swaps g.R.BitRegister.BITS (indexed g.R.BitRegister.number g.O.Positions.position) l.fn.words l.words
+    Swaps (read_by g.R.BitRegister g.O.Positions.position) l.fn.words l.words
     l.first l.second l.k

@@ -1,4 +1,4 @@
-use Rattle.bit_addressing_order.specs.OrderLaws.{masks_apart}
+use Rattle.bit_addressing_order.proofs.OrderLemmas.{masks_apart}
 use Rattle.bit_addressing_order.proofs.order.disjoint_masks.Goals as goal
 
 pub returns-clause-disjoint : goal.returns-clause-disjoint

@@ -1,5 +1,5 @@
 use Rattle.std.proofs.Common.{◌≡◌, ◌-◌}
-use Rattle.bit_addressing_order.specs.Law.{mask_from}
+use Rattle.bit_addressing_order.specs.BitOrder.{mask_from}
 use Rattle.bit_addressing_order.proofs.order.mask_of_indices.Given as goal
 
 -- the mask of the indices so far

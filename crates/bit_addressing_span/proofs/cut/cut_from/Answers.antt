@@ -1,13 +1,13 @@
 use Rattle.std.proofs.Common.{arith, ℕ, ◌-◌, ◌<◌, ◌*◌, ◌+◌, ◌∙◌, ap, ◌≡◌, length, length-drop}
-use Rattle.bit_addressing_memory.specs.Memory.{indexed, memory}
-use Rattle.bit_addressing_span.proofs.CutLemmas.{span_bits, no_bits, span_within}
+use Rattle.bit_addressing_memory.specs.Memory.{read_by, memory}
+use Rattle.bit_addressing_span.proofs.CutLemmas.{bits_from_word, no_bits, span_within}
 use Rattle.bit_addressing_span.proofs.cut.cut_from.Goals as goal
 
 pub returns-then-len-eq0-clause-bits : goal.returns-then-len-eq0-clause-bits
 unfolding memory
 returns-then-len-eq0-clause-bits g c =
-    let digit = indexed g.R.BitRegister.number g.O.Positions.position in
-    no_bits (memory g.R.BitRegister.BITS digit c.args.words.now) (c.args.word * g.R.BitRegister.BITS + c.args.head)
+    let reading = read_by g.R.BitRegister g.O.Positions.position in
+    no_bits (memory reading c.args.words.now) (c.args.word * g.R.BitRegister.BITS + c.args.head)
     c.args.len c.if-len-eq0.true
 
 pub cut_words-requires-clause-within : goal.cut_words-requires-clause-within
@@ -21,6 +21,6 @@ cut_words-requires-clause-within g c =
 
 pub returns-clause-bits : goal.returns-clause-bits
 returns-clause-bits g c =
-    let digit = indexed g.R.BitRegister.number g.O.Positions.position in
-    span_bits g.R.BitRegister.BITS digit c.args.words.now c.args.word c.args.head c.args.len _
+    let reading = read_by g.R.BitRegister g.O.Positions.position in
+    bits_from_word reading c.args.words.now c.args.word c.args.head c.args.len _
     (omega (arith, c.requires.fits)) (rw c.words_from-rest.ensures at c.cut_words.ensures.bits)

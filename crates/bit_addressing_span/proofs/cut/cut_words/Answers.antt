@@ -1,6 +1,6 @@
 use Rattle.std.proofs.Common.{◌≡◌, ℕ, ◌+◌, ◌*◌, ◌/◌, ◌%◌, length, refl, ap, ◌∙◌, arith, length-append}
 use Rattle.std.proofs.lemmas.List.{length-map}
-use Rattle.bit_addressing_memory.specs.Memory.{indexed, touched}
+use Rattle.bit_addressing_memory.specs.Memory.{read_by, touched}
 use Rattle.bit_addressing_span.proofs.CutLemmas.{bits_at_edge, bits_inside, last_within, last_below}
 use Rattle.bit_addressing_span.proofs.CutLemmas.{last_place, placed, some_words}
 use Rattle.bit_addressing_span.proofs.SpanLemmas.{touched-whole}
@@ -49,7 +49,7 @@ returns-then-from-eq0-clause-bits g c =
     (omega (arith, from.value, c.requires.within)) in
     let place = last_place b size e c.BITS-bits.ensures in
     rw c.words_between.ensures.words
-    (bits_at_edge b (indexed g.R.BitRegister.number g.O.Positions.position) c.args.words.now (e / size) _ (e % size)
+    (bits_at_edge (read_by g.R.BitRegister g.O.Positions.position) c.args.words.now (e / size) _ (e % size)
     c.args.head c.args.len _ (omega arith) within (omega (arith, from.value, c.if-from-eq0.true))
     (omega (arith, from.value, place)) c.part_before.ensures.bits)
 
@@ -75,7 +75,7 @@ returns-clause-bits g c =
     let start : 0 * b + c.args.head ≡ c.args.head = omega arith in
     let head = placed _ _ _ _ _ _ (rw c.MAX.ensures at c.part_of-2.ensures.bits) start refl in
     rw c.words_between-2.ensures.words
-    (bits_inside b (indexed g.R.BitRegister.number g.O.Positions.position) c.args.words.now (e / size) (e % size)
+    (bits_inside (read_by g.R.BitRegister g.O.Positions.position) c.args.words.now (e / size) (e % size)
     c.args.head c.args.len _ _ (omega (arith, c.if-last-eq0.false)) within (omega (arith, from.value, from.within))
     (omega (arith, from.value, place)) head c.part_before-2.ensures.bits)
 

@@ -1,4 +1,4 @@
-use Rattle.bit_addressing_verify.specs.Verify.{AreGoodEnds}
+use Rattle.bit_addressing_verify.specs.OrderFault.{AreGoodEnds}
 use Rattle.bit_addressing_verify.proofs.check.verify_ends.Given as goal
 
 -- the masks up to the ends so far are good

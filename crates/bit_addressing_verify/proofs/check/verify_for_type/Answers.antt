@@ -1,6 +1,6 @@
 use Rattle.std.proofs.lemmas.Bool.{false≢true}
 use Rattle.std.proofs.lemmas.Result.{err_from_is_err_and}
-use Rattle.bit_addressing_verify.specs.VerifyLemmas.{not_lawful}
+use Rattle.bit_addressing_verify.proofs.VerifyLemmas.{not_lawful}
 use Rattle.bit_addressing_verify.proofs.check.verify_for_type.Goals as goal
 
 -- a candidate with a fault breaks a law

@@ -1,5 +1,5 @@
 use Rattle.std.proofs.Common.{◌≡◌, ◌^◌, ◌∙◌, ap, sym, bit_and, arith}
-use Rattle.bit_addressing_verify.specs.VerifyLemmas.{new_position, more_met}
+use Rattle.bit_addressing_verify.proofs.VerifyLemmas.{new_position, more_met}
 use Rattle.bit_addressing_verify.proofs.check.verify_index.Goals as goal
 
 -- the selector is the position's, and no position met so far is the same

@@ -1,6 +1,6 @@
 use Rattle.std.proofs.Common.{◌≡◌}
-use Rattle.bit_addressing_order.specs.Law.{mask_from}
-use Rattle.bit_addressing_verify.specs.Verify.{AreGoodIndices}
+use Rattle.bit_addressing_order.specs.BitOrder.{mask_from}
+use Rattle.bit_addressing_verify.specs.OrderFault.{AreGoodIndices}
 use Rattle.bit_addressing_verify.specs.VerifySteps.{AreWithin}
 use Rattle.bit_addressing_verify.proofs.check.verify_indices.Given as goal
 

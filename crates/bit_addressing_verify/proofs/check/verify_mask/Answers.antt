@@ -1,6 +1,6 @@
 use Rattle.std.proofs.Common.{ap}
-use Rattle.bit_addressing_order.specs.Law.{lower, upper}
-use Rattle.bit_addressing_verify.specs.VerifyLemmas.{mask_test}
+use Rattle.bit_addressing_order.specs.BitOrder.{lower, upper}
+use Rattle.bit_addressing_verify.proofs.VerifyLemmas.{mask_test}
 use Rattle.bit_addressing_verify.proofs.check.verify_mask.Goals as goal
 
 -- a mask is right exactly where it is the one made index by index

@@ -1,6 +1,6 @@
 use Rattle.std.proofs.Common.{◌<◌, arith}
 use Rattle.std.proofs.lemmas.Result.{err_from_is_err_and}
-use Rattle.bit_addressing_verify.specs.VerifyLemmas.{pair_of_row}
+use Rattle.bit_addressing_verify.proofs.VerifyLemmas.{pair_of_row}
 use Rattle.bit_addressing_verify.proofs.check.verify_pairs.Goals as goal
 
 -- the first fault from this index is the first, since the masks from those below are good

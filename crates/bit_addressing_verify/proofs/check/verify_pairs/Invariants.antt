@@ -1,4 +1,4 @@
-use Rattle.bit_addressing_verify.specs.Verify.{AreGoodRows}
+use Rattle.bit_addressing_verify.specs.OrderFault.{AreGoodRows}
 use Rattle.bit_addressing_verify.proofs.check.verify_pairs.Given as goal
 
 -- the masks from the indices so far are good

@@ -1,4 +1,4 @@
-use Rattle.bit_addressing_verify.specs.Verify.{IsGoodRow}
+use Rattle.bit_addressing_verify.specs.OrderFault.{IsGoodRow}
 use Rattle.bit_addressing_verify.proofs.check.verify_row.Given as goal
 
 -- the masks up to the ends so far are good

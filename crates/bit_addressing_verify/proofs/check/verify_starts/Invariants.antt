@@ -1,4 +1,4 @@
-use Rattle.bit_addressing_verify.specs.Verify.{AreGoodStarts}
+use Rattle.bit_addressing_verify.specs.OrderFault.{AreGoodStarts}
 use Rattle.bit_addressing_verify.proofs.check.verify_starts.Given as goal
 
 -- the masks from the indices so far are good

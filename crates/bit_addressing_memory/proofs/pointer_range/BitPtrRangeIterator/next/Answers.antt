@@ -1,4 +1,4 @@
-use Rattle.std.proofs.Common.{◌≡◌, sym, ap, arith}
+use Rattle.std.proofs.Common.{◌≡◌, refl, sym, ap, arith}
 use Rattle.bit_addressing_memory.specs.PointerRange.{PointerRange, bits_between}
 use Rattle.bit_addressing_memory.proofs.PointerLemmas.{without_first, gives_first}
 use Rattle.bit_addressing_memory.proofs.pointer_range.BitPtrRangeIterator.next.Goals as goal
@@ -9,11 +9,11 @@ invariant_of-self g c =
     let inside = c.self.inside in
     let len : c.args.self.now.len ≡ bits_between size inside.start inside.end =
     sym (ap (λ (r : PointerRange). r.len) c.self.view_is) in
-    without_first size inside.start inside.end c.one_on-self-inside.result c.self.invariant (omega arith)
-    c.one_on-self-inside.ensures.place c.one_on-self-inside.ensures.bit
+    without_first size inside.start inside.end c.add-self-inside.result c.self.invariant (omega arith)
+    c.add-self-inside.ensures.place c.add-self-inside.ensures.bit
 
 pub returns-clause-steps : goal.returns-clause-steps
 returns-clause-steps g c =
-    gives_first g.R.BitRegister.BITS c.args.self.now c.self.inside.start c.self.inside.end c.one_on-self-inside.result
-    c.copied-first.result c.self.invariant c.self.view_is (omega arith) c.copied-first.ensures.value
-    c.one_on-self-inside.ensures.place
+    gives_first g.R.BitRegister.BITS c.args.self.now c.self.inside.start c.self.inside.end c.add-self-inside.result
+    c.self.inside.start c.self.invariant c.self.view_is (omega arith) refl
+    c.add-self-inside.ensures.place

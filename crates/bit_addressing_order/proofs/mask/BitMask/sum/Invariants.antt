@@ -1,5 +1,5 @@
 use Rattle.std.proofs.Common.{map}
-use Rattle.bit_addressing_order.specs.Masks.{IsUnionOf}
+use Rattle.bit_addressing_order.specs.BitMask.{IsUnionOf}
 use Rattle.bit_addressing_order.proofs.mask.BitMask.sum.Given as goal
 
 -- the union of the selectors so far

@@ -1,0 +1,2 @@
+mod ElementLemmas
+mod WidthLemmas

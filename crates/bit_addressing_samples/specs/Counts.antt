@@ -1,9 +1,0 @@
-use Rattle.std.specs.Prelude.{ℕ, ◌+◌, ◌*◌, ◌-◌, ◌%◌}
-use Rattle.bit_addressing_samples.specs.declared.count.Count.{Count}
-use Rattle.bit_addressing_samples.specs.declared.count.Count.TheVariants.{Lowest, Highest, Fifths}
-
--- The digit of an index in a word of so many digits.
-abbrev pub counted : Count → ℕ → ℕ → ℕ
-counted Lowest _ index = index
-counted Highest bits index = bits - 1 - index
-counted Fifths bits index = (5 * index + 3) % bits

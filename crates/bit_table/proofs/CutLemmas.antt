@@ -1,7 +1,7 @@
 -- A command that is kept cut off is refused, edits and answers as the one that its words spell.
 use Rattle.std.proofs.Common.{◌≡◌, ◌-◌, ◌*◌, ◌^◌, ◌<◌, ◌≤◌, length, map, Option}
 use Rattle.std.proofs.Common.{Some, None, Ok, Err, Result, MatchOption}
-use Rattle.std.proofs.Common.{IsOkUnless, arith, refl, subst}
+use Rattle.std.proofs.Common.{IsOkUnless, arith, refl, ap, subst}
 use Rattle.std.specs.Prelude.{option_map}
 use Rattle.bit_table_layout.specs.Layouts.{row_width}
 use Rattle.bit_table_layout.proofs.RowLemmas.{fields_lawful, some_row_bits}
@@ -16,6 +16,7 @@ use Rattle.bit_table_script.proofs.CallerLemmas.{take_all-cut_value, cut_value-a
 use Rattle.bit_table_script.proofs.CallerLemmas.{cut_place-below, cut_place-within}
 use Rattle.bit_table.specs.Tables.{TableShape, IsTable}
 use Rattle.bit_table.specs.Causes.{command_cause, cause_in}
+use Rattle.bit_table.specs.Edits.{CuttingOffChangesNothing, edit, reply_to}
 use Rattle.bit_table.proofs.CauseLemmas.{is_accepted}
 
 -- a table has fewer rows than the greatest row number that a command keeps
@@ -46,6 +47,14 @@ cut_off-accepted t h (Insert p vs) e =
     cut_value-all_taken t.layout.fields vs (fields_lawful t.layout h.layout) a.taken in
     cc
 cut_off-accepted t h Image e = refl
+
+-- a command that is cut off acts as the command
+pub cut_off-acts : CuttingOffChangesNothing
+cut_off-acts t h c = record {
+  same_cause = cause_in-cut_off t h c;
+  same_edit = λ none. ap (edit t) (cut_off-accepted t h c none);
+  same_reply = λ none. ap (reply_to t) (cut_off-accepted t h c none);
+}
 
 -- the command that words spell, and what is kept of it
 pub record IsSpelled (spelled : Option Command) (kept : Command) : Type 0 where

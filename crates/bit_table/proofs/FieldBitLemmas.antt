@@ -1,11 +1,11 @@
 -- The bits of one field and of a row of fields, added one by one.
-use Rattle.std.proofs.Common.{◌≡◌, ℕ, zero, suc, ◌+◌, ◌-◌, ◌<◌, ◌≤◌, Bool, false, List, [], ◌∷◌, ◌++◌, length}
+use Rattle.std.proofs.Common.{◌≡◌, ℕ, ◌+◌, ◌-◌, ◌<◌, ◌≤◌, Bool, false, List, [], ◌∷◌, ◌++◌, length}
 use Rattle.std.proofs.Common.{get_or, take, reverse, ℤ, sym, refl, ap, ap₂, ◌∙◌}
-use Rattle.std.proofs.Common.{arith, length-append, length-take, append_assoc}
+use Rattle.std.proofs.Common.{arith, length-append, append_assoc}
 use Rattle.std.specs.List.{range_with_len}
 use Rattle.std.proofs.lemmas.List.{take_more, take_all, get_or-map, get_or-reverse, length-reverse, append-nil}
 use Rattle.std.proofs.lemmas.List.FromFn.{length-range_with_len, get_or-range_with_len, get_or-map-range_with_len}
-use Rattle.std.proofs.lemmas.List.Sums.{sum_by_more_le, sum_by-cons}
+use Rattle.std.proofs.lemmas.List.Sums.{sum_by-cons}
 use Rattle.bit_table_layout.specs.declared.layout.Rule.{Rule}
 use Rattle.bit_table_layout.specs.declared.layout.Rule.TheVariants.{Low, High}
 use Rattle.bit_table_layout.specs.Digits.{has_digit}
@@ -49,22 +49,8 @@ field_all rule n v i all = take_all i (field_bits rule n v) (omega (arith, lengt
 
 -- ---- a row
 
--- the bits of the fields up to field i
-pub numbers_more : (rule : Rule) (fs : List FieldShape) (vs : List ℤ) (i : ℕ) (f : FieldShape) (v : ℤ) → i < length fs
-    → i < length vs
-    → numbers_bits rule (take (i + 1) fs) (take (i + 1) vs)
-    ≡ numbers_bits rule (take i fs) (take i vs) ++ field_bits rule (get_or fs i f).width (get_or vs i v)
-numbers_more rule [] vs i f v h k = absurd (omega arith)
-numbers_more rule (g ∷ fs) [] i f v h k = absurd (omega arith)
-numbers_more rule (g ∷ fs) (w ∷ vs) zero f v h k = append-nil (field_bits rule g.width w)
-numbers_more rule (g ∷ fs) (w ∷ vs) (suc i) f v h k =
-    let first = field_bits rule g.width w in
-    let count : suc i + 1 ≡ suc (i + 1) = omega arith in
-    ap (λ m. numbers_bits rule (take m (g ∷ fs)) (take m (w ∷ vs))) count
-    ∙ ap (λ l. first ++ l) (numbers_more rule fs vs i f v (omega arith) (omega arith))
-    ∙ sym (append_assoc first (numbers_bits rule (take i fs) (take i vs)) _)
-
-length-numbers_bits : (rule : Rule) (fs : List FieldShape) (vs : List ℤ) → length fs ≡ length vs
+-- numbers, one a field, have as many bits as the fields
+pub length-numbers_bits : (rule : Rule) (fs : List FieldShape) (vs : List ℤ) → length fs ≡ length vs
     → length (numbers_bits rule fs vs) ≡ row_width fs
 length-numbers_bits rule [] vs e = refl
 length-numbers_bits rule (f ∷ fs) [] e = absurd (omega arith)
@@ -73,13 +59,41 @@ length-numbers_bits rule (f ∷ fs) (v ∷ vs) e =
     ∙ ap₂ (λ a b. a + b) (length-field_bits rule f.width v) (length-numbers_bits rule fs vs (omega arith))
     ∙ sym (sum_by-cons (λ g. g.width) f fs)
 
--- the first i fields and field i are no wider than the row
-pub row_room : (rule : Rule) (fs : List FieldShape) (vs : List ℤ) (i : ℕ) (f : FieldShape)
-    → length fs ≡ length vs → i < length fs
-    → length (numbers_bits rule (take i fs) (take i vs)) + (get_or fs i f).width ≤ row_width fs
-row_room rule fs vs i f e h =
-    let same : length (take i fs) ≡ length (take i vs) = omega (arith, length-take i fs, length-take i vs) in
-    let before = length-numbers_bits rule (take i fs) (take i vs) same in
-    let fits : row_width (take i fs) + (get_or fs i f).width ≤ row_width fs =
-    sum_by_more_le (λ g. g.width) fs i f h in
+-- bits that are whole once those of the fields and numbers that are left are added
+pub record LacksNumbers (rule : Rule) (whole now : List Bool) (fs : List FieldShape) (vs : List ℤ) : Type 0 where
+  pub same_count : length fs ≡ length vs
+  pub joined : whole ≡ now ++ numbers_bits rule fs vs
+
+-- the bits of one field more were added
+pub lacks_fewer : (rule : Rule) (whole now next : List Bool) (all fs : List FieldShape) (f : FieldShape)
+    (numbers vs : List ℤ) (v : ℤ)
+    → LacksNumbers rule whole now all numbers → all ≡ f ∷ fs → numbers ≡ v ∷ vs
+    → next ≡ now ++ field_bits rule f.width v → LacksNumbers rule whole next fs vs
+lacks_fewer rule whole now next all fs f numbers vs v h is_f is_v e = record {
+  same_count = let count = h.same_count in omega (arith, ap length is_f, ap length is_v);
+  joined =
+      h.joined ∙ ap₂ (λ l m. now ++ numbers_bits rule l m) is_f is_v
+      ∙ sym (append_assoc now (field_bits rule f.width v) (numbers_bits rule fs vs))
+      ∙ ap (λ l. l ++ numbers_bits rule fs vs) (sym e);
+}
+
+-- no field is left
+pub lacks_none : (rule : Rule) (whole now : List Bool) (fs : List FieldShape) (vs : List ℤ)
+    → LacksNumbers rule whole now fs vs → fs ≡ [] → now ≡ whole
+lacks_none rule whole now fs vs h e =
+    sym (h.joined ∙ ap (λ l. now ++ numbers_bits rule l vs) e ∙ append-nil now)
+
+-- there is room for the bits of the next field where there was for those of the row
+pub room_for_next : (rule : Rule) (old now : List Bool) (all fs left : List FieldShape) (f : FieldShape)
+    (numbers vs : List ℤ) (most : ℕ)
+    → length all ≡ length numbers → length old + row_width all ≤ most
+    → LacksNumbers rule (old ++ numbers_bits rule all numbers) now fs vs → fs ≡ f ∷ left
+    → length now + f.width ≤ most
+room_for_next rule old now all fs left f numbers vs most e room h is =
+    let whole = ap length h.joined in
+    let front = length-append old (numbers_bits rule all numbers) in
+    let row = length-numbers_bits rule all numbers e in
+    let back = length-append now (numbers_bits rule fs vs) in
+    let rest = length-numbers_bits rule fs vs h.same_count in
+    let next = ap row_width is ∙ sum_by-cons (λ g. g.width) f left in
     omega arith

@@ -9,7 +9,8 @@ use Rattle.bit_table_layout.proofs.RowLemmas.{rows_from-insert}
 use Rattle.bit_table_script.specs.declared.command.Command.TheVariants.{Insert}
 use Rattle.bit_table.specs.Tables.{TableShape}
 use Rattle.bit_table.specs.Edits.{edit}
-use Rattle.bit_table.proofs.TableLemmas.{table_from, length-numbers_bits_counted}
+use Rattle.bit_table.proofs.FieldBitLemmas.{length-numbers_bits}
+use Rattle.bit_table.proofs.TableLemmas.{table_from}
 use Rattle.bit_table.proofs.CauseLemmas.{IsAccepted}
 
 -- so many rows take no more bits than more rows do
@@ -23,7 +24,7 @@ with_row l bits at vs = take at bits ++ (numbers_bits l.rule l.fields vs ++ drop
 pub length-with_row : (l : LayoutShape) (bits : List Bool) (at : ℕ) (vs : List ℤ)
     → length l.fields ≡ length vs → at ≤ length bits → length (with_row l bits at vs) ≡ length bits + row_width l.fields
 length-with_row l bits at vs e h =
-    let row = length-numbers_bits_counted l.rule l.fields vs e in
+    let row = length-numbers_bits l.rule l.fields vs e in
     grind (arith, common_steps, row)
 
 -- the bits of the table after an insertion hold the rows that the edit says

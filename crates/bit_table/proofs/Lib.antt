@@ -7,4 +7,5 @@ pub mod InsertLemmas
 pub mod CutLemmas
 pub mod AnswerLemmas
 pub mod SessionLemmas
+pub mod CallerLemmas
 mod KnownRows

@@ -1,15 +1,9 @@
 -- A table as its packed bits give it back.
-use Rattle.std.proofs.Common.{◌≡◌, ℕ, ◌+◌, ◌*◌, ◌≤◌, true, List, [], ◌∷◌, Bool, length, None, sym, ap, ◌∙◌, subst}
-use Rattle.std.proofs.Common.{arith, refl, ℤ, length-append}
-use Rattle.std.proofs.lemmas.List.Sums.{sum_by-cons}
-use Rattle.bit_table_layout.specs.declared.layout.Rule.{Rule}
+use Rattle.std.proofs.Common.{◌≡◌, ℕ, ◌*◌, ◌≤◌, true, List, Bool, length, None, sym, ap, ◌∙◌, subst}
 use Rattle.bit_table_layout.specs.declared.layout.TheConstants.{MAX_BITS}
-use Rattle.bit_table_layout.specs.Fields.{FieldShape}
 use Rattle.bit_table_layout.specs.Layouts.{LayoutShape, is_layout, row_width}
-use Rattle.bit_table_layout.specs.Rows.{field_bits, numbers_bits}
 use Rattle.bit_table_layout.specs.Readings.{rows_from}
 use Rattle.bit_table_layout.specs.Images.{image_bytes, bytes_of, HasOnlyNumbers}
-use Rattle.bit_table_layout.proofs.ReadingLemmas.{length-field_bits}
 use Rattle.bit_table_layout.proofs.RowLemmas.{length-rows_from, are_rows-rows_from, table_bits-rows_from}
 use Rattle.bit_table_layout.proofs.ImageLemmas.{has_only_numbers}
 use Rattle.bit_table_script.specs.declared.reply.Reply.TheVariants.{Image}
@@ -41,19 +35,6 @@ only_numbers t h = has_only_numbers t.layout t.rows h.layout h.rows
 pub lawful_by : (s : TableShape) (l : LayoutShape) (n : ℕ) (bits : List Bool) → table_from l n bits ≡ s
     → is_layout l ≡ true → length bits ≡ n * row_width l.fields → n * row_width l.fields ≤ MAX_BITS → IsTable s
 lawful_by s l n bits e lawful fits room = subst IsTable e (is_table l n bits lawful fits room)
-
--- so many numbers have as many bits as their fields
-pub length-numbers_bits_counted : (rule : Rule) (fs : List FieldShape) (vs : List ℤ) → length fs ≡ length vs
-    → length (numbers_bits rule fs vs) ≡ row_width fs
-length-numbers_bits_counted rule [] vs e = refl
-length-numbers_bits_counted rule (f ∷ fs) [] e = absurd (omega arith)
-length-numbers_bits_counted rule (f ∷ fs) (v ∷ vs) e =
-    let rest : length (numbers_bits rule fs vs) ≡ row_width fs =
-    length-numbers_bits_counted rule fs vs (omega arith) in
-    length-append (field_bits rule f.width v) (numbers_bits rule fs vs)
-    ∙ ap (λ n. n + length (numbers_bits rule fs vs)) (length-field_bits rule f.width v)
-    ∙ ap (λ n. f.width + n) rest
-    ∙ sym (sum_by-cons (λ (g : FieldShape). g.width) f fs)
 
 -- the reply that packed bits make is the image of the table that they hold
 pub image_of_bits : (l : LayoutShape) (n : ℕ) (bits : List Bool) (t : TableShape) (bytes : List ℕ)

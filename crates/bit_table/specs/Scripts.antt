@@ -1,10 +1,11 @@
 -- The answer to a script.
-use Rattle.std.specs.Prelude.{ℕ, ◌==◌, not, Bool, List, [], ◌∷◌, ◌++◌, length, codes}
+use Rattle.std.specs.Prelude.{ℕ, ◌==◌, not, Bool, List, [], ◌∷◌, ◌++◌, length}
 use Rattle.std.specs.Prelude.{Option, Some, None, option_map, if◌then◌else◌}
-use Rattle.bit_table_layout.specs.Words.{words}
+use Rattle.bit_table_layout.specs.LineWords.{words}
 use Rattle.bit_table_layout.specs.Layouts.{layout_of}
 use Rattle.bit_table_script.specs.declared.cause.Cause.{Cause}
 use Rattle.bit_table_script.specs.declared.command.Command.{Command}
+use Rattle.bit_table_script.specs.declared.reply.Reply.TheVariants.{Done}
 use Rattle.bit_table_script.specs.Commands.{command_of}
 use Rattle.bit_table_script.specs.Lines.{lines}
 use Rattle.bit_table_script.specs.Replies.{reply_text, refusal_text}
@@ -23,7 +24,7 @@ command_answer t (Some c) = reply_text (reply_to t c)
 
 -- the answer to an accepted line
 abbrev pub accepted_answer : Option TableShape → List ℕ → List ℕ
-accepted_answer None line = codes "ok\n"
+accepted_answer None line = reply_text Done
 accepted_answer (Some t) line = command_answer t (command_of t.layout line)
 
 -- the answer to a line that this cause refuses, or none does

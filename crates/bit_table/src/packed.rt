@@ -1,11 +1,10 @@
 //! Bits that lie packed in bytes, the first bit lowest.
 ghost use Rattle.std.specs.Prelude.{◌≡◌, ◌≢◌, ℕ, ◌+◌, ◌-◌, ◌*◌, ◌/◌, ◌==◌, ◌<◌, ◌≤◌, [], ◌∷◌, ◌++◌};
-ghost use Rattle.std.specs.Prelude.{false, get_or, length, take, drop, vec_len, IsTrue, OnOk, OnErr, IfOk};
-ghost use Rattle.std.specs.List.{list_all};
+ghost use Rattle.std.specs.Prelude.{false, get_or, length, take, drop, vec_len, OnOk, OnErr, IfOk};
 ghost use Rattle.std.specs.Int.{bit_at};
 ghost use Rattle.bit_table_layout.specs.Digits.{has_digit};
 ghost use Rattle.bit_table.specs.Packed.{unpacked};
-ghost use Rattle.bit_table_layout.specs.Layouts.{row_width, is_field};
+ghost use Rattle.bit_table_layout.specs.Layouts.{row_width};
 ghost use Rattle.bit_table_layout.specs.Rows.{take_all, field_bits, numbers_bits};
 ghost use Rattle.bit_table_layout.specs.Images.{byte_of, bytes_of};
 
@@ -13,10 +12,10 @@ use bit_table_layout::{Field, MAX_BITS, Rule};
 use std::alloc::{AllocError, Global};
 use std::marker::Model;
 
-/// How many bits a byte has.
+// How many bits a byte has.
 const BYTE: usize = 8;
 
-/// A list of bits, packed in bytes.
+// A list of bits, packed in bytes.
 #[derive(Drop)]
 pub(crate) struct PackedBits {
     bytes: Vec<u8>,
@@ -36,7 +35,7 @@ impl Model for PackedBits {
 }
 
 impl PackedBits {
-    /// No bits.
+    // No bits.
     pub(crate) fn new(alloc: Global) -> PackedBits
         ensures { result ≡ [] }
     {
@@ -46,7 +45,7 @@ impl PackedBits {
         }
     }
 
-    /// How many bits there are.
+    // How many bits there are.
     pub(crate) fn len(&self) -> usize
         ensures len { result ≡ length self.now }
         ensures small { result ≤ MAX_BITS }
@@ -54,14 +53,14 @@ impl PackedBits {
         self.len
     }
 
-    /// The bit at an index, or `false` past the end.
+    // The bit at an index, or `false` past the end.
     pub(crate) fn get(&self, index: usize) -> bool
         ensures { result ≡ get_or self.now index false }
     {
         index < self.len && self.bytes[index / BYTE] >> (index % BYTE) & 1 == 1
     }
 
-    /// Adds a bit at the end.
+    // Adds a bit at the end.
     pub(crate) fn push(&mut self, bit: bool) -> Result<(), AllocError>
         requires { length self.old < MAX_BITS }
         ensures ok { OnOk result (self.new ≡ self.old ++ bit ∷ []) }
@@ -72,7 +71,7 @@ impl PackedBits {
         Ok(())
     }
 
-    /// Adds the bits of another list from one index to before another.
+    // Adds the bits of another list from one index to before another.
     pub(crate) fn push_range(
         &mut self,
         other: &PackedBits,
@@ -90,7 +89,7 @@ impl PackedBits {
         Ok(())
     }
 
-    /// Adds the bits of a field of so many bits that has this number.
+    // Adds the bits of a field of so many bits that has this number.
     pub(crate) fn push_field(
         &mut self,
         rule: Rule,
@@ -111,7 +110,7 @@ impl PackedBits {
         Ok(())
     }
 
-    /// Adds the bits of a row of these numbers, one a field.
+    // Adds the bits of a row of these numbers, one a field.
     pub(crate) fn push_numbers(
         &mut self,
         rule: Rule,
@@ -119,17 +118,16 @@ impl PackedBits {
         values: &[i128],
     ) -> Result<(), AllocError>
         requires count { length fields.now ≡ length values.now }
-        requires lawful { IsTrue (list_all is_field fields.now) }
         requires room { length self.old + row_width fields.now ≤ MAX_BITS }
         ensures ok { OnOk result (self.new ≡ self.old ++ numbers_bits rule fields.now values.now) }
     {
-        for index in 0..fields.len() {
-            self.push_field(rule, fields[index].width(), values[index])?;
+        for (field, value) in fields.iter().zip(values) {
+            self.push_field(rule, field.width(), *value)?;
         }
         Ok(())
     }
 
-    /// The byte of the eight bits from an index on, those past the end being zero.
+    // The byte of the eight bits from an index on, those past the end being zero.
     fn byte(&self, rule: Rule, first: usize) -> u8
         requires { first ≤ MAX_BITS }
         ensures { result ≡ byte_of rule (take 8 (drop first self.now)) }
@@ -145,8 +143,8 @@ impl PackedBits {
         byte
     }
 
-    /// The bytes of the bits cut by eight, the rest zero: the first bit of eight is lowest under `low`, highest under
-    /// `high`.
+    // The bytes of the bits cut by eight, the rest zero: the first bit of eight is lowest under `low`, highest under
+    // `high`.
     pub(crate) fn to_bytes(&self, alloc: Global, rule: Rule) -> Result<Vec<u8>, AllocError>
         ensures { IfOk result (λ bytes. bytes.items ≡ bytes_of rule self.now) }
     {
@@ -158,7 +156,7 @@ impl PackedBits {
     }
 }
 
-/// Whether the digit of a number of weight `2^place` is 1.
+// Whether the digit of a number of weight `2^place` is 1.
 fn digit_at(value: i128, place: u32) -> bool
     requires { place < 64 }
     ensures { result ≡ has_digit value place }
@@ -166,7 +164,7 @@ fn digit_at(value: i128, place: u32) -> bool
     value.div_euclid(1 << place).rem_euclid(2) == 1
 }
 
-/// Adds a bit behind the first `len` bits of the bytes, which are as many as these need.
+// Adds a bit behind the first `len` bits of the bytes, which are as many as these need.
 fn push_bit(bytes: &mut Vec<u8>, len: usize, bit: bool) -> Result<(), AllocError>
     requires fits { vec_len bytes.old ≡ (len + 7) / 8 }
     requires room { len < MAX_BITS }
@@ -184,7 +182,7 @@ fn push_bit(bytes: &mut Vec<u8>, len: usize, bit: bool) -> Result<(), AllocError
     Ok(())
 }
 
-/// The byte with the bit at a place set to `bit`.
+// The byte with the bit at a place set to `bit`.
 fn with_bit(byte: u8, place: u32, bit: bool) -> u8
     requires { place < 8 }
     ensures same { (bit_at result place == 1) ≡ bit }

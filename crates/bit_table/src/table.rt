@@ -1,12 +1,11 @@
 //! A table: rows of a layout, packed bit by bit.
 ghost use Rattle.std.specs.Prelude.{◌≡◌, ◌+◌, ◌≤◌, ◌*◌, ◌++◌, Bool, length, take, drop, None};
-ghost use Rattle.std.specs.Prelude.{IfOk, OnOk, OnErr, IsOkUnless, IsTrue, MatchOption};
-ghost use Rattle.std.specs.List.{list_all};
+ghost use Rattle.std.specs.Prelude.{IfOk, OnOk, OnErr, IsOkUnless, MatchOption};
 ghost use Rattle.bit_table_layout.specs.Images.{image_bytes, HasOnlyNumbers};
-ghost use Rattle.bit_table_layout.specs.Layouts.{row_width, is_field, is_layout};
+ghost use Rattle.bit_table_layout.specs.Layouts.{row_width, is_layout};
 ghost use Rattle.bit_table_layout.specs.Rows.{take_all, numbers_bits};
 ghost use Rattle.bit_table.specs.Causes.{cause_in, command_cause};
-ghost use Rattle.bit_table.specs.Edits.{edit, reply_to};
+ghost use Rattle.bit_table.specs.Edits.{CuttingOffChangesNothing, edit, reply_to};
 ghost use Rattle.bit_table.specs.Tables.{new_table, IsTable};
 
 use super::packed::PackedBits;
@@ -102,7 +101,7 @@ impl Table {
         }
     }
 
-    /// Inserts a row of these values before the row of this number.
+    // Inserts a row of these values before the row of this number.
     fn insert(&mut self, place: u64, values: &[i128]) -> Result<Reply, Fault>
         ensures cause { MatchOption (cause_in self.old (Command.Insert place values.now))
             (IsOkUnless result Fault.Memory) (λ c. result ≡ Err (Fault.Refused c)) }
@@ -120,7 +119,7 @@ impl Table {
         Ok(Reply::Done)
     }
 
-    /// The image of the rows.
+    // The image of the rows.
     fn image(&self) -> Result<Reply, Fault>
         ensures ok { IfOk result (λ reply. reply ≡ reply_to self.now Command.Image) }
         ensures err { IsOkUnless result Fault.Memory }
@@ -136,7 +135,13 @@ impl Table {
     }
 }
 
-/// The cause that refuses an insertion over so many rows, if one does.
+/// Cutting off a command's numbers, as `Command` keeps them, changes neither the cause that refuses it nor, where none
+/// does, its edit and its reply: a law, which the contract states.
+pub fn cutting_off_changes_nothing()
+    ensures { CuttingOffChangesNothing }
+{}
+
+// The cause that refuses an insertion over so many rows, if one does.
 #[tactic(auto, unfolding(crate::specs::Causes::command_cause))]
 fn insertion_cause(layout: &Layout, rows: usize, place: u64, values: &[i128]) -> Option<Cause>
     requires { rows ≤ MAX_BITS }
@@ -157,21 +162,18 @@ fn insertion_cause(layout: &Layout, rows: usize, place: u64, values: &[i128]) ->
     None
 }
 
-/// Whether each field takes its number.
+// Whether each field takes its number.
 fn take_all(fields: &[Field], values: &[i128]) -> bool
-    requires lawful { IsTrue (list_all is_field fields.now) }
-    requires count { length values.now ≡ length fields.now }
+    requires { length values.now ≡ length fields.now }
     ensures { result ≡ take_all fields.now values.now }
 {
-    for index in 0..fields.len() {
-        if !fields[index].takes(values[index]) {
-            return false;
-        }
-    }
-    true
+    fields
+        .iter()
+        .zip(values)
+        .all(|(field, value)| field.takes(*value))
 }
 
-/// The bits with those of a row of these values put in at an index.
+// The bits with those of a row of these values put in at an index.
 fn with_row(
     alloc: Global,
     bits: &PackedBits,

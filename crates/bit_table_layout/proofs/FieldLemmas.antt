@@ -8,7 +8,7 @@ use Rattle.std.proofs.lemmas.Bool.{le-leb, leb-true, eqb-false, not-true}
 use Rattle.bit_table_layout.proofs.NumeralLemmas.{number-positive}
 use Rattle.bit_table_layout.specs.Numerals.{number_of}
 use Rattle.bit_table_layout.specs.Fields.{FieldShape, is_name, is_width, name_part, kind_part, field_from, field_of}
-use Rattle.bit_table_layout.specs.Layouts.{is_field}
+use Rattle.bit_table_layout.specs.Fields.{is_field}
 use Rattle.bit_table_layout.proofs.PlaceLemmas.{position_in, position_in-None, position_in-Some, whole_rest}
 
 -- whether a byte is a colon

@@ -6,10 +6,12 @@ use Rattle.std.specs.Option.{option_map, option_and_then, option_map_or}
 use Rattle.std.specs.Str.{bytes_eq}
 use Rattle.std.proofs.lemmas.Bool.{and_from, and_right, lt-leb, cond-true, cond-false, false≢true}
 use Rattle.std.proofs.lemmas.List.Sums.{sum_by-cons}
+use Rattle.bit_table_layout.specs.declared.layout.TheConstants.{MAX_ROW_BITS}
 use Rattle.bit_table_layout.specs.declared.layout.Rule.{Rule}
-use Rattle.bit_table_layout.specs.Words.{words}
+use Rattle.bit_table_layout.specs.LineWords.{words}
 use Rattle.bit_table_layout.specs.Fields.{FieldShape, name_part, field_of}
-use Rattle.bit_table_layout.specs.Layouts.{row_width, has_name, names_differ, is_field, make_layout}
+use Rattle.bit_table_layout.specs.Layouts.{row_width, has_name, names_differ, make_layout}
+use Rattle.bit_table_layout.specs.Fields.{is_field}
 use Rattle.bit_table_layout.specs.Layouts.{fields_of, rule_of, layout_from, layout_in}
 use Rattle.bit_table_layout.specs.Layouts.{layout_of}
 use Rattle.bit_table_layout.specs.Steps.{names_word, fields_fit, words_fit}
@@ -74,17 +76,17 @@ words_fit-Some width word rest f some =
         let same = has_name-of_words f.name rest fs is in
         let sum = sum_by-cons (λ g. g.width) f fs in
         let sums : width + row_width (f ∷ fs) ≡ width + f.width + row_width fs = omega arith in
-        ap (λ w. (not (has_name f.name fs) && names_differ fs) && (leb 1 w && leb w 256)) sums
+        ap (λ w. (not (has_name f.name fs) && names_differ fs) && (leb 1 w && leb w MAX_ROW_BITS)) sums
         ∙ and-regroup (not (has_name f.name fs)) (names_differ fs) _
         ∙ ap (λ b. not b && fields_fit (width + f.width) fs) same
 
 -- too many bits already
-words_fit-past : (width : ℕ) (ws : List (List ℕ)) → 256 < width → words_fit width ws ≡ false
+words_fit-past : (width : ℕ) (ws : List (List ℕ)) → MAX_ROW_BITS < width → words_fit width ws ≡ false
 words_fit-past width ws past = go (fields_of ws)
   where
     go : (o : Option (List FieldShape)) → option_map_or (fields_fit width) o false ≡ false
     go None = refl
-    go (Some fs) = and_right _ _ (and_right _ _ (lt-leb (width + row_width fs) 256 (omega arith)))
+    go (Some fs) = and_right _ _ (and_right _ _ (lt-leb (width + row_width fs) MAX_ROW_BITS (omega arith)))
 
 -- one word further, where no later word has its name
 pub words_fit-more : (width : ℕ) (left rest : List (List ℕ)) (word name : List ℕ) (f : FieldShape)
@@ -107,7 +109,7 @@ words_fit-twice width left rest word name f is some named again =
 
 -- the word has too many bits
 pub words_fit-wide : (width : ℕ) (left rest : List (List ℕ)) (word : List ℕ) (f : FieldShape) → left ≡ word ∷ rest
-    → field_of word ≡ Some f → 256 < width + f.width → words_fit width left ≡ false
+    → field_of word ≡ Some f → MAX_ROW_BITS < width + f.width → words_fit width left ≡ false
 words_fit-wide width left rest word f is some past =
     ap (words_fit width) is ∙ words_fit-Some width word rest f some
     ∙ and_right _ _ (words_fit-past (width + f.width) rest past)
@@ -116,7 +118,7 @@ words_fit-wide width left rest word f is some past =
 make_layout-fits : (fields : List FieldShape) → make_layout fields ≡ (list_all is_field fields && fields_fit 0 fields)
 make_layout-fits fields =
     let sum : row_width fields ≡ 0 + row_width fields = omega arith in
-    ap (λ w. list_all is_field fields && (names_differ fields && (leb 1 w && leb w 256))) sum
+    ap (λ w. list_all is_field fields && (names_differ fields && (leb 1 w && leb w MAX_ROW_BITS))) sum
 
 -- the layout of a line by its words
 pub layout_of-words : (line : List ℕ) (ws : List (List ℕ)) → words line ≡ ws → layout_of line ≡ layout_in ws

@@ -32,11 +32,12 @@ digit_value-of b digit =
     let value = digit_value_digit b (grind (arith, nat_tests)) in
     omega arith
 
--- one more digit, where numbers past the greatest count as it
-pub number-more : (word : List ℕ) (most number i : ℕ) → IsTrue (is_number word) → i < length word
+-- one more digit, where numbers past `most` count as `most`, and sums and products stop at `top`
+pub number-more : (word : List ℕ) (top most number i : ℕ) → IsTrue (is_number word) → most ≤ top → i < length word
     → number ≡ min (number_of (take i word)) most
-    → min most (number * 10 + (get_or word i 0 - 48)) ≡ min (number_of (take (i + 1) word)) most
-number-more word most number i digits lt so_far =
+    → min most (min (min (number * 10) top + (get_or word i 0 - 48)) top)
+    ≡ min (number_of (take (i + 1) word)) most
+number-more word top most number i digits below lt so_far =
     let value = digit_value-of (get_or word i 0) (digit-at word i digits lt) in
     let more = digits_value_more 10 word i lt in
     omega arith

@@ -17,7 +17,8 @@ use Rattle.bit_table_layout.specs.declared.layout.Rule.{Rule}
 use Rattle.bit_table_layout.specs.declared.layout.Rule.TheVariants.{Low, High}
 use Rattle.bit_table_layout.specs.Digits.{has_digit, binary}
 use Rattle.bit_table_layout.specs.Fields.{FieldShape, least, limit, takes, is_name}
-use Rattle.bit_table_layout.specs.Layouts.{is_field, row_width}
+use Rattle.bit_table_layout.specs.Layouts.{row_width}
+use Rattle.bit_table_layout.specs.Fields.{is_field}
 use Rattle.bit_table_layout.specs.Rows.{take_all, field_bits, numbers_bits}
 use Rattle.bit_table_layout.specs.Readings.{lowest_first, number_from_digits, number_from, numbers_from}
 use Rattle.bit_table_layout.proofs.DigitLemmas.{digits, binary-lt, binary-digits-pos, binary-digits-negsuc}

@@ -7,7 +7,9 @@ use Rattle.std.specs.Prelude.{nat_le}
 use Rattle.std.specs.List.{list_all}
 use Rattle.std.proofs.lemmas.Bool.{and_parts, and_from}
 use Rattle.std.proofs.lemmas.List.{nil_from_length, take-append-le, drop-append-le, take_all}
-use Rattle.bit_table_layout.specs.Layouts.{LayoutShape, is_field, is_layout, names_differ, row_width}
+use Rattle.bit_table_layout.specs.declared.layout.TheConstants.{MAX_ROW_BITS}
+use Rattle.bit_table_layout.specs.Layouts.{LayoutShape, is_layout, names_differ, row_width}
+use Rattle.bit_table_layout.specs.Fields.{is_field}
 use Rattle.bit_table_layout.specs.Rows.{Row, new_row, take_all as takes_all, is_row, are_rows}
 use Rattle.bit_table_layout.specs.Rows.{numbers_bits, row_bits, table_bits, all_numbers}
 use Rattle.bit_table_layout.specs.Readings.{numbers_from, rows_from}
@@ -19,14 +21,14 @@ use Rattle.bit_table_layout.proofs.ReadingLemmas.{numbers_bits-numbers_from, tak
 pub fields_lawful : (l : LayoutShape) → is_layout l ≡ true → list_all is_field l.fields ≡ true
 fields_lawful l h =
     let w = row_width l.fields in
-    (and_parts (list_all is_field l.fields) (names_differ l.fields && (nat_le 1 w && nat_le w 256)) h).0
+    (and_parts (list_all is_field l.fields) (names_differ l.fields && (nat_le 1 w && nat_le w MAX_ROW_BITS)) h).0
 
 pub some_row_bits : (l : LayoutShape) → is_layout l ≡ true → 1 ≤ row_width l.fields
 some_row_bits l h =
     let w = row_width l.fields in
-    let rest = and_parts (list_all is_field l.fields) (names_differ l.fields && (nat_le 1 w && nat_le w 256)) h in
-    let widths = and_parts (names_differ l.fields) (nat_le 1 w && nat_le w 256) rest.1 in
-    leb-true 1 w (and_parts (nat_le 1 w) (nat_le w 256) widths.1).0
+    let rest = and_parts (list_all is_field l.fields) (names_differ l.fields && (nat_le 1 w && nat_le w MAX_ROW_BITS)) h in
+    let widths = and_parts (names_differ l.fields) (nat_le 1 w && nat_le w MAX_ROW_BITS) rest.1 in
+    leb-true 1 w (and_parts (nat_le 1 w) (nat_le w MAX_ROW_BITS) widths.1).0
 
 -- ---- the bits of rows
 

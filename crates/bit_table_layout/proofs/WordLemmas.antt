@@ -11,7 +11,7 @@ use Rattle.std.proofs.lemmas.List.Splits.{slice_split-cons_yes, slice_split-cons
 use Rattle.bit_table_layout.proofs.PlaceLemmas.{position-hit, position-miss, position_in, position_in-None}
 use Rattle.bit_table_layout.proofs.PlaceLemmas.{position_in-Some, position_in-unwrap}
 use Rattle.bit_table_layout.proofs.PlaceLemmas.{whole_rest}
-use Rattle.bit_table_layout.specs.Words.{is_separator, has_bytes, words}
+use Rattle.bit_table_layout.specs.LineWords.{is_separator, has_bytes, words}
 
 -- whether a byte belongs to a word
 abbrev pub is_word_byte : ℕ → Bool

@@ -43,6 +43,10 @@ field_from name (kind ∷ digits) =
 abbrev pub field_of : List ℕ → Option FieldShape
 field_of word = field_from (name_part word) (kind_part word)
 
+-- whether a field has a name and a width of 1 to 64
+abbrev pub is_field : FieldShape → Bool
+is_field f = is_name f.name && (nat_le 1 f.width && nat_le f.width 64)
+
 -- the least number that a field takes: 0 for `uN`, - 2 ^ (N - 1) for `iN`
 abbrev pub least : FieldShape → ℤ
 least f = if f.signed then neg_ℤ (pos (2 ^ (f.width - 1))) else pos 0

@@ -22,13 +22,6 @@ bytes_of rule bits = map (λ k. byte_of rule (take 8 (drop (8 * k) bits))) (rang
 abbrev pub image_bytes : LayoutShape → List Row → List ℕ
 image_bytes l rows = bytes_of l.rule (table_bits l rows)
 
--- the bytes are the image of some list of so many rows of the layout
-pub record IsImage (l : LayoutShape) (count : ℕ) (bytes : List ℕ) : Type 0 where
-  pub rows : List Row
-  pub counted : length rows ≡ count
-  pub lawful : are_rows l rows ≡ true
-  pub pictured : image_bytes l rows ≡ bytes
-
 -- the image line: the row count and, where there are rows, a space and the bytes in hexadecimal
 abbrev pub image_line : ℕ → List ℕ → List ℕ
 image_line count bytes = decimal count ++ (if count == 0 then [] else (32 ∷ encode_lower bytes))

@@ -6,8 +6,9 @@ use Rattle.std.specs.List.{list_any, list_all}
 use Rattle.std.specs.Str.{bytes_eq}
 use Rattle.bit_table_layout.specs.declared.layout.Rule.{Rule}
 use Rattle.bit_table_layout.specs.declared.layout.Rule.TheVariants.{Low}
-use Rattle.bit_table_layout.specs.Words.{words}
-use Rattle.bit_table_layout.specs.Fields.{FieldShape, is_name, field_of}
+use Rattle.bit_table_layout.specs.declared.layout.TheConstants.{MAX_ROW_BITS}
+use Rattle.bit_table_layout.specs.LineWords.{words}
+use Rattle.bit_table_layout.specs.Fields.{FieldShape, is_field, field_of}
 
 -- a layout: a digit rule and its fields in order
 pub record LayoutShape : Type 0 where
@@ -27,14 +28,10 @@ abbrev pub names_differ : List FieldShape → Bool
 names_differ [] = true
 names_differ (f ∷ fs) = not (has_name f.name fs) && names_differ fs
 
--- whether a field has a name and a width of 1 to 64
-abbrev pub is_field : FieldShape → Bool
-is_field f = is_name f.name && (nat_le 1 f.width && nat_le f.width 64)
-
--- whether fields make a layout: each is one, their names differ, and a row has 1 to 256 bits
+-- whether fields make a layout: each is one, their names differ, and a row has 1 to `MAX_ROW_BITS` bits
 abbrev pub make_layout : List FieldShape → Bool
 make_layout fields = list_all is_field fields && (names_differ fields
-    && (nat_le 1 (row_width fields) && nat_le (row_width fields) 256))
+    && (nat_le 1 (row_width fields) && nat_le (row_width fields) MAX_ROW_BITS))
 
 -- a layout is one by its fields
 abbrev pub is_layout : LayoutShape → Bool

@@ -1,10 +1,10 @@
 pub mod Digits
-pub mod Words
+pub mod LineWords
 pub mod Numerals
 pub mod Fields
 pub mod Layouts
 pub mod Rows
 pub mod Images
 pub mod Readings
-pub mod WordsLeft
+pub mod LineWordsLeft
 pub mod Steps

@@ -3,6 +3,7 @@ use Rattle.std.specs.Prelude.{ℕ, ◌+◌, ◌&&◌, nat_le, false, Bool, List}
 use Rattle.std.specs.List.{list_any}
 use Rattle.std.specs.Option.{option_map_or}
 use Rattle.std.specs.Str.{bytes_eq}
+use Rattle.bit_table_layout.specs.declared.layout.TheConstants.{MAX_ROW_BITS}
 use Rattle.bit_table_layout.specs.Fields.{FieldShape, name_part}
 use Rattle.bit_table_layout.specs.Layouts.{row_width, names_differ, fields_of}
 
@@ -10,10 +11,10 @@ use Rattle.bit_table_layout.specs.Layouts.{row_width, names_differ, fields_of}
 abbrev pub names_word : List ℕ → List (List ℕ) → Bool
 names_word name ws = list_any (λ word. bytes_eq (name_part word) name) ws
 
--- whether the names of fields differ, and with so many bits before them a row has 1 to 256 bits
+-- whether the names of fields differ, and with so many bits before them a row has 1 to `MAX_ROW_BITS` bits
 abbrev pub fields_fit : ℕ → List FieldShape → Bool
 fields_fit width fields =
-    names_differ fields && (nat_le 1 (width + row_width fields) && nat_le (width + row_width fields) 256)
+    names_differ fields && (nat_le 1 (width + row_width fields) && nat_le (width + row_width fields) MAX_ROW_BITS)
 
 -- whether words spell such fields
 abbrev pub words_fit : ℕ → List (List ℕ) → Bool

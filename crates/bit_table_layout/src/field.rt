@@ -1,7 +1,6 @@
 //! A field of a layout.
 ghost use Rattle.std.specs.Prelude.{◌≡◌, IfOk, IsTrue};
-ghost use Rattle.bit_table_layout.specs.Fields.{takes};
-ghost use Rattle.bit_table_layout.specs.Layouts.{is_field};
+ghost use Rattle.bit_table_layout.specs.Fields.{is_field, takes};
 
 use super::field_word::FieldWord;
 use std::alloc::{AllocError, Global};
@@ -17,16 +16,18 @@ pub struct Field {
 
 impl Model for Field {
     ghost use Rattle.std.specs.Prelude.{IsTrue, string_bytes};
-    ghost use Rattle.bit_table_layout.specs.Fields.{FieldShape};
-    ghost use Rattle.bit_table_layout.specs.Layouts.{is_field};
+    ghost use Rattle.bit_table_layout.specs.Fields.{FieldShape, is_field};
 
     ghost Value = { FieldShape };
 
     ghost view = { λ f. record { name = string_bytes f.name; width = f.width; signed = f.signed } };
+
+    ghost invariant = { λ f.
+        IsTrue (is_field (record { name = string_bytes f.name; width = f.width; signed = f.signed })) };
 }
 
 impl Field {
-    /// The field that a word spelled.
+    // The field that a word spelled.
     pub(crate) fn new(alloc: Global, word: FieldWord) -> Result<Field, AllocError>
         requires { IsTrue (is_field word) }
         ensures { IfOk result (λ field. field ≡ word.entry) }
@@ -44,14 +45,16 @@ impl Field {
 
     /// The name: 1 to 16 bytes, a letter `a` to `z` followed by `a` to `z`, `0` to `9` or `_`.
     pub fn name(&self) -> &str
-        ensures { result.now ≡ self.now.name }
+        ensures name { result.now ≡ self.now.name }
+        ensures lawful { IsTrue (is_field self.now) }
     {
         self.name.as_str()
     }
 
     /// How many bits a number of this field has: 1 to 64.
     pub fn width(&self) -> u32
-        ensures { result ≡ self.now.width }
+        ensures width { result ≡ self.now.width }
+        ensures lawful { IsTrue (is_field self.now) }
     {
         self.width
     }
@@ -65,7 +68,6 @@ impl Field {
 
     /// Whether the field takes a number: 0 to `2^N - 1` without a sign, `-2^(N-1)` to `2^(N-1) - 1` with one.
     pub fn takes(&self, value: i128) -> bool
-        requires { IsTrue (is_field self.now) }
         ensures { result ≡ takes self.now value }
     {
         let (least, limit) = if self.signed {

@@ -1,13 +1,12 @@
 //! Field words, read without memory.
 ghost use Rattle.std.specs.Prelude.{◌≡◌, ◌&&◌, IsTrue, IfSome};
 ghost use Rattle.std.specs.List.{list_all};
-ghost use Rattle.bit_table_layout.specs.Fields.{is_name, is_name_byte, is_width, field_of, name_part, kind_part};
-ghost use Rattle.bit_table_layout.specs.Layouts.{is_field};
+ghost use Rattle.bit_table_layout.specs.Fields.{is_field, is_name, is_name_byte, is_width, field_of, name_part, kind_part};
 
 use super::numerals::{is_number, number_up_to};
 use std::marker::Model;
 
-/// The field that a word spells, while its name still lies in the line.
+// The field that a word spells, while its name still lies in the line.
 #[derive(Drop)]
 pub(crate) struct FieldWord<'a> {
     name: &'a [u8],
@@ -24,7 +23,7 @@ impl<'a> Model for FieldWord<'a> {
 }
 
 impl<'a> FieldWord<'a> {
-    /// The field that a word spells as `name:uN` or `name:iN`, where it spells one.
+    // The field that a word spells as `name:uN` or `name:iN`, where it spells one.
     pub(crate) fn parse(word: &'a [u8]) -> Option<FieldWord<'a>>
         ensures value { result ≡ field_of word.now }
         ensures lawful { IfSome result (λ field. IsTrue (is_field field)) }
@@ -42,21 +41,21 @@ impl<'a> FieldWord<'a> {
         }
     }
 
-    /// The name.
+    // The name.
     pub(crate) fn name(&self) -> &'a [u8]
         ensures { result.now ≡ self.now.name }
     {
         self.name
     }
 
-    /// How many bits a number of the field has.
+    // How many bits a number of the field has.
     pub(crate) fn width(&self) -> u32
         ensures { result ≡ self.now.width }
     {
         self.width
     }
 
-    /// Whether the numbers have a sign.
+    // Whether the numbers have a sign.
     pub(crate) fn signed(&self) -> bool
         ensures { result ≡ self.now.signed }
     {
@@ -64,7 +63,7 @@ impl<'a> FieldWord<'a> {
     }
 }
 
-/// A field word's part before its first colon and the part behind it, which has no byte where there is no colon.
+// A field word's part before its first colon and the part behind it, which has no byte where there is no colon.
 pub(crate) fn parts(word: &[u8]) -> (&[u8], &[u8])
     ensures name { result.0.now ≡ name_part word.now }
     ensures kind { result.1.now ≡ kind_part word.now }
@@ -75,28 +74,28 @@ pub(crate) fn parts(word: &[u8]) -> (&[u8], &[u8])
     }
 }
 
-/// Whether a word is a name.
+// Whether a word is a name.
 fn is_name(word: &[u8]) -> bool
     ensures { result ≡ is_name word.now }
 {
     !word.is_empty() && word.len() <= 16 && word[0].is_ascii_lowercase() && are_name_bytes(word)
 }
 
-/// Whether a name may have each of the bytes behind its first.
+// Whether a name may have each of the bytes behind its first.
 fn are_name_bytes(bytes: &[u8]) -> bool
     ensures { result ≡ list_all is_name_byte bytes.now }
 {
     bytes.iter().all(|byte| is_name_byte(*byte))
 }
 
-/// Whether a name may have a byte behind its first.
+// Whether a name may have a byte behind its first.
 fn is_name_byte(byte: u8) -> bool
     ensures { result ≡ is_name_byte byte }
 {
     byte.is_ascii_lowercase() || byte.is_ascii_digit() || byte == b'_'
 }
 
-/// Whether digits spell a width.
+// Whether digits spell a width.
 fn is_width(digits: &[u8]) -> bool
     ensures { result ≡ is_width digits.now }
 {

@@ -1,13 +1,13 @@
 //! Layouts.
-ghost use Rattle.std.specs.Prelude.{◌≡◌, ◌↔◌, ◌++◌, IfOk, IsErrOf, Some, None};
+ghost use Rattle.std.specs.Prelude.{◌≡◌, ◌↔◌, ◌++◌, IfOk, IsErrOf, IsSome, Some, None};
 ghost use Rattle.bit_table_layout.specs.Layouts.{rule_of, fields_of};
-ghost use Rattle.bit_table_layout.specs.WordsLeft.{words_left};
+ghost use Rattle.bit_table_layout.specs.LineWordsLeft.{words_left};
 ghost use Rattle.bit_table_layout.specs.Steps.{names_word, words_fit};
 
 use super::field::Field;
 use super::field_word::{FieldWord, parts};
-use super::words::Words;
-use std::alloc::Global;
+use super::line_words::Words;
+use std::alloc::{AllocError, Global};
 use std::marker::Model;
 use thiserror::Error;
 
@@ -15,7 +15,7 @@ use thiserror::Error;
 pub const MAX_BITS: usize = 2_305_843_009_213_693_951;
 
 /// The greatest number of bits that a row has.
-const MAX_ROW_BITS: u32 = 256;
+pub const MAX_ROW_BITS: usize = 256;
 
 /// In which order a field's digits lie.
 #[derive(Clone, Copy, Debug, PartialEq, Eq)]
@@ -63,7 +63,8 @@ impl Layout {
     ///
     /// Words stand apart by spaces, tabs and carriage returns; every other byte belongs to a word, a line feed too.
     /// A name has 1 to 16 bytes, a letter `a` to `z` followed by `a` to `z`, `0` to `9` or `_`, and no two fields
-    /// have one name. N is 1 to 64 in decimal without a leading zero, and all N together are at most 256.
+    /// have one name. N is 1 to 64 in decimal without a leading zero, and all N together are at most
+    /// `MAX_ROW_BITS`.
     ///
     /// Any other line is `LayoutError::Refused`, which is decided before memory is taken. `LayoutError::Memory` says
     /// that the line is a layout line, and that there was no memory for its fields.
@@ -81,7 +82,9 @@ impl Layout {
         if !spell_fields(words) {
             return Err(LayoutError::Refused);
         }
-        let fields = fields_of(alloc, words)?;
+        let Ok(fields) = fields_of(alloc, words) else {
+            return Err(LayoutError::Memory);
+        };
         Ok(Layout { rule, fields })
     }
 
@@ -93,16 +96,12 @@ impl Layout {
         self.fields.as_slice()
     }
 
-    /// How many bits a row has: 1 to 256.
+    /// How many bits a row has: 1 to `MAX_ROW_BITS`.
     pub fn row_bits(&self) -> usize
         ensures bits { result ≡ row_width self.now.fields }
         ensures lawful { IsTrue (is_layout self.now) }
     {
-        let mut bits = 0;
-        for field in &self.fields {
-            bits += field.width() as usize;
-        }
-        bits
+        self.fields.iter().map(|field| field.width() as usize).sum()
     }
 
     /// The digit rule.
@@ -113,7 +112,7 @@ impl Layout {
     }
 }
 
-/// The digit rule that a word names.
+// The digit rule that a word names.
 fn rule_of(word: &[u8]) -> Option<Rule>
     ensures { result ≡ rule_of word.now }
 {
@@ -124,7 +123,7 @@ fn rule_of(word: &[u8]) -> Option<Rule>
     }
 }
 
-/// Whether the words that are left spell the fields of a layout. It stops at the first fault.
+// Whether the words that are left spell the fields of a layout. It stops at the first fault.
 fn spell_fields(mut words: Words) -> bool
     ensures { result ≡ words_fit 0 (words_left words.entry) }
 {
@@ -133,7 +132,7 @@ fn spell_fields(mut words: Words) -> bool
         let Some(field) = FieldWord::parse(word) else {
             return false;
         };
-        width += field.width();
+        width += field.width() as usize;
         if width > MAX_ROW_BITS {
             return false;
         }
@@ -144,30 +143,22 @@ fn spell_fields(mut words: Words) -> bool
     width > 0
 }
 
-/// Whether one of the words that are left has the name before its first colon.
+// Whether one of the words that are left has the name before its first colon.
 fn names_word(name: &[u8], mut words: Words) -> bool
     ensures { result ≡ names_word name.now (words_left words.entry) }
 {
-    while let Some(word) = words.next() {
-        if parts(word).0 == name {
-            return true;
-        }
-    }
-    false
+    words.any(|word| parts(word).0 == name)
 }
 
-/// The fields that the words that are left spell.
-fn fields_of(alloc: Global, mut words: Words) -> Result<Vec<Field>, LayoutError>
-    ensures ok { IfOk result (λ fields. fields_of (words_left words.entry) ≡ Some fields.items) }
-    ensures refused { IsErrOf result LayoutError.Refused → fields_of (words_left words.entry) ≡ None }
+// The fields that the words that are left spell.
+fn fields_of(alloc: Global, mut words: Words) -> Result<Vec<Field>, AllocError>
+    requires { IsSome (fields_of (words_left words)) }
+    ensures { IfOk result (λ fields. fields_of (words_left words.entry) ≡ Some fields.items) }
 {
     let mut fields = Vec::new(alloc);
     while let Some(word) = words.next() {
-        let Some(word) = FieldWord::parse(word) else {
-            return Err(LayoutError::Refused);
-        };
-        let field = Field::new(alloc, word).map_err(|_| LayoutError::Memory)?;
-        fields.push(field).map_err(|_| LayoutError::Memory)?;
+        let word = FieldWord::parse(word).unwrap();
+        fields.push(Field::new(alloc, word)?)?;
     }
     Ok(fields)
 }

@@ -5,10 +5,10 @@ mod field;
 mod field_word;
 pub mod image;
 mod layout;
+mod line_words;
 mod numerals;
-mod words;
 
 pub use field::Field;
-pub use layout::{Layout, LayoutError, MAX_BITS, Rule};
+pub use layout::{Layout, LayoutError, MAX_BITS, MAX_ROW_BITS, Rule};
+pub use line_words::{Words, is_separator};
 pub use numerals::{is_number, number_up_to};
-pub use words::{Words, is_separator};

@@ -1,5 +1,5 @@
 //! Numbers that words spell in decimal.
-ghost use Rattle.std.specs.Prelude.{◌≡◌, ◌≤◌, ◌^◌, min, IsTrue};
+ghost use Rattle.std.specs.Prelude.{◌≡◌, min, IsTrue};
 ghost use Rattle.bit_table_layout.specs.Numerals.{is_number, number_of};
 
 /// Whether a word is one or more decimal digits.
@@ -11,13 +11,13 @@ pub fn is_number(word: &[u8]) -> bool
 
 /// The number that decimal digits spell, however many they are, or `most` where it is greater.
 pub fn number_up_to(word: &[u8], most: u128) -> u128
-    requires number { IsTrue (is_number word.now) }
-    requires room { most ≤ 2 ^ 100 }
+    requires { IsTrue (is_number word.now) }
     ensures { result ≡ min (number_of word.now) most }
 {
-    let mut number = 0;
+    let mut number = 0u128;
     for byte in word {
-        number = most.min(number * 10 + u128::from(*byte - b'0'));
+        let digit = u128::from(*byte - b'0');
+        number = most.min(number.saturating_mul(10).saturating_add(digit));
     }
     number
 }

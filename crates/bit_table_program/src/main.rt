@@ -7,7 +7,7 @@ use bit_table::{Input, Output, RunError, run};
 use std::io::Write;
 use std::process::ExitCode;
 
-/// Runs the script, flushes the answers, and ends with status 0, or with 1 and a line on standard error after a fault.
+// Runs the script, flushes the answers, and ends with status 0, or with 1 and a line on standard error after a fault.
 fn main(rt: HostRuntime) -> ExitCode {
     let mut input = Input::new(rt.stdin());
     let mut output = Output::new(rt.stdout());
@@ -22,7 +22,7 @@ fn main(rt: HostRuntime) -> ExitCode {
     }
 }
 
-/// What is told of a run: its fault, or a write fault where it had none and the answers could not be flushed.
+// What is told of a run: its fault, or a write fault where it had none and the answers could not be flushed.
 fn told(outcome: Result<(), RunError>, flushed: bool) -> Result<(), RunError>
     ensures fault { OnErr outcome (result ≡ outcome) }
     ensures flushed { flushed ≡ true → result ≡ outcome }

@@ -1,13 +1,11 @@
 //! The numbers at the edges of a field's range.
-ghost use Rattle.std.specs.Prelude.{◌≡◌, ◌&&◌, not, IsTrue};
-ghost use Rattle.bit_table_layout.specs.Fields.{takes};
-ghost use Rattle.bit_table_layout.specs.Layouts.{is_field};
+ghost use Rattle.std.specs.Prelude.{◌≡◌, ◌&&◌, not};
+ghost use Rattle.bit_table.specs.Fields.{takes};
 
 use bit_table::Field;
 
 /// Whether a field takes a number at an edge of its range, and not the one past it.
 pub fn ends_at(field: &Field, last: i128, past: i128) -> bool
-    requires { IsTrue (is_field field.now) }
     ensures { result ≡ (takes field.now last && not (takes field.now past)) }
 {
     let is_last = field.takes(last);

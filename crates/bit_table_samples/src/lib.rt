@@ -6,8 +6,10 @@ mod edges;
 mod machines;
 mod memory;
 mod streams;
+mod whole_script;
 
 pub use edges::ends_at;
 pub use machines::{Echo, echoed};
 pub use memory::answer_to;
 pub use streams::{Cut, Narrow, Stop};
+pub use whole_script::answer_whole;

@@ -2,7 +2,7 @@
 ghost use Rattle.std.specs.Prelude.{◌≡◌, ◌<◌, ◌∷◌, ◌++◌, [], IfOk, refl};
 ghost use Rattle.std.specs.List.{flat_map};
 ghost use Rattle.std.proofs.lemmas.List.Concat.{flat_map-append};
-ghost use Rattle.bit_table_script.specs.Lines.{IsBeginning, lines};
+ghost use Rattle.bit_table.specs.Lines.{IsBeginning, lines};
 
 use crate::streams::Cut;
 use bit_table::{Input, LineMachine, Output, RunError, drive};

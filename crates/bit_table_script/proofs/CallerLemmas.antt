@@ -1,6 +1,6 @@
--- What cutting off leaves of a command: it changes neither what a field takes nor what is out of range.
+-- What callers know of a command that is cut off, and of a run to the end.
 use Rattle.std.proofs.Common.{◌≡◌, ℕ, ◌-◌, ◌^◌, ◌<◌, ◌≤◌, ◌==◌, ◌&&◌, nat_lt, Bool, true, false, cond, ℤ, pos}
-use Rattle.std.proofs.Common.{neg_ℤ, List, [], ◌∷◌, length, map, codes, None, Some}
+use Rattle.std.proofs.Common.{neg_ℤ, List, [], ◌∷◌, length, map, codes, Option, None, Some, IfSome}
 use Rattle.std.proofs.Common.{option_and_then, refl, sym, ap, ◌∙◌, arith}
 use Rattle.std.specs.Prelude.{int_lt, int_le, ◌<ℤ◌, ◌≤ℤ◌}
 use Rattle.std.specs.Int.{int_min, int_max}
@@ -12,14 +12,21 @@ use Rattle.std.proofs.Math.Nat.{pow-le-pow_right}
 use Rattle.std.proofs.lemmas.List.{length-map}
 use Rattle.std.proofs.lemmas.Option.{cond_some, option_and_then_some}
 use Rattle.std.specs.Str.{bytes_eq}
-use Rattle.bit_table_layout.specs.Words.{words}
+use Rattle.std.specs.Io.KnownBytes.{Appends}
+use Rattle.std.proofs.KnownBytes.{Consumes-whole}
+use Rattle.bit_table_layout.specs.LineWords.{words}
 use Rattle.bit_table_layout.specs.Numerals.{number_in}
 use Rattle.bit_table_layout.specs.Fields.{FieldShape, takes, least, limit}
-use Rattle.bit_table_layout.specs.Layouts.{LayoutShape, is_field}
+use Rattle.bit_table_layout.specs.Layouts.{LayoutShape}
+use Rattle.bit_table_layout.specs.Fields.{is_field}
 use Rattle.bit_table_layout.specs.Rows.{take_all}
 use Rattle.bit_table_script.specs.declared.command.Command.TheVariants.{Insert}
 use Rattle.bit_table_script.specs.Commands.{whole_numbers_in, insert_from, insert_in, image_in}
+use Rattle.bit_table_script.specs.Lines.{lines}
+use Rattle.bit_table_script.specs.Runs.{RanToEnd}
 use Rattle.bit_table_script.specs.Commands.{command_in, command_of, cut_value, cut_place}
+
+-- ---- commands that are cut off: neither what a field takes nor what is out of range changes
 
 -- v, or m where it is greater, or - m where it is less
 abbrev cut_at : ℕ → ℤ → ℤ
@@ -169,3 +176,11 @@ pub command_of-insert_length : (l : LayoutShape) (line : List ℕ) (p : ℕ) (vs
     → length vs ≡ length l.fields
 unfolding command_of
 command_of-insert_length l line p vs e = command_in-insert_length l (words line) p vs e
+
+-- ---- what was written
+
+-- where the reader tells its bytes, a run to the end wrote the answers to all their lines
+pub answered-to_end : (answers : List (List ℕ) → List ℕ) (given left old new : Option (List ℕ))
+    → RanToEnd answers given left old new → IfSome given (λ text. Appends old new (answers (lines text)))
+answered-to_end answers given left old new h =
+    Consumes-whole given left h.text (λ text. Appends old new (answers (lines text))) h.consumed h.ended h.answered

@@ -2,10 +2,11 @@
 use Rattle.std.proofs.Common.{◌≡◌, ℕ, ◌+◌, ◌<◌, ◌≤◌, List, [], ◌∷◌, ◌++◌, length, Option, None, Some, ap, ◌∙◌}
 use Rattle.std.proofs.Common.{append-nil, length-append, subst, arith, IfSome, inl, inr}
 use Rattle.std.specs.Io.KnownBytes.{Appends, Keeps, Consumes, IsAtEnd}
-use Rattle.std.proofs.KnownBytes.{Consumes-nil, Consumes-trans, Consumes-kept, Consumes-whole}
-use Rattle.bit_table_script.specs.Lines.{IsBeginning, lines, whole_lines}
+use Rattle.std.proofs.KnownBytes.{Consumes-nil, Consumes-trans, Consumes-kept}
+use Rattle.bit_table_script.specs.Lines.{IsBeginning, whole_lines}
 use Rattle.bit_table_script.specs.Streams.{AppendsPart}
-use Rattle.bit_table_script.specs.Runs.{AppendsFirstLines, StoppedByRead, StoppedByWrite, StoppedByMemory}
+use Rattle.bit_table_script.specs.Runs.{AppendsFirstLines, RanToEnd, StoppedByRead, StoppedByWrite}
+use Rattle.bit_table_script.specs.Runs.{StoppedByMemory}
 use Rattle.bit_table_script.specs.Going.{Going}
 use Rattle.bit_table_script.proofs.GoingLemmas.{going_start, going_last, cut_at_last, stopped}
 
@@ -45,11 +46,13 @@ consumed_none given left rest text none h c e =
 
 pub reached_end : (answers next : Answers) (given left rest start now new : Option (List ℕ)) (none line : List ℕ)
     → Reached answers next given left start now line → Consumes left rest none → none ≡ [] → IsAtEnd rest
-    → Appends now new (next (line ∷ [])) → IfSome given (λ text. Appends start new (answers (lines text)))
-reached_end answers next given left rest start now new none line h c e z a =
-    Consumes-whole given rest h.text (λ text. Appends start new (answers (lines text)))
-    (consumed_none given left rest h.text none h.consumed c e) z
-    (going_last answers next start now new h.text line h.going a)
+    → Appends now new (next (line ∷ [])) → RanToEnd answers given rest start new
+reached_end answers next given left rest start now new none line h c e z a = record {
+  text = h.text;
+  consumed = consumed_none given left rest h.text none h.consumed c e;
+  ended = z;
+  answered = going_last answers next start now new h.text line h.going a;
+}
 
 pub reached_read : (answers next : Answers) (given left rest start now : Option (List ℕ)) (line : List ℕ)
     → Reached answers next given left start now line → Keeps left rest → StoppedByRead answers given rest start now

@@ -4,7 +4,7 @@ use Rattle.std.specs.Prelude.{◌∷◌, length, map, codes, Option, Some, None}
 use Rattle.std.specs.Prelude.{option_and_then, option_map, if◌then◌else◌}
 use Rattle.std.specs.Int.{int_min, int_max}
 use Rattle.std.specs.Str.{bytes_eq}
-use Rattle.bit_table_layout.specs.Words.{words}
+use Rattle.bit_table_layout.specs.LineWords.{words}
 use Rattle.bit_table_layout.specs.Numerals.{number_in, whole_number_in}
 use Rattle.bit_table_layout.specs.Layouts.{LayoutShape}
 use Rattle.bit_table_script.specs.declared.command.Command.{Command}

@@ -4,7 +4,7 @@ use Rattle.bit_table_layout.specs.Images.{image_line}
 use Rattle.bit_table_script.specs.declared.cause.Cause.{Cause}
 use Rattle.bit_table_script.specs.declared.reply.Reply.{Reply}
 use Rattle.bit_table_script.specs.declared.reply.Reply.TheVariants.{Done, Image}
-use Rattle.bit_table_script.specs.Causes.{cause_word}
+use Rattle.bit_table_script.specs.CauseWords.{cause_word}
 
 -- the answer line of a command that was carried out, with its line end
 abbrev pub reply_text : Reply → List ℕ

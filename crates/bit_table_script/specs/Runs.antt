@@ -12,6 +12,13 @@ pub record AppendsFirstLines (answers : List (List ℕ) → List ℕ) (old new :
   pub joined : text ≡ done ++ rest
   pub appended : Appends old new (answers (whole_lines done))
 
+-- the run came to a clean end: the answers to all lines of the text went out
+pub record RanToEnd (answers : List (List ℕ) → List ℕ) (given left old new : Option (List ℕ)) : Type 0 where
+  pub text : List ℕ
+  pub consumed : Consumes given left text
+  pub ended : IsAtEnd left
+  pub answered : Appends old new (answers (lines text))
+
 -- a read failed: exactly the answers to the lines that were read whole went out
 pub record StoppedByRead (answers : List (List ℕ) → List ℕ) (given left old new : Option (List ℕ)) : Type 0 where
   pub text : List ℕ

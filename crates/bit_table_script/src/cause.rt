@@ -1,6 +1,6 @@
 //! Why a line is refused, and what ends a call or a run early.
 ghost use Rattle.std.specs.Prelude.{◌≡◌};
-ghost use Rattle.bit_table_script.specs.Causes.{cause_word};
+ghost use Rattle.bit_table_script.specs.CauseWords.{cause_word};
 
 use std::fmt;
 use thiserror::Error;

@@ -1,86 +1,23 @@
 //! The commands of a script.
 ghost use Rattle.std.specs.Prelude.{◌≡◌, ◌↔◌, ◌⊎◌, None, Some, IfOk, IfErr, IsErrOf, IsSome, option_map};
 ghost use Rattle.bit_table_layout.specs.Numerals.{whole_number_in};
-ghost use Rattle.bit_table_layout.specs.WordsLeft.{words_left};
+ghost use Rattle.bit_table_layout.specs.LineWordsLeft.{words_left};
 ghost use Rattle.bit_table_script.specs.Commands.{command_of, cut_off, cut_value, image_in, whole_numbers_in};
 ghost use Rattle.bit_table_script.specs.CommandSteps.{insert_with, have_values, kept_values};
 
 use super::cause::{Cause, Fault};
+use super::items::Items;
 use bit_table_layout::{Layout, Words, is_number, number_up_to};
 use std::alloc::{AllocError, Global};
-use std::fmt;
-use std::marker::Model;
 
-/// The refusal of a line that spells no command.
+// The refusal of a line that spells no command.
 const FORM: Fault = Fault::Refused(Cause::Form);
 
-/// How far from 0 a value is kept.
+// How far from 0 a value is kept.
 const FARTHEST: u128 = 1 << 64;
 
 /// The values of a row, one a field, in order.
-#[derive(Drop)]
-pub struct Values {
-    values: Vec<i128>,
-}
-
-impl Model for Values {
-    ghost use Rattle.std.specs.Prelude.{List, ℤ};
-
-    ghost Value = { List ℤ };
-
-    ghost view = { λ v. v.values.items };
-}
-
-impl Values {
-    /// These values.
-    pub fn new(values: Vec<i128>) -> Values
-        ensures { result ≡ values.items }
-    {
-        Values { values }
-    }
-
-    /// The values as a slice.
-    pub fn as_slice(&self) -> &[i128]
-        ensures { result.now ≡ self.now }
-    {
-        self.values.as_slice()
-    }
-
-    /// The vector of the values.
-    pub fn into_vec(self) -> Vec<i128>
-        ensures { result.items ≡ self }
-    {
-        self.values
-    }
-}
-
-impl fmt::Debug for Values {
-    fn fmt<W: fmt::Write>(&self, f: &mut fmt::Formatter<W>) -> fmt::Result {
-        let values = &self.values;
-        write!(f, "{values:?}")
-    }
-}
-
-impl PartialEq for Values {
-    ghost use Rattle.std.specs.Ordering.{int_eq};
-    ghost use Rattle.std.specs.Cmp.{partial_equiv_from_equiv, int_eq_equiv};
-    ghost use Rattle.std.specs.Cmp.Lexicographic.{pointwise, lists_equiv};
-
-    ghost eq = { pointwise int_eq };
-
-    ghost laws = { partial_equiv_from_equiv (lists_equiv int_eq_equiv) };
-
-    fn eq(&self, other: &Self) -> bool {
-        self.as_slice() == other.as_slice()
-    }
-}
-
-impl Eq for Values {
-    ghost use Rattle.std.specs.Cmp.{int_eq_equiv};
-    ghost use Rattle.std.specs.Cmp.Lexicographic.{lists_equiv};
-
-    ghost laws = { lists_equiv int_eq_equiv };
-}
+pub type Values = Items<i128>;
 
 /// A command of a script. Its numbers are kept cut off: a row number past `u64` as `u64::MAX`, a value past `2^64` or
 /// `-2^64` as that, which changes neither what refuses a command nor what it does.
@@ -118,7 +55,7 @@ impl Command {
     }
 }
 
-/// Reads an insertion behind its first word: a row number and one value for each of so many fields.
+// Reads an insertion behind its first word: a row number and one value for each of so many fields.
 fn read_insert(alloc: Global, fields: usize, mut words: Words) -> Result<Command, Fault>
     ensures ok { IfOk result (λ command.
         option_map cut_off (insert_with fields (words_left words.entry)) ≡ Some command) }
@@ -139,7 +76,7 @@ fn read_insert(alloc: Global, fields: usize, mut words: Words) -> Result<Command
     })
 }
 
-/// Reads `image` behind its first word, where no word may follow.
+// Reads `image` behind its first word, where no word may follow.
 fn read_image(mut words: Words) -> Result<Command, Fault>
     ensures ok { IfOk result (λ command. image_in (words_left words.entry) ≡ Some command) }
     ensures refused { IsErrOf result (Fault.Refused Cause.Form) ↔ (image_in (words_left words.entry) ≡ None) }
@@ -151,7 +88,7 @@ fn read_image(mut words: Words) -> Result<Command, Fault>
     }
 }
 
-/// Whether so many words are left, each of which spells a whole number.
+// Whether so many words are left, each of which spells a whole number.
 fn are_values(count: usize, mut words: Words) -> bool
     ensures { result ≡ have_values count (words_left words.entry) }
 {
@@ -165,7 +102,7 @@ fn are_values(count: usize, mut words: Words) -> bool
     left == 0
 }
 
-/// The values that the words that are left spell.
+// The values that the words that are left spell.
 fn read_values(alloc: Global, mut words: Words) -> Result<Vec<i128>, Fault>
     requires { IsSome (whole_numbers_in (words_left words)) }
     ensures ok { IfOk result (λ values. kept_values (words_left words.entry) ≡ Some values.items) }
@@ -179,7 +116,7 @@ fn read_values(alloc: Global, mut words: Words) -> Result<Vec<i128>, Fault>
     Ok(values)
 }
 
-/// The whole number that a word spells, however long it is, cut off at `2^64` and `-2^64`.
+// The whole number that a word spells, however long it is, cut off at `2^64` and `-2^64`.
 fn whole_number(word: &[u8]) -> Option<i128>
     ensures { result ≡ option_map cut_value (whole_number_in word.now) }
 {

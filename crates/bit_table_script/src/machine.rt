@@ -1,11 +1,12 @@
 //! A run of lines through a machine that answers them.
 ghost use Rattle.std.specs.Prelude.{◌≡◌, ℕ, ◌-◌, ◌^◌, ◌<◌, ◌↔◌, List, [], ◌∷◌, ◌++◌, Option, false};
 ghost use Rattle.std.specs.Prelude.{IfOk, OnOk, IfSome, IsErrOf, IsTrue, length};
-ghost use Rattle.std.specs.Io.KnownBytes.{Appends, IsAtEnd, Keeps};
+ghost use Rattle.std.specs.Io.KnownBytes.{Appends, Keeps};
 ghost use Rattle.bit_table_script.specs.Ends.{input_reader, input_failed, output_writer, output_failed};
-ghost use Rattle.bit_table_script.specs.Lines.{IsBeginning, lines, whole_lines};
+ghost use Rattle.bit_table_script.specs.Lines.{IsBeginning, whole_lines};
 ghost use Rattle.bit_table_script.specs.Streams.{AppendsPart};
-ghost use Rattle.bit_table_script.specs.Runs.{AppendsFirstLines, StoppedByRead, StoppedByWrite, StoppedByMemory};
+ghost use Rattle.bit_table_script.specs.Runs.{AppendsFirstLines, RanToEnd, StoppedByRead, StoppedByWrite};
+ghost use Rattle.bit_table_script.specs.Runs.{StoppedByMemory};
 ghost use Rattle.bit_table_script.specs.Going.{Going};
 
 use super::cause::RunError;
@@ -13,7 +14,7 @@ use super::streams::{Input, Output};
 use std::alloc::{AllocError, Global};
 use std::io::{Read, Write};
 
-/// How many bytes are asked for at a time.
+// How many bytes are asked for at a time.
 const PIECE: usize = 4096;
 
 /// What answers lines, one after another.
@@ -34,8 +35,8 @@ pub trait LineMachine {
         IsBeginning (answers m front) (answers m (front ++ back)) };
 }
 
-/// Carries a line out and writes its answer.
-fn carry_out<M: LineMachine, W: Write>(
+// Carries a line out and writes its answer.
+fn write_answer<M: LineMachine, W: Write>(
     machine: &mut M,
     line: &[u8],
     output: &mut Output<W>,
@@ -57,7 +58,7 @@ fn carry_out<M: LineMachine, W: Write>(
     output.put(text.as_slice())
 }
 
-/// Carries out the lines that end in a piece of the text, and begins the next one.
+// Carries out the lines that end in a piece of the text, and begins the next one.
 fn feed<M: LineMachine, W: Write>(
     machine: &mut M,
     line: &mut Vec<u8>,
@@ -83,7 +84,7 @@ fn feed<M: LineMachine, W: Write>(
 {
     for byte in piece {
         if *byte == b'\n' {
-            carry_out(machine, line.as_slice(), output)?;
+            write_answer(machine, line.as_slice(), output)?;
             line.clear();
         } else {
             line.push(*byte).map_err(|_| RunError::Memory)?;
@@ -105,11 +106,10 @@ pub fn drive<M: LineMachine, R: Read, W: Write>(
     requires readable { input_failed input.old ≡ false }
     requires writable { output_failed output.old ≡ false }
 
-    // The answers to all lines that the reader gives, however it cuts them, went out.
-    ensures done { OnOk result (IfSome (R.remaining (input_reader input.old)) (λ text.
-        Appends (W.contents (output_writer output.old)) (W.contents (output_writer output.new))
-        (M.answers machine.old (lines text)))) }
-    ensures ended { OnOk result (IsAtEnd (R.remaining (input_reader input.new))) }
+    // The answers to all lines that the reader gave, however it cut them, went out.
+    ensures done { OnOk result (RanToEnd (M.answers machine.old)
+        (R.remaining (input_reader input.old)) (R.remaining (input_reader input.new))
+        (W.contents (output_writer output.old)) (W.contents (output_writer output.new))) }
 
     // What went out before a fault.
     ensures read { IsErrOf result RunError.Read → StoppedByRead (M.answers machine.old)
@@ -122,7 +122,8 @@ pub fn drive<M: LineMachine, R: Read, W: Write>(
         (R.remaining (input_reader input.old)) (R.remaining (input_reader input.new))
         (W.contents (output_writer output.old)) (W.contents (output_writer output.new)) }
 
-    // A fault of the reader is always told, and nothing else is told as one, unless 2^64 - 1 reads find no end.
+    // A fault of the reader is always told. Where the reader tells its bytes and has fewer than 2^64 - 1 left, nothing
+    // else is told as one.
     ensures read_told { IsTrue (input_failed input.new) → IsErrOf result RunError.Read }
     ensures read_failed { IfSome (R.remaining (input_reader input.old)) (λ text. length text < 2 ^ 64 - 1 →
         IsErrOf result RunError.Read → IsTrue (input_failed input.new)) }
@@ -133,7 +134,7 @@ pub fn drive<M: LineMachine, R: Read, W: Write>(
     'reads: for _ in 0..u64::MAX {
         let count = input.read(&mut piece)?;
         if count == 0 {
-            return carry_out(machine, line.as_slice(), output);
+            return write_answer(machine, line.as_slice(), output);
         }
         feed(machine, &mut line, &piece[..count], output)?;
     }

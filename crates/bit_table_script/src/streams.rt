@@ -46,7 +46,7 @@ impl<R> Input<R> {
 impl<R: Read> Input<R> {
     ghost use Rattle.bit_table_script.specs.Ends.{input_reader, input_failed};
 
-    /// Reads once into `piece`, and answers how many bytes came: none at the end.
+    // Reads once into `piece`, and answers how many bytes came: none at the end.
     pub(crate) fn read(&mut self, piece: &mut [u8]) -> Result<usize, RunError>
         ensures bound { ReadsAtMost result piece.new }
         ensures bytes { ReadConsumes (R.remaining (input_reader self.old)) (R.remaining (input_reader self.new))
@@ -104,7 +104,7 @@ impl<W> Output<W> {
 impl<W: Write> Output<W> {
     ghost use Rattle.bit_table_script.specs.Ends.{output_writer, output_failed};
 
-    /// Writes all the bytes, in as many calls as the writer wants.
+    // Writes all the bytes, in as many calls as the writer wants.
     pub(crate) fn put(&mut self, bytes: &[u8]) -> Result<(), RunError>
         ensures all { OnOk result (Appends (W.contents (output_writer self.old))
             (W.contents (output_writer self.new)) bytes.now) }

@@ -1,9 +1,13 @@
 //! Each public call that takes memory, once where there is some.
-use bit_table::{Cause, Command, Fault, Input, Layout, Output, Reply, Rule, Table, Values, run};
+use bit_table::{
+    Cause, Command, Fault, Input, Layout, Output, Reply, Rule, Table, Values,
+    cutting_off_changes_nothing, image, run,
+};
+use bit_table_samples::answer_whole;
 use std::alloc::{AllocError, Global};
 use std::test::Fail;
 
-/// An insertion of two values.
+// An insertion of two values.
 fn insertion(alloc: Global, place: u64, values: [i128; 2]) -> Result<Command, AllocError> {
     Ok(Command::Insert {
         place,
@@ -11,7 +15,7 @@ fn insertion(alloc: Global, place: u64, values: [i128; 2]) -> Result<Command, Al
     })
 }
 
-/// Whether a table is answered to have so many rows and these bytes.
+// Whether a table is answered to have so many rows and these bytes.
 fn has_image(table: &mut Table, count: usize, image: &[u8]) -> bool {
     match table.apply(&Command::Image) {
         Ok(Reply::Image { rows, bytes }) => rows == count && bytes.as_slice() == image,
@@ -19,7 +23,7 @@ fn has_image(table: &mut Table, count: usize, image: &[u8]) -> bool {
     }
 }
 
-/// Whether a table refuses a command for this cause.
+// Whether a table refuses a command for this cause.
 fn refuses(table: &mut Table, command: &Command, cause: Cause) -> bool {
     table.apply(command) == Err(Fault::Refused(cause))
 }
@@ -42,7 +46,7 @@ fn a_table_is_edited_and_told(rt: HostRuntime) -> Result<(), Fail> {
     Ok(())
 }
 
-/// A table with the one row 5 and -1.
+// A table with the one row 5 and -1.
 fn one_row(alloc: Global) -> Result<Table, Fail> {
     let layout = Layout::parse(alloc, b"low a:u3 b:i4")?;
     let mut table = Table::new(alloc, layout);
@@ -88,4 +92,20 @@ fn a_script_runs(rt: HostRuntime) -> Result<(), Fail> {
     assert!(rt; input.into_inner().is_empty());
     assert!(rt; output.into_inner().as_slice() == b"ok\nok\n1 8d\n".as_slice());
     Ok(())
+}
+
+#[test]
+fn a_script_is_answered_whole(rt: HostRuntime) -> Result<(), Fail> {
+    let mut input = Input::new(b"low f:u1\ninsert 0 1\nimage".as_slice());
+    let mut output = Output::new(Vec::new(rt.alloc()));
+    answer_whole(rt.alloc(), &mut input, &mut output)?;
+    assert!(rt; output.into_inner().as_slice() == b"ok\nok\n1 01\n".as_slice());
+    Ok(())
+}
+
+// The laws are calls that do nothing.
+#[test]
+fn laws_return() {
+    image::images_tell_numbers();
+    cutting_off_changes_nothing();
 }

@@ -1,6 +1,5 @@
 //! Commands as lines spell them.
-use bit_table::{Cause, Command, Fault, Values};
-use bit_table_layout::Layout;
+use bit_table::{Cause, Command, Fault, Layout, Values};
 use std::alloc::{AllocError, Global};
 use std::test::Fail;
 
@@ -8,7 +7,7 @@ const LAYOUT: &[u8; 13] = b"low a:u3 b:i4";
 
 const FAR: i128 = 1 << 64;
 
-/// An insertion of two values.
+// An insertion of two values.
 fn insertion(alloc: Global, place: u64, values: [i128; 2]) -> Result<Command, AllocError> {
     Ok(Command::Insert {
         place,
@@ -42,7 +41,7 @@ fn reads_commands(rt: HostRuntime) -> Result<(), Fail> {
     Ok(())
 }
 
-/// An insertion whose three numbers have 10,000 times the digit `fill` and then the digit `last`.
+// An insertion whose three numbers have 10,000 times the digit `fill` and then the digit `last`.
 fn long_line(alloc: Global, fill: u8, last: u8) -> Result<Vec<u8>, AllocError> {
     let mut line = Vec::from_slice(alloc, b"insert")?;
     for before in [b" ".as_slice(), b" ".as_slice(), b" -".as_slice()] {

@@ -1,6 +1,3 @@
-ghost use Rattle.std.specs.Prelude.{IsTrue};
-ghost use Rattle.bit_table_layout.specs.Layouts.{is_field};
-
 use bit_table::{Field, Layout, LayoutError, Rule};
 use bit_table_samples::ends_at;
 use std::test::Fail;
@@ -81,10 +78,8 @@ fn takes_the_widest_rows(rt: HostRuntime) -> Result<(), Fail> {
     Ok(())
 }
 
-/// Whether a field takes the two numbers in the middle, and neither of the two outside.
-fn takes_the_middle(field: &Field, edges: [i128; 4]) -> bool
-    requires { IsTrue (is_field field.now) }
-{
+// Whether a field takes the two numbers in the middle, and neither of the two outside.
+fn takes_the_middle(field: &Field, edges: [i128; 4]) -> bool {
     let [below, least, greatest, past] = edges;
     ends_at(field, least, below) && ends_at(field, greatest, past)
 }

@@ -10,7 +10,7 @@ const SCRIPT: &[u8; 12] = b"a\n\r\nbc\n\nlast";
 
 const ANSWER: &[u8; 13] = b"a\n\r\nbc\n\nlast\n";
 
-/// A machine that answers every line.
+// A machine that answers every line.
 fn echo(alloc: Global) -> Echo {
     Echo {
         alloc,
@@ -57,7 +57,7 @@ fn answers_lines_longer_than_a_piece(rt: HostRuntime) -> Result<(), Fail> {
     Ok(())
 }
 
-/// How many bytes of the answer are due once so many bytes of the script were read.
+// How many bytes of the answer are due once so many bytes of the script were read.
 fn due(read: usize) -> usize
     ensures { result ≤ 8 }
 {

@@ -1,7 +1,7 @@
 //! A plain slow program that answers a script: its rows are a list, edited line by line. It uses nothing of the crate.
 use std::alloc::{AllocError, Global};
 
-/// A field: its name, how many bits its numbers have, and whether they have a sign.
+// A field: its name, how many bits its numbers have, and whether they have a sign.
 #[derive(Drop)]
 struct PlainField {
     name: Vec<u8>,
@@ -9,7 +9,7 @@ struct PlainField {
     signed: bool,
 }
 
-/// How far a script has come: no fields yet, or some and a list of rows; and what was answered.
+// How far a script has come: no fields yet, or some and a list of rows; and what was answered.
 #[derive(Drop)]
 struct Plain {
     alloc: Global,
@@ -27,14 +27,14 @@ pub fn plain_answer(alloc: Global, script: &[u8]) -> Result<Vec<u8>, AllocError>
         text: Vec::new(alloc),
     };
     for line in script.split(|byte| *byte == b'\n') {
-        plain.carry_out(line)?;
+        plain.answer_line(line)?;
     }
     Ok(plain.text)
 }
 
 impl Plain {
-    /// Carries a line out and adds its answer.
-    fn carry_out(&mut self, line: &[u8]) -> Result<(), AllocError> {
+    // Carries a line out and adds its answer.
+    fn answer_line(&mut self, line: &[u8]) -> Result<(), AllocError> {
         let mut words = Vec::new(self.alloc);
         for part in line.split(|byte| b" \t\r".contains(byte)) {
             if !part.is_empty() {
@@ -56,12 +56,12 @@ impl Plain {
         self.say("refused form\n")
     }
 
-    /// Adds an answer.
+    // Adds an answer.
     fn say(&mut self, answer: &str) -> Result<(), AllocError> {
         self.text.extend_from_slice(answer.as_bytes())
     }
 
-    /// Takes the fields of a layout line.
+    // Takes the fields of a layout line.
     fn begin(&mut self, rule: &[u8], words: &[&[u8]]) -> Result<(), AllocError> {
         let mut fields = Vec::new(self.alloc);
         let mut row_bits = 0u128;
@@ -82,7 +82,7 @@ impl Plain {
         self.say("ok\n")
     }
 
-    /// Inserts the row of these words: a place, and a number for each field.
+    // Inserts the row of these words: a place, and a number for each field.
     fn insert(&mut self, words: &[&[u8]]) -> Result<(), AllocError> {
         let Some((place, numbers)) = words.split_first() else {
             return self.say("refused form\n");
@@ -115,7 +115,7 @@ impl Plain {
         self.say("ok\n")
     }
 
-    /// Answers the image of the rows.
+    // Answers the image of the rows.
     fn image(&mut self) -> Result<(), AllocError> {
         let count = self.rows.len();
         let line = format!(in self.alloc; "{count}")?;
@@ -135,7 +135,7 @@ impl Plain {
         self.say("\n")
     }
 
-    /// The digits of all numbers, the lowest of each first.
+    // The digits of all numbers, the lowest of each first.
     fn bits(&self) -> Result<Vec<bool>, AllocError> {
         let mut bits = Vec::new(self.alloc);
         for row in &self.rows {
@@ -149,7 +149,7 @@ impl Plain {
     }
 }
 
-/// The digit of a number below 16.
+// The digit of a number below 16.
 fn hexadecimal(number: u8) -> u8 {
     b"0123456789abcdef"
         .get(usize::from(number))
@@ -157,7 +157,7 @@ fn hexadecimal(number: u8) -> u8 {
         .unwrap_or(b'?')
 }
 
-/// A number halved so many times, and rounded down each time.
+// A number halved so many times, and rounded down each time.
 fn halved(number: i128, times: u32) -> i128 {
     let mut rest = number;
     for _ in 0..times {
@@ -166,7 +166,7 @@ fn halved(number: i128, times: u32) -> i128 {
     rest
 }
 
-/// Whether a field has digits enough for a number: without them nothing is left of it but a sign, where it has one.
+// Whether a field has digits enough for a number: without them nothing is left of it but a sign, where it has one.
 fn is_in_range(field: &PlainField, number: i128) -> bool {
     if field.signed {
         let rest = halved(number, field.bits.saturating_sub(1));
@@ -176,7 +176,7 @@ fn is_in_range(field: &PlainField, number: i128) -> bool {
     }
 }
 
-/// Whether one of the fields has the name.
+// Whether one of the fields has the name.
 fn has_name(fields: &Vec<PlainField>, name: &[u8]) -> bool {
     for field in fields {
         if field.name.as_slice() == name {
@@ -186,7 +186,7 @@ fn has_name(fields: &Vec<PlainField>, name: &[u8]) -> bool {
     false
 }
 
-/// The field that a word spells, if it spells one.
+// The field that a word spells, if it spells one.
 fn field_of(alloc: Global, word: &[u8]) -> Result<Option<PlainField>, AllocError> {
     let mut parts = word.split(|byte| *byte == b':');
     let (Some(name), Some(kind), None) = (parts.next(), parts.next(), parts.next()) else {
@@ -211,7 +211,7 @@ fn field_of(alloc: Global, word: &[u8]) -> Result<Option<PlainField>, AllocError
     }
 }
 
-/// Whether a word is a name.
+// Whether a word is a name.
 fn is_name(word: &[u8]) -> bool {
     let Some(first) = word.first() else {
         return false;
@@ -223,7 +223,7 @@ fn is_name(word: &[u8]) -> bool {
             || *byte == b'_')
 }
 
-/// The number that digits spell, if they are digits. Thirty digits at most keep it exact.
+// The number that digits spell, if they are digits. Thirty digits at most keep it exact.
 fn digits_of(word: &[u8]) -> Option<i128> {
     if word.is_empty() {
         return None;
@@ -239,7 +239,7 @@ fn digits_of(word: &[u8]) -> Option<i128> {
     Some(number)
 }
 
-/// The whole number that digits spell, or a minus and digits.
+// The whole number that digits spell, or a minus and digits.
 fn number_of(word: &[u8]) -> Option<i128> {
     match word.strip_prefix(b"-") {
         Some(digits) => digits_of(digits).map(|number| number.wrapping_neg()),

@@ -4,16 +4,16 @@ use bit_table_samples::answer_to;
 use std::alloc::{AllocError, Global};
 use std::test::Fail;
 
-/// A script and its answer.
+// A script and its answer.
 type Row = (&'static [u8], &'static [u8]);
 
-/// What a line of a script has before and behind 10,000 times one digit, and the answer to the script.
+// What a line of a script has before and behind 10,000 times one digit, and the answer to the script.
 type LongRow = (&'static [u8], u8, &'static [u8], &'static [u8]);
 
-/// Two rows, 5 and -1, then 2 and 3, of fields of 3 and 4 bits.
+// Two rows, 5 and -1, then 2 and 3, of fields of 3 and 4 bits.
 const TWO_ROWS: &[u8; 41] = b"low a:u3 b:i4\ninsert 0 5 -1\ninsert 1 2 3\n";
 
-/// Scripts with their answers.
+// Scripts with their answers.
 const ROWS: [Row; 11] = [
     // 5 and 17 are 101 and 10001, and the first bit is the lowest
     (b"low a:u3 b:u5\ninsert 0 5 17\nimage\n", b"ok\nok\n1 8d\n"),
@@ -72,7 +72,7 @@ fn answers_worked_scripts(rt: HostRuntime) -> Result<(), Fail> {
     Ok(())
 }
 
-/// Lines that are refused behind the two rows, with their answers.
+// Lines that are refused behind the two rows, with their answers.
 const REFUSALS: [Row; 4] = [
     (b"insert 3 8 0\n", b"refused row\n"),
     (b"insert 0 8 0\n", b"refused value\n"),
@@ -97,7 +97,7 @@ fn a_refused_line_changes_nothing(rt: HostRuntime) -> Result<(), Fail> {
     Ok(())
 }
 
-/// The two rows, and then a line with 10,000 times the digit `fill` between what stands before and behind.
+// The two rows, and then a line with 10,000 times the digit `fill` between what stands before and behind.
 fn long_script(
     alloc: Global,
     before: &[u8],
@@ -113,8 +113,8 @@ fn long_script(
     Ok(script)
 }
 
-/// Lines behind the two rows with a value or a place of 10,000 digits and more. The new row is 1 and 1 and goes before
-/// the second: 101 1111, 100 1000, 010 1100.
+// Lines behind the two rows with a value or a place of 10,000 digits and more. The new row is 1 and 1 and goes before
+// the second: 101 1111, 100 1000, 010 1100.
 const LONG_ROWS: [LongRow; 5] = [
     (
         b"insert 0 ",

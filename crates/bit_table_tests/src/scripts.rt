@@ -6,14 +6,14 @@ use bit_table_samples::answer_to;
 use std::alloc::{AllocError, Global};
 use std::test::Fail;
 
-/// A field of a script: its width and whether its numbers have a sign.
+// A field of a script: its width and whether its numbers have a sign.
 #[derive(Clone, Copy)]
 struct Kind {
     bits: u32,
     signed: bool,
 }
 
-/// Throws a script together, always the same for the same seed.
+// Throws a script together, always the same for the same seed.
 #[derive(Drop)]
 struct Thrower {
     seed: u64,
@@ -21,10 +21,10 @@ struct Thrower {
     script: Vec<u8>,
 }
 
-/// Widths within a byte, at its end and past it, and the widest.
+// Widths within a byte, at its end and past it, and the widest.
 const WIDTHS: [u32; 10] = [1, 2, 3, 5, 7, 8, 9, 33, 63, 64];
 
-/// Lines that are no command, and blank ones.
+// Lines that are no command, and blank ones.
 const OTHER_LINES: [&[u8]; 14] = [
     b"",
     b" \t \r",
@@ -42,7 +42,7 @@ const OTHER_LINES: [&[u8]; 14] = [
     b"\xfe\x00",
 ];
 
-/// Lines that are no layout, and blank ones.
+// Lines that are no layout, and blank ones.
 const NO_LAYOUTS: [&[u8]; 12] = [
     b"",
     b"\r",
@@ -59,7 +59,7 @@ const NO_LAYOUTS: [&[u8]; 12] = [
 ];
 
 impl Thrower {
-    /// A number below `sides`.
+    // A number below `sides`.
     fn roll(&mut self, sides: usize) -> usize
         requires { 0 < sides }
         ensures { result < sides }
@@ -71,18 +71,18 @@ impl Thrower {
         (self.seed >> 33) as usize % sides
     }
 
-    /// Adds bytes to the script.
+    // Adds bytes to the script.
     fn write(&mut self, bytes: &[u8]) -> Result<(), AllocError> {
         self.script.extend_from_slice(bytes)
     }
 
-    /// Adds a number to the script.
+    // Adds a number to the script.
     fn write_number(&mut self, alloc: Global, number: i128) -> Result<(), AllocError> {
         let text = format!(in alloc; "{number}")?;
         self.write(text.as_bytes())
     }
 
-    /// Adds what separates words.
+    // Adds what separates words.
     fn write_gap(&mut self) -> Result<(), AllocError> {
         match self.roll(8) {
             0 => self.write(b"\t"),
@@ -91,7 +91,7 @@ impl Thrower {
         }
     }
 
-    /// Adds a layout line of one to four fields, behind some lines that are none.
+    // Adds a layout line of one to four fields, behind some lines that are none.
     fn write_layout(&mut self, alloc: Global) -> Result<(), AllocError> {
         for _ in 0..self.roll(4) {
             let line = NO_LAYOUTS[self.roll(12)];
@@ -111,7 +111,7 @@ impl Thrower {
         self.write(b"\n")
     }
 
-    /// A number at the bounds of a field, within them or past them.
+    // A number at the bounds of a field, within them or past them.
     fn number(&mut self, kind: Kind) -> i128 {
         let half = doubled(1, kind.bits.saturating_sub(1));
         let least = if kind.signed { half.wrapping_neg() } else { 0 };
@@ -131,7 +131,7 @@ impl Thrower {
         }
     }
 
-    /// Adds an insertion.
+    // Adds an insertion.
     fn write_insertion(&mut self, alloc: Global) -> Result<(), AllocError> {
         self.write(b"insert")?;
         self.write_gap()?;
@@ -153,7 +153,7 @@ impl Thrower {
         self.write(b"\n")
     }
 
-    /// Adds a line.
+    // Adds a line.
     fn write_line(&mut self, alloc: Global) -> Result<(), AllocError> {
         match self.roll(12) {
             0 => {
@@ -167,7 +167,7 @@ impl Thrower {
     }
 }
 
-/// A number doubled so many times.
+// A number doubled so many times.
 fn doubled(number: i128, times: u32) -> i128 {
     let mut power = number;
     for _ in 0..times {
@@ -176,7 +176,7 @@ fn doubled(number: i128, times: u32) -> i128 {
     power
 }
 
-/// A script of a layout line, some forty lines, and the image at its end.
+// A script of a layout line, some forty lines, and the image at its end.
 fn thrown(alloc: Global, seed: u64) -> Result<Vec<u8>, AllocError> {
     let mut thrower = Thrower {
         seed,

@@ -5,12 +5,12 @@ use bit_table::{Input, Output, RunError, run};
 use bit_table_samples::{Cut, Narrow, Stop};
 use std::test::Fail;
 
-/// Two rows and their image. The last line has no line end.
+// Two rows and their image. The last line has no line end.
 const SCRIPT: &[u8; 46] = b"low a:u3 b:i4\ninsert 0 5 -1\ninsert 1 2 3\nimage";
 
 const ANSWER: &[u8; 16] = b"ok\nok\nok\n2 7d0d\n";
 
-/// How many bytes are read at a time.
+// How many bytes are read at a time.
 const PIECES: [usize; 4] = [1, 3, 13, 4096];
 
 #[test]
@@ -38,7 +38,7 @@ fn answers_however_it_is_cut(rt: HostRuntime) -> Result<(), Fail> {
     Ok(())
 }
 
-/// How many bytes of the answer are due once so many bytes of the script were read.
+// How many bytes of the answer are due once so many bytes of the script were read.
 fn due(read: usize) -> usize
     ensures { result ≤ 9 }
 {

@@ -1,7 +1,7 @@
 use Rattle.std.proofs.Common.{◌≡◌, ◌++◌}
 use Rattle.std.specs.Option.{option_map}
 use Rattle.bit_table_layout.specs.Layouts.{fields_of}
-use Rattle.bit_table_layout.specs.WordsLeft.{words_left}
+use Rattle.bit_table_layout.specs.LineWordsLeft.{words_left}
 use Rattle.bit_table_layout.proofs.layout.fields_of.Given as goal
 
 abbrev pub invariant-loop-word : goal.invariant-loop-word

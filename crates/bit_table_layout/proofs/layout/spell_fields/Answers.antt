@@ -1,5 +1,5 @@
 use Rattle.std.proofs.Common.{arith, ◌≡◌, ◌+◌, Some, sym, ap, ◌∙◌}
-use Rattle.bit_table_layout.specs.WordsLeft.{words_left}
+use Rattle.bit_table_layout.specs.LineWordsLeft.{words_left}
 use Rattle.bit_table_layout.specs.Fields.{field_of}
 use Rattle.bit_table_layout.specs.Steps.{words_fit}
 use Rattle.bit_table_layout.proofs.LayoutLemmas.{words_fit-more, words_fit-twice, words_fit-wide}
@@ -37,7 +37,7 @@ loop-word-preserved c =
     let more =
     words_fit-more c.loop-word.width left rest word c.name.result.now f c.in-Some.ensures.steps spelled c.name.ensures
     (sym c.if-names_word.ensures) in
-    let width = ap (λ w. words_fit (c.loop-word.width + w) rest) c.width-width.ensures in
+    let width = ap (λ w. words_fit (c.loop-word.width + w) rest) c.width.ensures in
     record {
       can_go_on = tt;
       ends = tt;

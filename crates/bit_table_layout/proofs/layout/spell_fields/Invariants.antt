@@ -1,5 +1,6 @@
 use Rattle.std.proofs.Common.{◌≡◌, ◌≤◌}
-use Rattle.bit_table_layout.specs.WordsLeft.{words_left}
+use Rattle.bit_table_layout.specs.declared.layout.TheConstants.{MAX_ROW_BITS}
+use Rattle.bit_table_layout.specs.LineWordsLeft.{words_left}
 use Rattle.bit_table_layout.specs.Steps.{words_fit}
 use Rattle.bit_table_layout.proofs.layout.spell_fields.Given as goal
 
@@ -8,6 +9,6 @@ invariant-loop-word l =
     record {
       can_go_on : (goal.iterator-loop-word).can_next l.words;
       ends : (goal.iterator-loop-word).is_finite l.words;
-      few_bits : l.width ≤ 256;
+      few_bits : l.width ≤ MAX_ROW_BITS;
       same_answer : words_fit l.width (words_left l.words) ≡ words_fit 0 (words_left l.fn.words);
     }

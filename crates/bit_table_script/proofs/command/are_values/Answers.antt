@@ -1,5 +1,5 @@
 use Rattle.std.proofs.Common.{◌∙◌, not, ap}
-use Rattle.bit_table_layout.specs.WordsLeft.{words_left}
+use Rattle.bit_table_layout.specs.LineWordsLeft.{words_left}
 use Rattle.bit_table_script.proofs.CommandLemmas.{have_values-step}
 use Rattle.bit_table_script.proofs.command.are_values.Goals as goal
 

@@ -1,5 +1,5 @@
 use Rattle.std.proofs.Common.{◌≡◌, None, Some, refl, sym, ap, ◌∙◌, arith}
-use Rattle.bit_table_layout.specs.WordsLeft.{words_left}
+use Rattle.bit_table_layout.specs.LineWordsLeft.{words_left}
 use Rattle.bit_table_script.specs.CommandSteps.{insert_with}
 use Rattle.bit_table_script.proofs.CommandLemmas.{insert_refused-place, insert_refused-values}
 use Rattle.bit_table_script.proofs.CommandLemmas.{insert_kept, insert_is, have_values-some}

@@ -1,6 +1,6 @@
 use Rattle.std.proofs.Common.{◌≡◌, ◌++◌, length, IsSome}
 use Rattle.std.specs.Prelude.{option_map}
-use Rattle.bit_table_layout.specs.WordsLeft.{words_left}
+use Rattle.bit_table_layout.specs.LineWordsLeft.{words_left}
 use Rattle.bit_table_script.specs.Commands.{whole_numbers_in}
 use Rattle.bit_table_script.specs.CommandSteps.{kept_values}
 use Rattle.bit_table_script.proofs.command.read_values.Given as goal

@@ -14,16 +14,16 @@ reads-init g c = record {
 
 pub returns-then-count-eq0-clause-done : goal.returns-then-count-eq0-clause-done
 returns-then-count-eq0-clause-done g c =
-    on_ok_weaker c.carry_out.result
+    on_ok_weaker c.write_answer.result
     (λ a. reached_end _ _ _ _ _ _ _ _ (take c.in_ok-count.count c.read.new.piece) _ c.reads.invariant.reached
     c.in_ok-count.ensures.bytes.0 (search rules) (c.in_ok-count.ensures.bytes.1 (search rules) (search rules)) a)
-    (rw c.as_slice.ensures.value at c.carry_out.ensures.answered)
+    (rw c.as_slice.ensures.value at c.write_answer.ensures.answered)
 
 pub returns-then-count-eq0-clause-write : goal.returns-then-count-eq0-clause-write
 returns-then-count-eq0-clause-write g c = λ e.
     reached_write_last _ _ _ _ _ _ _ _ (take c.in_ok-count.count c.read.new.piece) _ c.reads.invariant.reached
     c.in_ok-count.ensures.bytes.0 (search rules) (c.in_ok-count.ensures.bytes.1 (search rules) (search rules))
-    (rw c.as_slice.ensures.value at (c.carry_out.ensures.write e))
+    (rw c.as_slice.ensures.value at (c.write_answer.ensures.write e))
 
 pub returns-in_err-feed-clause-write : goal.returns-in_err-feed-clause-write
 returns-in_err-feed-clause-write g c = λ e.

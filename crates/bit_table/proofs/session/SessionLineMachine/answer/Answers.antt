@@ -11,10 +11,10 @@ returns-then-not-has_word c =
 pub returns-in-Some : goal.returns-in-Some
 returns-in-Some c =
     let state = ap state_of c.in-Some.is in
-    if_and_on_ok c.carry_out.result _ _ _
+    if_and_on_ok c.answer_command_line.result _ _ _
     (λ text e h rest. rw state
     (answers-carried c.in-Some.table _ c.args.line.now text.items (sym c.if-not-has_word.ensures) e h rest))
-    c.carry_out.ensures.text c.carry_out.ensures.state
+    c.answer_command_line.ensures.text c.answer_command_line.ensures.state
 
 pub returns : goal.returns
 returns c =

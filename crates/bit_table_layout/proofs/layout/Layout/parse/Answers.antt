@@ -1,18 +1,18 @@
-use Rattle.std.proofs.Common.{◌≡◌, [], ◌∷◌, Some, None, Result, Err, refl, sym, ap, ◌∙◌}
-use Rattle.std.proofs.lemmas.Result.{err_from_is_err_and}
-use Rattle.bit_table_layout.specs.Words.{words}
-use Rattle.bit_table_layout.specs.WordsLeft.{words_left}
-use Rattle.bit_table_layout.specs.Layouts.{layout_of, rule_of, fields_of}
+use Rattle.std.proofs.Common.{◌≡◌, [], ◌∷◌, Option, Some, None, Result, Err, refl, sym, ◌∙◌}
+use Rattle.bit_table_layout.specs.declared.layout.LayoutError.{LayoutError}
+use Rattle.bit_table_layout.specs.declared.layout.LayoutError.TheVariants.{Refused, Memory}
+use Rattle.bit_table_layout.specs.LineWords.{words}
+use Rattle.bit_table_layout.specs.LineWordsLeft.{words_left}
+use Rattle.bit_table_layout.specs.Layouts.{layout_of, rule_of}
 use Rattle.bit_table_layout.proofs.LayoutLemmas.{layout_of-words, layout_of-no_rule, layout_of-no_fit}
 use Rattle.bit_table_layout.proofs.LayoutLemmas.{MakesLayout-from_fit, MakesLayout-of}
 use Rattle.bit_table_layout.proofs.layout.Layout.parse.Goals as goal
 
--- what `?` passes on
-same_error : {T U E : Type 0} (r : Result U E) (y e d : E) → r ≡ Err y → y ≡ e → r ≡ Err d
-    → ◌≡◌ {A = Result T E} (Err e) (Err d)
-same_error r y e d is same wanted =
-    let equal : e ≡ d = cc in
-    ap Err equal
+memory_is_not_refused : {T : Type 0} → ◌≡◌ {A = Result T LayoutError} (Err Memory) (Err Refused) → ⊥
+memory_is_not_refused e = cc
+
+some_is_not_none : {A : Type 0} (o : Option A) (x : A) → o ≡ Some x → o ≡ None → ⊥
+some_is_not_none o x some none = cc
 
 pub returns-in_default-clause-refused : goal.returns-in_default-clause-refused
 returns-in_default-clause-refused c =
@@ -41,8 +41,8 @@ returns-then-not-spell_fields-clause-refused c =
     let none = layout_of-no_fit line first rest rule is named (sym c.if-not-spell_fields.ensures) in
     (λ _. none, λ _. refl)
 
-pub returns-in_err-fields-clause-refused : goal.returns-in_err-fields-clause-refused
-returns-in_err-fields-clause-refused c =
+pub returns-in_default-fields_of-clause-refused : goal.returns-in_default-fields_of-clause-refused
+returns-in_default-fields_of-clause-refused c =
     let line = c.args.line.now in
     let first = c.in-Some.first.now in
     let rest = words_left c.next.new.self in
@@ -51,14 +51,7 @@ returns-in_err-fields-clause-refused c =
     let named : rule_of first ≡ Some rule = sym c.rule_of.ensures ∙ c.in-Some-rule_of.is in
     let made = MakesLayout-from_fit line first rest rule is named (sym c.if-not-spell_fields.ensures) in
     let some : layout_of line ≡ Some (record { rule = rule; fields = made.0 }) = made.1.layout in
-    let spelled : fields_of rest ≡ Some made.0 = made.1.spelled in
-    let given = err_from_is_err_and c.from_residual.result c.from_residual.ensures.1 in (
-      (λ refused.
-          let none : fields_of rest ≡ None =
-          c.in_err-fields.ensures.refused (same_error _ _ _ _ given.1 given.2 refused) in
-          absurd cc),
-      (λ none. absurd cc),
-    )
+    (λ refused. absurd (memory_is_not_refused refused), λ none. absurd (some_is_not_none _ _ some none))
 
 pub invariant_of-result : goal.invariant_of-result
 invariant_of-result c =
@@ -69,8 +62,8 @@ invariant_of-result c =
     let is : words line ≡ first ∷ rest = sym c.new-words.ensures ∙ c.in-Some.ensures.steps in
     let named : rule_of first ≡ Some rule = sym c.rule_of.ensures ∙ c.in-Some-rule_of.is in
     let made =
-    MakesLayout-of line first rest rule c.in_ok-fields.fields.items is named (sym c.if-not-spell_fields.ensures)
-    c.in_ok-fields.ensures.ok in
+    MakesLayout-of line first rest rule c.in-Ok.fields.items is named (sym c.if-not-spell_fields.ensures)
+    c.in-Ok.ensures in
     made.lawful
 
 pub returns-clause-ok : goal.returns-clause-ok
@@ -82,8 +75,8 @@ returns-clause-ok c =
     let is : words line ≡ first ∷ rest = sym c.new-words.ensures ∙ c.in-Some.ensures.steps in
     let named : rule_of first ≡ Some rule = sym c.rule_of.ensures ∙ c.in-Some-rule_of.is in
     let made =
-    MakesLayout-of line first rest rule c.in_ok-fields.fields.items is named (sym c.if-not-spell_fields.ensures)
-    c.in_ok-fields.ensures.ok in
+    MakesLayout-of line first rest rule c.in-Ok.fields.items is named (sym c.if-not-spell_fields.ensures)
+    c.in-Ok.ensures in
     made.layout
 
 pub returns-clause-refused : goal.returns-clause-refused
@@ -95,7 +88,7 @@ returns-clause-refused c =
     let is : words line ≡ first ∷ rest = sym c.new-words.ensures ∙ c.in-Some.ensures.steps in
     let named : rule_of first ≡ Some rule = sym c.rule_of.ensures ∙ c.in-Some-rule_of.is in
     let made =
-    MakesLayout-of line first rest rule c.in_ok-fields.fields.items is named (sym c.if-not-spell_fields.ensures)
-    c.in_ok-fields.ensures.ok in
+    MakesLayout-of line first rest rule c.in-Ok.fields.items is named (sym c.if-not-spell_fields.ensures)
+    c.in-Ok.ensures in
     let some = made.layout in
     (λ refused. absurd cc, λ none. absurd cc)

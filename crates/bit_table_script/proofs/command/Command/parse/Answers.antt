@@ -1,6 +1,6 @@
 use Rattle.std.proofs.Common.{◌≡◌, ◌↔◌, None, Some, IfOk, IsErrOf, option_map, refl, sym, ap, ◌∙◌, subst}
-use Rattle.bit_table_layout.specs.Words.{words}
-use Rattle.bit_table_layout.specs.WordsLeft.{words_left}
+use Rattle.bit_table_layout.specs.LineWords.{words}
+use Rattle.bit_table_layout.specs.LineWordsLeft.{words_left}
 use Rattle.bit_table_script.specs.declared.cause.Cause.TheVariants.{Form}
 use Rattle.bit_table_script.specs.declared.cause.Fault.TheVariants.{Refused}
 use Rattle.bit_table_script.specs.Commands.{command_of, cut_off}

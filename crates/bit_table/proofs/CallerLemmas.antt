@@ -1,0 +1,21 @@
+-- What callers of a table know, from one place.
+use Rattle.std.proofs.Common.{ℕ, List, Option, IfSome}
+use Rattle.std.specs.Io.KnownBytes.{Appends}
+use Rattle.bit_table_script.specs.Runs.{RanToEnd}
+use Rattle.bit_table.specs.Tables.{start}
+use Rattle.bit_table.specs.Scripts.{answers, script_answer}
+-- ---- the bits of a row, and chains over the words of a line
+pub use Rattle.bit_table_layout.proofs.CallerLemmas.{row_width-bounds, YieldsList-from_words}
+-- ---- images, and the rows that have them
+pub use Rattle.bit_table_layout.proofs.ImageLemmas.{images_tell_numbers, has_only_numbers}
+-- ---- commands that are cut off
+pub use Rattle.bit_table_script.proofs.CallerLemmas.{take_all-cut_value, cut_value-all_taken, length-cut_value}
+pub use Rattle.bit_table_script.proofs.CallerLemmas.{cut_place-below, cut_place-within, command_of-insert_length}
+pub use Rattle.bit_table.proofs.CutLemmas.{cause_in-cut_off, cut_off-accepted}
+-- ---- what a run wrote
+pub use Rattle.bit_table_script.proofs.CallerLemmas.{answered-to_end}
+
+-- where the reader tells its bytes, a run of a script to the end wrote the answer to all of it
+pub script_answer-to_end : (given left old new : Option (List ℕ)) → RanToEnd (answers start) given left old new
+    → IfSome given (λ text. Appends old new (script_answer text))
+script_answer-to_end given left old new h = answered-to_end (answers start) given left old new h

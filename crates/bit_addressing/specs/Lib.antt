@@ -4,3 +4,27 @@ pub mod Sweep
 pub mod Ways
 pub mod Own
 pub mod Runs
+-- the words of spans, memories, orders and registers
+pub use Rattle.bit_addressing_span.specs.Domain
+pub use Rattle.bit_addressing_span.specs.DomainMut
+pub use Rattle.bit_addressing_span.specs.Memory
+pub use Rattle.bit_addressing_span.specs.Partial
+pub use Rattle.bit_addressing_span.specs.PartialElementMut
+pub use Rattle.bit_addressing_span.specs.Parts
+pub use Rattle.bit_addressing_span.specs.Pointer
+pub use Rattle.bit_addressing_span.specs.PointerRange
+pub use Rattle.bit_addressing_span.specs.Shown
+pub use Rattle.bit_addressing_span.specs.Span
+pub use Rattle.bit_addressing_span.specs.Texts
+pub use Rattle.bit_addressing_span.specs.Words
+pub use Rattle.bit_addressing_verify.specs.BitIdx
+pub use Rattle.bit_addressing_verify.specs.BitMask
+pub use Rattle.bit_addressing_verify.specs.BitOrder
+pub use Rattle.bit_addressing_verify.specs.BitRegister
+pub use Rattle.bit_addressing_verify.specs.Bits
+pub use Rattle.bit_addressing_verify.specs.OrderLaws
+pub use Rattle.bit_addressing_verify.specs.RegisterLaws
+pub use Rattle.bit_addressing_verify.specs.Text
+pub use Rattle.bit_addressing_verify.specs.OrderFault
+pub use Rattle.bit_addressing_verify.specs.WordFault
+pub use Rattle.bit_addressing_order.specs.StepLaws

@@ -2,9 +2,9 @@
 //! and commands at two spans.
 
 ghost use Rattle.std.specs.Prelude.{◌≡◌, ◌+◌, ◌*◌, ◌^◌, ◌<◌, ◌≤◌, [], ◌∷◌, true, length, slice_index_or, slice_set};
-ghost use Rattle.bit_addressing_memory.specs.Memory.{entry, indexed, memory, piece, touched, with_piece};
+ghost use Rattle.bit_addressing.specs.Memory.{entry, read_by, memory, piece, touched, with_piece};
 ghost use Rattle.bit_addressing.specs.Moves.{Moves, changed};
-ghost use Rattle.bit_addressing_span.specs.Span.{span_place};
+ghost use Rattle.bit_addressing.specs.Span.{span_place};
 ghost use Rattle.bit_addressing.specs.Runs.{AllFit, AreDisjoint, span_at};
 
 use bit_addressing::{
@@ -88,7 +88,6 @@ pub fn set_and_read<R: BitRegister, O: BitOrder<R>>(
     requires disjoint { AreDisjoint R.BITS spans.now }
     requires fit { AllFit R.BITS spans.now (length memory.old) }
     requires two { length spans.now ≡ 2 }
-    requires heads { ((span_at spans.now 0).head < R.BITS) × ((span_at spans.now 1).head < R.BITS) }
     requires bits { (0 < (span_at spans.now 0).len) × (0 < (span_at spans.now 1).len) }
     requires commands { commands.now ≡ (0, SpanCommand.Replace 0 true) ∷ (1, SpanCommand.Read 0) ∷ [] }
     requires places { length replies.old ≡ 2 }
@@ -99,4 +98,16 @@ pub fn set_and_read<R: BitRegister, O: BitOrder<R>>(
         (span_place R.BITS (span_at spans.now 1))) }
 {
     run(memory, spans, commands, replies);
+}
+
+/// Writes one word through a sweep over a part of the caller's words. The part is lent and given back in here, and the
+/// whole is known afterwards.
+pub fn put_in_part<R: BitRegister>(words: &mut [R], first: usize, count: usize, k: usize, word: R)
+    requires within { first + count ≤ length words.old }
+    requires inside { k < count }
+    ensures { words.new ≡ slice_set words.old (first + k) word }
+{
+    let part = &mut words[first..first + count];
+    let mut sweep = Sweep::new(part, Way::Up);
+    sweep.put(k, word);
 }

@@ -1,8 +1,8 @@
 //! What a user of the crate proves from its contracts alone.
 
 ghost use Rattle.std.specs.Prelude.{◌≡◌, ◌≢◌, ℕ, ◌+◌, ◌*◌, ◌<◌, pos, ◌+ℤ◌, ◌*ℤ◌, length, true, false};
-ghost use Rattle.bit_addressing_memory.specs.Memory.{entry, indexed};
-ghost use Rattle.bit_addressing_memory.specs.Pointer.{StaysIn};
+ghost use Rattle.bit_addressing.specs.Memory.{entry, read_by};
+ghost use Rattle.bit_addressing.specs.Pointer.{StaysIn};
 
 use bit_addressing::{BitIdx, BitOrder, BitPtr, BitRegister, read_entry, write_entry};
 

@@ -1,34 +1,33 @@
 //! What callers know of parts of words and of spans, from their contracts alone.
 
 ghost use Rattle.std.specs.Prelude.{◌≡◌, ℕ, ◌+◌, ◌<◌, ◌≤◌, length};
-ghost use Rattle.bit_addressing_memory.specs.Memory.{entry, indexed, touched};
-ghost use Rattle.bit_addressing_span.specs.Partial.{IsMasked};
-ghost use Rattle.bit_addressing_span.specs.Parts.{part_from, part_place, part_count};
-ghost use Rattle.bit_addressing_span.specs.PartialElementMut.{part_words, part_head, part_tail};
+ghost use Rattle.bit_addressing.specs.Memory.{entry, indexed, read_by, touched};
+ghost use Rattle.bit_addressing.specs.Partial.{IsMasked};
+ghost use Rattle.bit_addressing.specs.PartialElementMut.{part_words, part_head, part_tail};
+ghost use Rattle.bit_addressing.specs.Parts.{part_from, part_place, part_count};
 
 use bit_addressing::{BitOrder, BitRegister, BitSpan, PartialElementMut};
 
 /// What is loaded after a store is the value, masked.
-#[tactic(auto, using(bit_addressing_span::proofs::StoredLemmas::stored_then_masked))]
+#[tactic(auto, using(bit_addressing::proofs::PartsLemmas::stored_then_read))]
 pub fn store_and_load<'a, R: BitRegister, O: BitOrder<R>>(
     part: &mut PartialElementMut<'a, R, O>,
     value: R,
 ) -> R
-    ensures { IsMasked (read_by R.BitRegister O.position) value result
-        (part_head part.old) (part_tail part.old) }
+    ensures { IsMasked (read_by R.BitRegister O.position) value result (part_head part.old) (part_tail part.old) }
 {
     part.store_value(value);
     part.load_value()
 }
 
 /// What a store answered restores the word, stored again.
-#[tactic(auto, using(bit_addressing_span::proofs::StoredLemmas::stored_back))]
+#[tactic(auto, using(bit_addressing::proofs::PartsLemmas::stored_back))]
 pub fn store_and_restore<'a, R: BitRegister, O: BitOrder<R>>(
     part: &mut PartialElementMut<'a, R, O>,
     value: R,
 )
-    ensures { (i : ℕ) → i < R.BITS → indexed R.number O.position (part_words part.new) i
-        ≡ indexed R.number O.position (part_words part.old) i }
+    ensures { (p : ℕ) → entry (read_by R.BitRegister O.position) (part_words part.new) p
+        ≡ entry (read_by R.BitRegister O.position) (part_words part.old) p }
 {
     let was = part.store_value(value);
     part.store_value(was);

@@ -4,3 +4,10 @@ pub mod SpanLemmas
 pub mod StoredLemmas
 pub mod TextLemmas
 pub mod PartsLemmas
+-- the lemmas of memories
+pub use Rattle.bit_addressing_memory.proofs.CopyLemmas
+pub use Rattle.bit_addressing_memory.proofs.EntryLemmas
+pub use Rattle.bit_addressing_memory.proofs.MemoryLemmas
+pub use Rattle.bit_addressing_memory.proofs.OverwriteLemmas
+pub use Rattle.bit_addressing_memory.proofs.PointerLemmas
+pub use Rattle.bit_addressing_memory.proofs.WindowLemmas

@@ -4,7 +4,7 @@ use Rattle.std.proofs.Common.{bit_or, inl, inr, refl, ap, ◌∙◌, arith}
 use Rattle.std.proofs.lemmas.Bool.{cases_lt}
 use Rattle.std.proofs.lemmas.Nat.Bits.{bit_at_and, bit_at_or, bit_at-lt, bit_at-zero, bit_at_ones}
 use Rattle.std.specs.Int.{bit_at}
-use Rattle.bit_addressing_order.specs.Digits.{bit_at-complement}
+use Rattle.bit_addressing_order.proofs.DigitLemmas.{bit_at-complement}
 use Rattle.bit_addressing_order.specs.BitOrder.{IsLawful}
 use Rattle.bit_addressing_memory.specs.Memory.{Reading, indexed, reading_in}
 use Rattle.bit_addressing_span.specs.Partial.{part_mask, IsMasked, IsStored}

@@ -8,3 +8,11 @@ pub mod Words
 pub mod PartialElementMut
 pub mod DomainMut
 pub mod Parts
+-- the words of memories and orders
+pub use Rattle.bit_addressing_memory.specs.BitIdx
+pub use Rattle.bit_addressing_memory.specs.BitOrder
+pub use Rattle.bit_addressing_memory.specs.BitRegister
+pub use Rattle.bit_addressing_memory.specs.Bits
+pub use Rattle.bit_addressing_memory.specs.Memory
+pub use Rattle.bit_addressing_memory.specs.Pointer
+pub use Rattle.bit_addressing_memory.specs.PointerRange

@@ -1,81 +1,57 @@
-use Rattle.std.proofs.Common.{◌≡◌, ℕ, ◌<◌, ◌+◌, Bool, true, false, List, [], ◌∷◌, length, get_or, sym, ap, ◌∙◌, arith}
+use Rattle.std.proofs.Common.{◌≡◌, ℕ, ◌+◌, ◌<◌, true, false, List, [], ◌∷◌, length, get_or, refl, sym, ap, ◌∙◌, arith}
 use Rattle.std.proofs.lemmas.Bool.{lt-ltb}
 use Rattle.std.proofs.lemmas.List.{get_or-set_same}
-use Rattle.bit_addressing_memory.specs.Memory.{entry, indexed}
-use Rattle.bit_addressing_span.specs.Span.{Extent, span_bits, span_place}
+use Rattle.bit_addressing.specs.Memory.{Reading, entry, read_by}
+use Rattle.bit_addressing.specs.Span.{span_bits, span_place}
+use Rattle.bit_addressing.specs.Runs.{Runs, commands_of, replies_of, span_at}
 use Rattle.bit_addressing.specs.declared.command.SpanCommand.TheVariants.{Read, Replace}
 use Rattle.bit_addressing.specs.declared.command.SpanReply.{SpanReply}
-use Rattle.bit_addressing.specs.declared.command.SpanReply.TheVariants.{Word, Bit, Done, Refused}
-use Rattle.bit_addressing.specs.Own.{own_after, own_answer, own_answers, own_list, seen}
-use Rattle.bit_addressing.specs.Runs.{Runs, commands_of, replies_of, span_at}
-use Rattle.bit_addressing.proofs.SpanBits.{length-span_bits, span_bit}
+use Rattle.bit_addressing.specs.declared.command.SpanReply.TheVariants.{Bit, Refused}
+use Rattle.bit_addressing.proofs.CallerLemmas.{run_bit, run_replies, list_in_range, list_of_one, answer_in_range}
+use Rattle.bit_addressing.proofs.CallerLemmas.{answer_of_one, seen_bit}
+use Rattle.bit_addressing.proofs.CommandLemmas.{length-span_bits, span_bit}
 use Rattle.bit_addressing_samples.proofs.callers.set_and_read.Goals as goal
 
--- the list after its first bit is set
-list_set : {R : Type 0} (reading : Reading R) (head : ℕ) (bits : List Bool) → 0 < length bits
-    → get_or (own_list reading head (Replace 0 true ∷ []) bits) 0 false ≡ true
-unfolding own_list own_after
-list_set reading head bits some = rw (lt-ltb 0 (length bits) some) (get_or-set_same bits 0 true false some)
-
-seen_bit : {R : Type 0} (reading : Reading R) (reply : SpanReply R) (bit : Bool)
-    → seen reading reply ≡ Bit bit → reply ≡ Bit bit
-seen_bit reading (Word word) bit is = cc
-seen_bit reading (Bit other) bit is = cc
-seen_bit reading Done bit is = cc
-seen_bit reading Refused bit is = cc
-
--- the one reply of a list that is read
-list_read : {R : Type 0} (reading : Reading R) (head : ℕ) (bits : List Bool) (reply : SpanReply R)
-    → 0 < length bits → seen reading reply ∷ [] ≡ own_answers reading head (Read 0 ∷ []) bits
-    → reply ≡ Bit (get_or bits 0 false)
-unfolding own_answers own_answer
-list_read reading head bits reply some is =
-    let same = rw (lt-ltb 0 (length bits) some) at is in
-    seen_bit reading reply (get_or bits 0 false) cc
-
-second_reply : {R : Type 0} (reading : Reading R) (before after : List R) (spans : List Extent)
-    (replies : List (SpanReply R)) → length replies ≡ 2 → length spans ≡ 2
-    → 0 < length (span_bits reading before (span_at spans 1))
-    → Runs reading before after spans ((0, Replace 0 true) ∷ (1, Read 0) ∷ []) replies
-    → get_or replies 1 Refused ≡ Bit (get_or (span_bits reading before (span_at spans 1)) 0 false)
-unfolding commands_of replies_of
-second_reply reading before after spans [] size two some runs = absurd (omega arith)
-second_reply reading before after spans (one ∷ []) size two some runs = absurd (omega arith)
-second_reply reading before after spans (one ∷ other ∷ rest) size two some runs =
-    list_read reading (span_at spans 1).head (span_bits reading before (span_at spans 1)) other some
-    (runs.replied 1 (omega arith))
-
-first_bit : {R : Type 0} (reading : Reading R) (before after : List R) (spans : List Extent)
-    (replies : List (SpanReply R)) → length spans ≡ 2 → 0 < length (span_bits reading before (span_at spans 0))
-    → Runs reading before after spans ((0, Replace 0 true) ∷ (1, Read 0) ∷ []) replies
-    → get_or (span_bits reading after (span_at spans 0)) 0 false ≡ true
-unfolding commands_of
-first_bit reading before after spans replies two some runs =
-    ap (λ bits. get_or bits 0 false) (runs.lists 0 (omega arith))
-    ∙ list_set reading (span_at spans 0).head (span_bits reading before (span_at spans 0)) some
-
--- the first entry of a span is the first bit of its list
-first_entry : {R : Type 0} (reading : Reading R) (words : List R) (span : Extent) → 0 < reading.bits → 0 < span.len
-    → get_or (span_bits reading words span) 0 false ≡ entry reading words (span_place reading.bits span)
-first_entry reading words span some bits =
-    let start : span_place reading.bits span + 0 ≡ span_place reading.bits span = omega arith in
-    span_bit reading words span 0 some bits ∙ ap (entry reading words) start
+-- the one reply of span 1 is the second
+second : {R : Type 0} (replies : List (SpanReply R)) → length replies ≡ 2
+    → replies_of 1 ((0, Replace 0 true) ∷ (1, Read 0) ∷ []) replies ≡ get_or replies 1 Refused ∷ []
+unfolding replies_of
+second [] two = absurd (omega arith)
+second (one ∷ []) two = absurd (omega arith)
+second (one ∷ other ∷ rest) two = refl
 
 pub returns : goal.returns
+unfolding commands_of
 returns g c =
-    let b = g.R.BitRegister.BITS in
     let reading = read_by g.R.BitRegister g.O.Positions.position in
     let before = c.args.memory.now in
-    let after = c.run.new.memory in
     let spans = c.args.spans.now in
-    let some : 0 < b = omega (arith, g.met.R.BitRegister.least_bits) in
-    let fit = c.requires.fit in
-    let size = length-span_bits reading before (span_at spans 0) c.requires.heads.0 (fit 0 (omega arith)) in
-    let other_size = length-span_bits reading before (span_at spans 1) c.requires.heads.1 (fit 1 (omega arith)) in
+    let replies = c.run.new.replies in
+    let some : 0 < reading.bits = omega (arith, g.met.R.BitRegister.least_bits) in
     let runs = rw c.requires.commands at c.run.ensures.run in
+    let place = λ (s : ℕ). span_place reading.bits (span_at spans s) in
+    let bits = λ (s : ℕ). span_bits reading before (span_at spans s) in
+    let size = λ (s : ℕ) (within : s < length spans).
+    length-span_bits reading before (span_at spans s) (c.run.ensures.heads s within) (c.requires.fit s within) in
+    let first : 0 < length (bits 0) = omega (arith, size 0 (omega arith)) in
+    let other : 0 < length (bits 1) = omega (arith, size 1 (omega arith)) in
+    let set =
+    run_bit reading before c.run.new.memory spans _ replies 0 0 (Replace 0 true ∷ []) some (omega arith)
+    c.requires.bits.0 refl runs
+    ∙ ap (λ xs. get_or xs 0 false) (list_of_one reading _ (Replace 0 true) (bits 0)
+    ∙ list_in_range reading _ (Replace 0 true) (bits 0) (lt-ltb 0 (length (bits 0)) first))
+    ∙ get_or-set_same (bits 0) 0 true false first in
+    let told =
+    run_replies reading before c.run.new.memory spans _ replies 1 (Read 0 ∷ []) _ (omega arith) refl
+    (second replies (omega arith)) runs
+    ∙ answer_of_one reading _ (Read 0) (bits 1)
+    ∙ ap (λ answer. answer ∷ []) (answer_in_range reading.bits _ (Read 0) (bits 1)
+    (lt-ltb 0 (length (bits 1)) other)) in
+    let read = seen_bit reading (get_or replies 1 Refused) (get_or (bits 1) 0 false) cc in
+    let start : place 0 + 0 ≡ place 0 = omega arith in
+    let next : place 1 + 0 ≡ place 1 = omega arith in
     record {
-      set = sym (first_entry reading after (span_at spans 0) some c.requires.bits.0)
-          ∙ first_bit reading before after spans c.run.new.replies c.requires.two (omega arith) runs;
-      read = second_reply reading before after spans c.run.new.replies (omega arith) c.requires.two (omega arith) runs
-          ∙ ap Bit (first_entry reading before (span_at spans 1) some c.requires.bits.1);
+      set = ap (entry reading c.run.new.memory) (sym start) ∙ set;
+      read = read ∙ ap Bit (span_bit reading before (span_at spans 1) 0 some c.requires.bits.1
+          ∙ ap (entry reading before) next);
     }

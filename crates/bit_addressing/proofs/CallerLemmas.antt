@@ -1,0 +1,72 @@
+-- What a caller reads off a whole run: the bits and the replies of one span, by its own commands alone.
+--
+-- One span's commands among all: `run_bit`, `run_replies`. Commands with their numbers in range, on a list: `list_of_one`,
+-- `list_in_range`, `answer_of_one`, `answer_in_range`. A reply that is seen as a bit is that bit: `seen_bit`.
+use Rattle.std.proofs.Common.{◌≡◌, ℕ, ◌+◌, ◌<◌, Bool, true, false, List, [], ◌∷◌, length, map, get_or, refl, sym, ap, ◌∙◌}
+use Rattle.bit_addressing_memory.specs.Memory.{Reading, entry}
+use Rattle.bit_addressing_span.specs.Span.{Extent, span_bits, span_place}
+use Rattle.bit_addressing.specs.declared.command.SpanCommand.{SpanCommand}
+use Rattle.bit_addressing.specs.declared.command.SpanReply.{SpanReply}
+use Rattle.bit_addressing.specs.declared.command.SpanReply.TheVariants.{Word, Bit, Done, Refused}
+use Rattle.bit_addressing.specs.Own.{lies_in, own_after, own_answer, own_answers, own_edit, own_list, own_reading, seen}
+use Rattle.bit_addressing.specs.Runs.{Runs, commands_of, replies_of, span_at}
+use Rattle.bit_addressing.proofs.CommandLemmas.{span_bit}
+
+-- bit i of the span of number s is afterwards that of the list which the span's own commands leave
+pub run_bit : {R : Type 0} (reading : Reading R) (before after : List R) (spans : List Extent)
+    (commands : List (ℕ × SpanCommand R)) (replies : List (SpanReply R)) (s i : ℕ) (own : List (SpanCommand R))
+    → 0 < reading.bits → s < length spans → i < (span_at spans s).len → commands_of s commands ≡ own
+    → Runs reading before after spans commands replies
+    → entry reading after (span_place reading.bits (span_at spans s) + i)
+    ≡ get_or (own_list reading (span_at spans s).head own (span_bits reading before (span_at spans s))) i false
+run_bit reading before after spans commands replies s i own some number low mine runs =
+    let span = span_at spans s in
+    sym (span_bit reading after span i some low)
+    ∙ ap (λ bits. get_or bits i false) (runs.lists s number)
+    ∙ ap (λ cs. get_or (own_list reading span.head cs (span_bits reading before span)) i false) mine
+
+-- the replies to the span's own commands are the answers that its list gives to them
+pub run_replies : {R : Type 0} (reading : Reading R) (before after : List R) (spans : List Extent)
+    (commands : List (ℕ × SpanCommand R)) (replies : List (SpanReply R)) (s : ℕ) (own : List (SpanCommand R))
+    (answered : List (SpanReply R)) → s < length spans → commands_of s commands ≡ own
+    → replies_of s commands replies ≡ answered → Runs reading before after spans commands replies
+    → map (seen reading) answered
+    ≡ own_answers reading (span_at spans s).head own (span_bits reading before (span_at spans s))
+run_replies reading before after spans commands replies s own answered number mine its runs =
+    let span = span_at spans s in
+    ap (map (seen reading)) (sym its)
+    ∙ runs.replied s number
+    ∙ ap (λ cs. own_answers reading span.head cs (span_bits reading before span)) mine
+
+-- one command is an edit of the list
+pub list_of_one : {R : Type 0} (reading : Reading R) (head : ℕ) (command : SpanCommand R) (bits : List Bool)
+    → own_list reading head (command ∷ []) bits ≡ own_after reading head command bits
+unfolding own_list
+list_of_one reading head command bits = refl
+
+-- with its numbers in range
+pub list_in_range : {R : Type 0} (reading : Reading R) (head : ℕ) (command : SpanCommand R) (bits : List Bool)
+    → lies_in reading.bits head (length bits) command ≡ true
+    → own_after reading head command bits ≡ own_edit reading head command bits
+unfolding own_after
+list_in_range reading head command bits is = rw is refl
+
+-- and has one answer
+pub answer_of_one : {R : Type 0} (reading : Reading R) (head : ℕ) (command : SpanCommand R) (bits : List Bool)
+    → own_answers reading head (command ∷ []) bits ≡ own_answer reading.bits head command bits ∷ []
+unfolding own_answers
+answer_of_one reading head command bits = refl
+
+pub answer_in_range : {R : Type 0} (b head : ℕ) (command : SpanCommand R) (bits : List Bool)
+    → lies_in b head (length bits) command ≡ true
+    → own_answer b head command bits ≡ own_reading b head command bits
+unfolding own_answer
+answer_in_range b head command bits is = rw is refl
+
+-- a reply that is seen as a bit is that bit
+pub seen_bit : {R : Type 0} (reading : Reading R) (reply : SpanReply R) (bit : Bool)
+    → seen reading reply ≡ Bit bit → reply ≡ Bit bit
+seen_bit reading (Word word) bit is = cc
+seen_bit reading (Bit other) bit is = cc
+seen_bit reading Done bit is = cc
+seen_bit reading Refused bit is = cc

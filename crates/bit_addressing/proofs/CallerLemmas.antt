@@ -1,9 +1,11 @@
--- What a caller reads off a whole run: the bits and the replies of one span, by its own commands alone.
+-- What a caller reads off a whole run: the bits and the replies of one span, by its own commands alone; and `parts`, for
+-- those who read what they wrote into a part of a word.
 --
 -- One span's commands among all: `run_bit`, `run_replies`. Commands with their numbers in range, on a list: `list_of_one`,
 -- `list_in_range`, `answer_of_one`, `answer_in_range`. A reply that is seen as a bit is that bit: `seen_bit`.
 use Rattle.std.proofs.Common.{◌≡◌, ℕ, ◌+◌, ◌<◌, Bool, true, false, List, [], ◌∷◌, length, map, get_or, refl, sym, ap, ◌∙◌}
 use Rattle.bit_addressing_memory.specs.Memory.{Reading, entry}
+use Rattle.bit_addressing_span.proofs.PartsLemmas.{stored_back, stored_then_read}
 use Rattle.bit_addressing_span.specs.Span.{Extent, span_bits, span_place}
 use Rattle.bit_addressing.specs.declared.command.SpanCommand.{SpanCommand}
 use Rattle.bit_addressing.specs.declared.command.SpanReply.{SpanReply}
@@ -70,3 +72,6 @@ seen_bit reading (Word word) bit is = cc
 seen_bit reading (Bit other) bit is = cc
 seen_bit reading Done bit is = cc
 seen_bit reading Refused bit is = cc
+
+-- what is read of a part of a word after it was written, and what restores it
+pub ruleset parts = (stored_then_read, stored_back)

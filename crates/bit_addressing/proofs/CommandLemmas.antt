@@ -58,12 +58,14 @@ length-span_bits reading words span low fits = elim (cases_eq span.len 0) [
   | inr some ↦
       let all : span_place reading.bits span + span.len ≤ length words * reading.bits =
       span_within reading.bits span (length words) low (omega arith) fits in
-      length-piece (memory reading words) (span_place reading.bits span) span.len (omega (arith, length-memory reading words))
+      length-piece (memory reading words) (span_place reading.bits span) span.len
+      (omega (arith, length-memory reading words))
 ]
 
 -- its bit j is an entry of the memory
 pub span_bit : {R : Type 0} (reading : Reading R) (words : List R) (span : Extent) (j : ℕ) → 0 < reading.bits
-    → j < span.len → get_or (span_bits reading words span) j false ≡ entry reading words (span_place reading.bits span + j)
+    → j < span.len → get_or (span_bits reading words span) j false ≡ entry reading words
+    (span_place reading.bits span + j)
 span_bit reading words span j some low =
     get_or-piece (memory reading words) (span_place reading.bits span) span.len j false low
     ∙ entry_memory reading words (span_place reading.bits span + j) some

@@ -30,7 +30,8 @@ moved_bit_above reading before source target len p h = grind (arith, nat_tests)
 
 -- the digits below the target are the word's own
 pub gather_first : {R : Type 0} (reading : Reading R) (before : List R) (k source target len : ℕ) (word : R)
-    (from : ℕ) → from ≡ target - k * reading.bits → target < k * reading.bits + reading.bits → IsOwnFrom reading before k word 0
+    (from : ℕ) → from ≡ target - k * reading.bits → target < k * reading.bits + reading.bits
+    → IsOwnFrom reading before k word 0
     → IsGathered reading before k source target len word from
 gather_first reading before k source target len word from is ends own i h =
     own i (omega arith) (omega arith)
@@ -64,7 +65,8 @@ own_next b number at select mask before k word next n bit law low made own j h g
 
 -- the digits above the target are the word's own
 pub gather_rest : {R : Type 0} (reading : Reading R) (before : List R) (k source target len : ℕ) (word : R)
-    (n : ℕ) → min reading.bits (target + len - k * reading.bits) ≤ n → IsGathered reading before k source target len word n
+    (n : ℕ) → min reading.bits (target + len - k * reading.bits) ≤ n
+    → IsGathered reading before k source target len word n
     → IsOwnFrom reading before k word n → IsGathered reading before k source target len word reading.bits
 gather_rest reading before k source target len word n high had own i h = elim (cases_lt i n) [
   | inl low ↦ had i low

@@ -82,7 +82,8 @@ own_list-push reading head (x ∷ xs) next bits = own_list-push reading head xs 
 own_answers-push : {R : Type 0} (reading : Reading R) (head : ℕ) (commands : List (SpanCommand R))
     (next : SpanCommand R) (bits : List Bool)
     → own_answers reading head (commands ++ next ∷ []) bits
-    ≡ own_answers reading head commands bits ++ own_answer reading.bits head next (own_list reading head commands bits) ∷ []
+    ≡ own_answers reading head commands bits ++ own_answer reading.bits head next
+    (own_list reading head commands bits) ∷ []
 unfolding own_answers own_list
 own_answers-push reading head [] next bits = refl
 own_answers-push reading head (x ∷ xs) next bits =

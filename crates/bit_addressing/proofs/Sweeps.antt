@@ -89,7 +89,8 @@ swept_up reading before now source target len low high word some way h order had
 
 -- the next word downwards
 pub swept_down : {R : Type 0} (reading : Reading R) (before now : List R)
-    (source target len low next high : ℕ) (word : R) → 0 < reading.bits → source ≤ target → low < length now → low + 1 ≡ next
+    (source target len low next high : ℕ) (word : R) → 0 < reading.bits → source ≤ target → low < length now
+    → low + 1 ≡ next
     → next ≤ high → Swept reading before now source target len next high
     → IsGathered reading now low source target len word reading.bits
     → Swept reading before (set now low word) source target len low high
@@ -111,7 +112,8 @@ swept_down reading before now source target len low next high word some way h is
 
 -- all words of the target
 swept_all : {R : Type 0} (reading : Reading R) (before now : List R) (source target len : ℕ)
-    → 0 < reading.bits → 0 < len → Swept reading before now source target len (target / reading.bits) ((target + len - 1) / reading.bits + 1)
+    → 0 < reading.bits → 0 < len → Swept reading before now source target len (target / reading.bits)
+    ((target + len - 1) / reading.bits + 1)
     → Moves reading before now source target len
 swept_all reading before now source target len some any had =
     let end : ℕ = (target + len - 1) / reading.bits + 1 in
@@ -140,7 +142,8 @@ swept_all reading before now source target len some any had =
 
 -- a move whose words are all put, from the first to the last that the target touches
 pub moved_all : {R : Type 0} (reading : Reading R) (before now : List R) (source target len low high : ℕ)
-    (bits : ℕ) → 0 < reading.bits → 0 < len → bits ≡ reading.bits → low ≡ target / bits → high ≡ (target + len - 1) / bits + 1
+    (bits : ℕ) → 0 < reading.bits → 0 < len → bits ≡ reading.bits → low ≡ target / bits
+    → high ≡ (target + len - 1) / bits + 1
     → Swept reading before now source target len low high → Moves reading before now source target len
 moved_all reading before now source target len low high bits some any is is_low is_high had =
     let from : low ≡ target / reading.bits = rw (← is) is_low in

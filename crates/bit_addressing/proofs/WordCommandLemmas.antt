@@ -34,7 +34,8 @@ own_digit_from b head bits k i h = grind (arith, nat_tests)
 
 digit_reads : {R : Type 0} (reading : Reading R) (words : List R) (span : Extent) (k : ℕ) (word : R) (i : ℕ)
     → span.head < reading.bits → FitsIn reading.bits span (length words)
-    → ReadsPart reading words (span.word + k) word (part_from reading.bits span k) (part_upto reading.bits span k) → i < reading.bits
+    → ReadsPart reading words (span.word + k) word (part_from reading.bits span k) (part_upto reading.bits span k)
+    → i < reading.bits
     → reading.digit word i ≡ own_digit reading.bits span.head (span_bits reading words span) k i
 digit_reads reading words span k word i low fits reads small =
     let bits = span_bits reading words span in
@@ -44,7 +45,8 @@ digit_reads reading words span k word i low fits reads small =
           reads.below i (omega arith) small ∙ sym (own_digit_below reading.bits span.head bits k i before)
       | inr from ↦
           let j : ℕ = k * reading.bits + i - span.head in
-          let own : own_digit reading.bits span.head bits k i ≡ get_or bits j false = own_digit_from reading.bits span.head bits k i from in
+          let own : own_digit reading.bits span.head bits k i ≡ get_or bits j false = own_digit_from reading.bits
+          span.head bits k i from in
           elim (cases_lt j span.len) [
             | inl inside ↦
                 let place : (span.word + k) * reading.bits + i ≡ span_place reading.bits span + j = omega arith in
@@ -131,7 +133,8 @@ stores_out reading before after span k j stored low other stores =
 
 -- a bit of the word is
 stores_in : {R : Type 0} (reading : Reading R) (before after : List R) (span : Extent) (k j : ℕ)
-    (stored : ℕ → Bool) (now : ℕ → Bool → Bool) → span.head < reading.bits → j < span.len → (span.head + j) / reading.bits ≡ k
+    (stored : ℕ → Bool) (now : ℕ → Bool → Bool) → span.head < reading.bits → j < span.len
+    → (span.head + j) / reading.bits ≡ k
     → Overwrites reading before after (part_place reading.bits span k) (part_count reading.bits span k) stored
     → ((i : ℕ) → i < part_count reading.bits span k
     → stored i ≡ now (part_from reading.bits span k + i) (entry reading before (part_place reading.bits span k + i)))
@@ -140,7 +143,8 @@ stores_in : {R : Type 0} (reading : Reading R) (before after : List R) (span : E
 stores_in reading before after span k j stored now low h is stores same =
     let r : ℕ = (span.head + j) % reading.bits in
     let small : r < reading.bits = mod_below (span.head + j) reading.bits (omega arith) in
-    let place : (span.head + j) / reading.bits * reading.bits + r ≡ span.head + j = div-add-mod' (span.head + j) reading.bits in
+    let place : (span.head + j) / reading.bits * reading.bits + r ≡ span.head + j = div-add-mod' (span.head + j)
+    reading.bits in
     let row : k * reading.bits + r ≡ span.head + j = ap (λ q. q * reading.bits + r) (sym is) ∙ place in
     let i : ℕ = r - part_from reading.bits span k in
     let index : part_from reading.bits span k + i ≡ r = omega arith in
@@ -154,11 +158,13 @@ stores_in reading before after span k j stored now low h is stores same =
 
 -- a place outside the span is not
 stores_others : {R : Type 0} (reading : Reading R) (before after : List R) (span : Extent) (k p : ℕ)
-    (stored : ℕ → Bool) → span.head < reading.bits → k < touched reading.bits span.head span.len → IsOutside reading.bits span p
+    (stored : ℕ → Bool) → span.head < reading.bits → k < touched reading.bits span.head span.len
+    → IsOutside reading.bits span p
     → Overwrites reading before after (part_place reading.bits span k) (part_count reading.bits span k) stored
     → entry reading after p ≡ entry reading before p
 stores_others reading before after span k p stored low within out stores =
-    let start : k * reading.bits < span.head + span.len = part_start reading.bits span.head span.len k within (omega arith) in
+    let start : k * reading.bits < span.head + span.len = part_start reading.bits span.head span.len k within
+    (omega arith) in
     elim (cases_lt p (span_place reading.bits span)) [
       | inl under ↦ stores.below p (omega arith)
       | inr up ↦
@@ -216,7 +222,8 @@ pub carried_store : {R : Type 0} (reading : Reading R) (before after : List R) (
     (λ i. reading.digit word (part_from reading.bits span k + i))
     → CarriesOut reading before after span (Store k word) (Word was)
 carried_store reading before after span k word was low fits within reads stores =
-    carried_word reading before after span (Store k word) k was (λ i. reading.digit word (part_from reading.bits span k + i))
+    carried_word reading before after span (Store k word) k was
+    (λ i. reading.digit word (part_from reading.bits span k + i))
     (λ i _. reading.digit word i) low fits within refl refl refl reads stores (λ _ _. refl)
 
 pub carried_set : {R : Type 0} (reading : Reading R) (before after : List R) (span : Extent) (k : ℕ) (was : R)
@@ -247,5 +254,6 @@ pub carried_invert : {R : Type 0} (reading : Reading R) (before after : List R) 
     → CarriesOut reading before after span (Invert k) (Word was)
 carried_invert reading before after span k was low fits within reads stores =
     carried_word reading before after span (Invert k) k was
-    (λ i. not (entry reading before (part_place reading.bits span k + i))) (λ _ bit. not bit) low fits within refl refl refl
+    (λ i. not (entry reading before (part_place reading.bits span k + i))) (λ _ bit. not bit) low fits within refl
+    refl refl
     reads stores (λ _ _. refl)

@@ -1,6 +1,6 @@
 -- A sweep over words, as contracts see it.
 --
--- What it has: `words_of`, `way_of`, `edge_of`, `reads_of`, `writes_of`, `lender`.
+-- What it has: `sweep_words`, `way_of`, `edge_of`, `reads_of`, `writes_of`, `sweep_lender`.
 -- What is said of it: `IsFresh`, `SameButReads`; `counted_up` is how its reads grow.
 use Rattle.std.specs.Prelude.{ℕ, ◌+◌, ◌-◌, ◌^◌, ◌≡◌, List, length, if◌then◌else◌, nat_lt}
 use Rattle.bit_addressing.specs.declared.sweep.Way.{Way}
@@ -8,12 +8,12 @@ use Rattle.bit_addressing.specs.declared.sweep.Sweep.{Sweep}
 use Rattle.bit_addressing.specs.Ways.{first_edge}
 
 -- the words of the slice, as they are now
-abbrev pub words_of : {R : Type 0} → Sweep R → List R
-words_of s = s.words.now
+abbrev pub sweep_words : {R : Type 0} → Sweep R → List R
+sweep_words s = s.words.now
 
 -- the loan of the slice: whoever lent it has its words again where this stays
-abbrev pub lender : {R : Type 0} → Sweep R → ℕ
-lender s = s.words.ghost_name
+abbrev pub sweep_lender : {R : Type 0} → Sweep R → ℕ
+sweep_lender s = s.words.ghost_name
 
 -- the way in which the sweep writes
 abbrev pub way_of : {R : Type 0} → Sweep R → Way

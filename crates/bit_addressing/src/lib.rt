@@ -14,8 +14,8 @@ pub use bit_addressing_memory::{
 };
 pub use bit_addressing_order::{
     AllOrNone, BitEnd, BitIdx, BitIdxError, BitMask, BitOrder, BitPos, BitRegister, BitSel,
-    EndRange, IndexRange, Limits, LocalBits, Lsb0, Msb0, OrderCandidate, Positions, SelectorRange,
-    disjoint_masks, mask_from_at, mem, select_from_at,
+    EndRange, IndexRange, Limits, LocalBits, Lsb0, Msb0, OrderCandidate, Place, PlaceRange,
+    Positions, SelectorRange, disjoint_masks, mask_from_at, mem, select_from_at,
 };
 pub use bit_addressing_span::{
     BitSpan, BitSpanError, Domain, DomainMut, DomainWords, MAX_BITS, PartialElement,

@@ -4,7 +4,7 @@ ghost use Rattle.std.specs.Prelude.{◌≡◌, ◌+◌, ◌*◌, ◌^◌, ◌<�
 ghost use Rattle.bit_addressing_memory.specs.Memory.{read_by, entry, touched};
 ghost use Rattle.bit_addressing.specs.Moves.{Moves, changed};
 ghost use Rattle.bit_addressing.specs.MoveSteps.{IsGathered};
-ghost use Rattle.bit_addressing.specs.Sweep.{IsFresh, SameButReads, lender, way_of, words_of, writes_of};
+ghost use Rattle.bit_addressing.specs.Sweep.{IsFresh, SameButReads, sweep_lender, way_of, sweep_words, writes_of};
 ghost use Rattle.bit_addressing.specs.Ways.{way_for};
 
 use crate::sweep::{Sweep, Way};
@@ -26,20 +26,20 @@ pub fn move_in<R: BitRegister, O: BitOrder<R>>(
     len: usize,
 )
     requires fresh { IsFresh sweep.old (way_for source target) }
-    requires source_within { source + len ≤ length (words_of sweep.old) * R.BITS }
-    requires target_within { target + len ≤ length (words_of sweep.old) * R.BITS }
+    requires source_within { source + len ≤ length (sweep_words sweep.old) * R.BITS }
+    requires target_within { target + len ≤ length (sweep_words sweep.old) * R.BITS }
     requires source_ends { source + len < 2 ^ 64 }
     requires target_ends { target + len < 2 ^ 64 }
-    ensures moved { Moves (read_by R.BitRegister O.position) (words_of sweep.old) (words_of sweep.new)
+    ensures moved { Moves (read_by R.BitRegister O.position) (sweep_words sweep.old) (sweep_words sweep.new)
         source target len }
 
     // Its writes: at most the words that the target touches, at least the words that became other ones.
     ensures writes { writes_of sweep.new ≤ touched R.BITS target len }
-    ensures changed { changed R.number (words_of sweep.old) (words_of sweep.new) ≤ writes_of sweep.new }
+    ensures changed { changed R.number (sweep_words sweep.old) (sweep_words sweep.new) ≤ writes_of sweep.new }
 
     // What stays.
     ensures way { way_of sweep.new ≡ way_of sweep.old }
-    ensures lender { lender sweep.new ≡ lender sweep.old }
+    ensures lender { sweep_lender sweep.new ≡ sweep_lender sweep.old }
 {
     if len == 0 {
         return;
@@ -71,16 +71,16 @@ fn gathered<R: BitRegister, O: BitOrder<R>>(
     target: usize,
     len: usize,
 ) -> R
-    requires within { k < length (words_of sweep.old) }
-    requires source_within { source + len ≤ length (words_of sweep.old) * R.BITS }
+    requires within { k < length (sweep_words sweep.old) }
+    requires source_within { source + len ≤ length (sweep_words sweep.old) * R.BITS }
     requires source_ends { source + len < 2 ^ 64 }
     requires target_ends { target + len < 2 ^ 64 }
     requires begins { k * R.BITS < target + len }
     requires ends { target < k * R.BITS + R.BITS }
-    ensures digits { IsGathered (read_by R.BitRegister O.position) (words_of sweep.old)
+    ensures digits { IsGathered (read_by R.BitRegister O.position) (sweep_words sweep.old)
         k source target len result R.BITS }
     ensures same { SameButReads sweep.old sweep.new }
-    ensures lender { lender sweep.new ≡ lender sweep.old }
+    ensures lender { sweep_lender sweep.new ≡ sweep_lender sweep.old }
 {
     let bits = bits_of::<R>();
     let start = k * bits;
@@ -96,10 +96,10 @@ fn gathered<R: BitRegister, O: BitOrder<R>>(
 
 // The bit of the words at a place.
 fn bit_at_place<R: BitRegister, O: BitOrder<R>>(sweep: &mut Sweep<'_, R>, place: usize) -> bool
-    requires { place < length (words_of sweep.old) * R.BITS }
-    ensures value { result ≡ entry (read_by R.BitRegister O.position) (words_of sweep.old) place }
+    requires { place < length (sweep_words sweep.old) * R.BITS }
+    ensures value { result ≡ entry (read_by R.BitRegister O.position) (sweep_words sweep.old) place }
     ensures same { SameButReads sweep.old sweep.new }
-    ensures lender { lender sweep.new ≡ lender sweep.old }
+    ensures lender { sweep_lender sweep.new ≡ sweep_lender sweep.old }
 {
     let bits = bits_of::<R>();
     let index = BitIdx::new_unchecked((place % bits) as u8);

@@ -13,10 +13,7 @@ use bit_addressing_span::BitSpan;
 
 /// Whether no bit is one of two spans'. Spans may share a word, and a span without bits shares none.
 pub fn disjoint<R: BitRegister, O: BitOrder<R>>(spans: &[BitSpan<R, O>]) -> bool
-    ensures disjoint { IsTrue result ↔ AreDisjoint R.BITS spans.now }
-
-    // What the spans' type says.
-    ensures heads { HeadsBelow R.BITS spans.now }
+    ensures { IsTrue result ↔ AreDisjoint R.BITS spans.now }
 {
     for later in 0..spans.len() {
         for earlier in 0..later {
@@ -32,8 +29,8 @@ pub fn disjoint<R: BitRegister, O: BitOrder<R>>(spans: &[BitSpan<R, O>]) -> bool
 pub fn all_fit<R: BitRegister, O: BitOrder<R>>(spans: &[BitSpan<R, O>], words: usize) -> bool
     ensures fit { IsTrue result ↔ AllFit R.BITS spans.now words }
 
-    // What the spans' type says.
-    ensures heads { HeadsBelow R.BITS spans.now }
+    // What the spans' type says, told where each was looked at.
+    ensures heads { IsTrue result → HeadsBelow R.BITS spans.now }
 {
     for k in 0..spans.len() {
         if !spans[k].fits(words) {
@@ -57,9 +54,6 @@ pub fn run<R: BitRegister, O: BitOrder<R>>(
     requires fit { AllFit R.BITS spans.now (length memory.old) }
     requires places { length replies.old ≡ length commands.now }
     ensures run { Runs (read_by R.BitRegister O.position) memory.old memory.new spans.now commands.now replies.new }
-
-    // What the spans' type says.
-    ensures heads { HeadsBelow R.BITS spans.now }
 {
     for k in 0..commands.len() {
         let (number, command) = commands[k];

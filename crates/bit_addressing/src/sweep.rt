@@ -40,16 +40,16 @@ pub struct Sweep<'a, R> {
 }
 
 impl<'a, R: Copy> Sweep<'a, R> {
-    ghost use Rattle.bit_addressing.specs.Sweep.{IsFresh, SameButReads, counted_up, lender};
-    ghost use Rattle.bit_addressing.specs.Sweep.{edge_of, reads_of, way_of, words_of, writes_of};
+    ghost use Rattle.bit_addressing.specs.Sweep.{IsFresh, SameButReads, counted_up, sweep_lender};
+    ghost use Rattle.bit_addressing.specs.Sweep.{edge_of, reads_of, way_of, sweep_words, writes_of};
 
     /// A fresh sweep over these words: nothing is read or written yet.
     pub fn new(words: &'a mut [R], way: Way) -> Sweep<'a, R>
-        ensures words { words_of result ≡ words.old }
+        ensures words { sweep_words result ≡ words.old }
         ensures fresh { IsFresh result way }
 
         // The sweep stands for the caller's slice.
-        ensures lender { lender result ≡ words.entry.ghost_name }
+        ensures lender { sweep_lender result ≡ words.entry.ghost_name }
     {
         let edge = match way {
             Way::Up => 0,
@@ -66,11 +66,11 @@ impl<'a, R: Copy> Sweep<'a, R> {
 
     /// The word `k`, which is one of the words. The read is counted.
     pub fn read(&mut self, k: usize) -> R
-        requires { k < length (words_of self.old) }
-        ensures value { result ≡ slice_index_or (words_of self.old) k result }
+        requires { k < length (sweep_words self.old) }
+        ensures value { result ≡ slice_index_or (sweep_words self.old) k result }
         ensures reads { reads_of self.new ≡ counted_up (reads_of self.old) }
         ensures same { SameButReads self.old self.new }
-        ensures lender { lender self.new ≡ lender self.old }
+        ensures lender { sweep_lender self.new ≡ sweep_lender self.old }
     {
         if self.reads < u64::MAX {
             self.reads += 1;
@@ -81,16 +81,16 @@ impl<'a, R: Copy> Sweep<'a, R> {
     /// Writes the word `k`, which is one of the words and strictly past the last written one in the
     /// sweep's way. The write is counted.
     pub fn put(&mut self, k: usize, word: R)
-        requires within { k < length (words_of self.old) }
+        requires within { k < length (sweep_words self.old) }
         requires past { IsPast (way_of self.old) (edge_of self.old) k }
-        ensures words { words_of self.new ≡ slice_set (words_of self.old) k word }
+        ensures words { sweep_words self.new ≡ slice_set (sweep_words self.old) k word }
         ensures edge { edge_of self.new ≡ edge_after (way_of self.old) k }
         ensures writes { writes_of self.new ≡ writes_of self.old + 1 }
 
         // What stays.
         ensures way { way_of self.new ≡ way_of self.old }
         ensures reads { reads_of self.new ≡ reads_of self.old }
-        ensures lender { lender self.new ≡ lender self.old }
+        ensures lender { sweep_lender self.new ≡ sweep_lender self.old }
     {
         self.edge = match self.way {
             Way::Up => k + 1,

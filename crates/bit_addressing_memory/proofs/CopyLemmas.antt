@@ -17,7 +17,8 @@ copies_none reading words its other source target = record {
 }
 
 -- one more bit
-pub copies_more : {R Q : Type 0} (reading : Reading R) (before now after : List R) (its : Reading Q) (other : List Q) (source target k p : ℕ) (bit : Bool)
+pub copies_more : {R Q : Type 0} (reading : Reading R) (before now after : List R) (its : Reading Q) (other : List Q)
+    (source target k p : ℕ) (bit : Bool)
     → p ≡ target + k → bit ≡ entry its other (source + k)
     → Copies reading before now its other source target k → Writes reading now after p bit
     → Copies reading before after its other source target (k + 1)

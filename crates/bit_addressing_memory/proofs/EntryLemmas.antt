@@ -20,7 +20,8 @@ pub entry_at : {R : Type 0} (reading : Reading R) (words : List R) (j i : ℕ) (
     → j < length words → entry reading words (j * reading.bits + i) ≡ reading.digit (get_or words j d) i
 unfolding entry
 entry_at reading words j i d low h =
-    rw (div-mul-add j reading.bits i low, mod-mul-add j reading.bits i low) (get_or-map (λ w. reading.digit w i) words j d false h)
+    rw (div-mul-add j reading.bits i low, mod-mul-add j reading.bits i low)
+    (get_or-map (λ w. reading.digit w i) words j d false h)
 
 -- a word read at j has the entries of that word
 pub entry_read : {R : Type 0} (reading : Reading R) (words : List R) (j i : ℕ) (x : R) → i < reading.bits
@@ -29,7 +30,8 @@ entry_read reading words j i x low h e = ap (λ w. reading.digit w i) e ∙ sym 
 
 -- the same at a place p, which is index i of word j
 pub entry_read_place : {R : Type 0} (reading : Reading R) (words : List R) (p j i : ℕ) (x : R) → 0 < reading.bits
-    → p < length words * reading.bits → j ≡ p / reading.bits → i ≡ p % reading.bits → x ≡ get_or words j x → reading.digit x i ≡ entry reading words p
+    → p < length words * reading.bits → j ≡ p / reading.bits → i ≡ p % reading.bits → x ≡ get_or words j x
+    → reading.digit x i ≡ entry reading words p
 entry_read_place reading words p j i x some h is_word is_index e =
     let within : j < length words = rw is_word (div_below p reading.bits (length words) some h) in
     let low : i < reading.bits = rw is_index (mod_below p reading.bits some) in
@@ -51,7 +53,8 @@ unfolding entry
 entry-set_same reading words j w k e h =
     let column = λ (v : _). reading.digit v (k % reading.bits) in
     rw (e, map-set column words j w)
-    (get_or-set_same (map column words) j (reading.digit w (k % reading.bits)) false (omega (arith, length-map words column)))
+    (get_or-set_same (map column words) j (reading.digit w (k % reading.bits)) false
+    (omega (arith, length-map words column)))
 
 -- and leaves the entries of every other word
 pub entry-set_other : {R : Type 0} (reading : Reading R) (words : List R) (j : ℕ) (w : R) (k : ℕ)
@@ -59,7 +62,8 @@ pub entry-set_other : {R : Type 0} (reading : Reading R) (words : List R) (j : �
 unfolding entry
 entry-set_other reading words j w k ne =
     rw (map-set (λ v. reading.digit v (k % reading.bits)) words j w)
-    (get_or-set_other (map (λ v. reading.digit v (k % reading.bits)) words) j (k / reading.bits) (reading.digit w (k % reading.bits)) false ne)
+    (get_or-set_other (map (λ v. reading.digit v (k % reading.bits)) words) j (k / reading.bits)
+    (reading.digit w (k % reading.bits)) false ne)
 
 -- a word with the digit of index i made `bit` has that bit there
 pub indexed_same : {R : Type 0} (number : R → ℕ) (at : ℕ → ℕ) (x w : R) (i : ℕ) (bit : Bool)

@@ -4,6 +4,7 @@ pub mod MemoryLemmas
 pub mod OverwriteLemmas
 pub mod PlaceLemmas
 pub mod PointerLemmas
+pub mod PointerRangeLemmas
 pub mod WindowLemmas
 -- the lemmas of orders
 pub use Rattle.bit_addressing_order.proofs.CallerLemmas as OrderCallerLemmas

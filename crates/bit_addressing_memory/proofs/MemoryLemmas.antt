@@ -49,11 +49,14 @@ entry_rest : {R : Type 0} (reading : Reading R) (x : R) (xs : List R) (k : ℕ) 
 unfolding entry
 entry_rest reading x xs k some h =
     let m : ℕ = k - reading.bits in
-    let is : (m / reading.bits + 1) * reading.bits + m % reading.bits ≡ k = omega (arith, div-add-mod' m reading.bits) in
+    let is : (m / reading.bits + 1) * reading.bits + m % reading.bits ≡ k = omega (arith, div-add-mod' m reading.bits)
+    in
     let low : m % reading.bits < reading.bits = mod_below m reading.bits some in
     let row : k / reading.bits ≡ suc (m / reading.bits) =
-    ap (λ q. q / reading.bits) (sym is) ∙ div-mul-add (m / reading.bits + 1) reading.bits (m % reading.bits) low ∙ add-one (m / reading.bits) in
-    let col : k % reading.bits ≡ m % reading.bits = ap (λ q. q % reading.bits) (sym is) ∙ mod-mul-add (m / reading.bits + 1) reading.bits (m % reading.bits) low in
+    ap (λ q. q / reading.bits) (sym is) ∙ div-mul-add (m / reading.bits + 1) reading.bits (m % reading.bits) low
+    ∙ add-one (m / reading.bits) in
+    let col : k % reading.bits ≡ m % reading.bits = ap (λ q. q % reading.bits) (sym is)
+    ∙ mod-mul-add (m / reading.bits + 1) reading.bits (m % reading.bits) low in
     ap (λ q. get_or (map (λ w. reading.digit w (k % reading.bits)) (x ∷ xs)) q false) row
     ∙ ap (λ q. get_or (map (λ w. reading.digit w q) xs) (m / reading.bits) false) col
 
@@ -116,7 +119,8 @@ pub memory-take : {R : Type 0} (reading : Reading R) (words : List R) (i : ℕ) 
 memory-take reading words i h =
     let front = memory reading (take i words) in
     let rest = memory reading (drop i words) in
-    sym (ap (take (i * reading.bits)) (memory_split reading words i) ∙ take_at front rest (i * reading.bits) (front_len reading words i h))
+    sym (ap (take (i * reading.bits)) (memory_split reading words i)
+    ∙ take_at front rest (i * reading.bits) (front_len reading words i h))
 
 -- the words from i on
 pub memory-drop : {R : Type 0} (reading : Reading R) (words : List R) (i : ℕ) → i ≤ length words
@@ -124,7 +128,8 @@ pub memory-drop : {R : Type 0} (reading : Reading R) (words : List R) (i : ℕ) 
 memory-drop reading words i h =
     let front = memory reading (take i words) in
     let rest = memory reading (drop i words) in
-    sym (ap (drop (i * reading.bits)) (memory_split reading words i) ∙ drop_at front rest (i * reading.bits) (front_len reading words i h))
+    sym (ap (drop (i * reading.bits)) (memory_split reading words i)
+    ∙ drop_at front rest (i * reading.bits) (front_len reading words i h))
 
 -- n words from i on
 pub memory_part : {R : Type 0} (reading : Reading R) (words : List R) (i n : ℕ) → i + n ≤ length words
@@ -235,7 +240,8 @@ memory_written reading before after k bit some within is =
     (λ p _. entry_memory reading after p some ∙ elim (cases_eq p k) [
       | inl same ↦ rw same (written_there is ∙ sym (get_or-set_same m k bit false (omega arith)))
       | inr other ↦
-          written_others is p other ∙ sym (entry_memory reading before p some) ∙ sym (get_or-set_other m k p bit false other)
+          written_others is p other ∙ sym (entry_memory reading before p some)
+          ∙ sym (get_or-set_other m k p bit false other)
     ])
 
 -- entries overwritten are a list written over

@@ -11,9 +11,9 @@ use Rattle.std.specs.Int.RustNames.{FitsSigned, unsigned_abs}
 use Rattle.bit_addressing_order.specs.BitIdx.{IsOffset}
 use Rattle.bit_addressing_memory.proofs.PlaceLemmas.{word_within}
 use Rattle.bit_addressing_memory.specs.Pointer.{Pointer, StaysIn, whole_place}
-use Rattle.bit_addressing_memory.specs.PointerRange.{PointerRange, IsRange, bits_between, pointers-none}
-use Rattle.bit_addressing_memory.specs.PointerRange.{length-pointers, pointers_of, pointers-first}
-use Rattle.bit_addressing_memory.specs.PointerRange.{pointers-last, stays_here}
+use Rattle.bit_addressing_memory.specs.PointerRange.{PointerRange, IsRange, bits_between, pointers_of}
+use Rattle.bit_addressing_memory.proofs.PointerRangeLemmas.{pointers-none, pointers-first, pointers-last, length-pointers}
+use Rattle.bit_addressing_memory.proofs.PointerRangeLemmas.{stays_here}
 
 -- words times bits, of a sum of word numbers
 pub times_sum : (w v : ℤ) (b : ℕ) → (w +ℤ v) *ℤ pos b ≡ (w *ℤ pos b) +ℤ (v *ℤ pos b)

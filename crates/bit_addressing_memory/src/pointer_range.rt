@@ -26,7 +26,8 @@ pub struct BitPtrRange<R: BitRegister, O: BitOrder<R>> {
 
 impl<R: BitRegister, O: BitOrder<R>> Model for BitPtrRange<R, O> {
     ghost use Rattle.std.proofs.Common.{ap};
-    ghost use Rattle.bit_addressing_memory.specs.PointerRange.{PointerRange, IsRange, bits_between, end_of, end_is};
+    ghost use Rattle.bit_addressing_memory.specs.PointerRange.{PointerRange, IsRange, bits_between, end_of};
+    ghost use Rattle.bit_addressing_memory.specs.PointerRangeLaws.{end_is};
 
     ghost Value = { PointerRange };
 
@@ -74,7 +75,7 @@ impl<R: BitRegister, O: BitOrder<R>> Default for BitPtrRange<R, O> {
 // Make and read.
 impl<R: BitRegister, O: BitOrder<R>> BitPtrRange<R, O> {
     /// The pointers of a range whose start is not past its end, and whose bits an `isize` counts.
-    #[tactic(auto, using(crate::specs::PointerRange::stays_here))]
+    #[tactic(auto, using(crate::proofs::PointerRangeLemmas::stays_here))]
     pub fn from_range(range: Range<BitPtr<R, O>>) -> BitPtrRange<R, O>
         requires order { whole_place R.BITS range.start ≤ℤ whole_place R.BITS range.end }
         requires fits { FitsSigned w64 (whole_place R.BITS range.end -ℤ whole_place R.BITS range.start) }
@@ -110,15 +111,14 @@ impl<R: BitRegister, O: BitOrder<R>> BitPtrRange<R, O> {
     pub fn start(&self) -> BitPtr<R, O>
         ensures { result ≡ self.now.start }
     {
-        self.start
+        self.ends().0
     }
 
     /// The pointer before which it ends.
-    #[tactic(auto, using(crate::specs::PointerRange::end_seen))]
     pub fn end(&self) -> BitPtr<R, O>
         ensures { result ≡ end_of R.BITS self.now }
     {
-        self.end
+        self.ends().1
     }
 
     /// Whether it has no pointer.
@@ -126,6 +126,15 @@ impl<R: BitRegister, O: BitOrder<R>> BitPtrRange<R, O> {
         ensures { IsTrue result ↔ (self.now.len ≡ 0) }
     {
         self.bits_left() == 0
+    }
+
+    // The pointer that the range begins with, and the one before which it ends.
+    #[tactic(auto, using(crate::proofs::PointerRangeLemmas::end_seen))]
+    fn ends(&self) -> (BitPtr<R, O>, BitPtr<R, O>)
+        ensures start { result.0 ≡ self.now.start }
+        ensures end { result.1 ≡ end_of R.BITS self.now }
+    {
+        (self.start, self.end)
     }
 
     // How many pointers it has.
@@ -137,7 +146,7 @@ impl<R: BitRegister, O: BitOrder<R>> BitPtrRange<R, O> {
     }
 }
 
-#[tactic(auto, using(crate::proofs::PointerLemmas::steps_from_front, crate::specs::PointerRange::ends_of_pointers))]
+#[tactic(auto, using(crate::proofs::PointerLemmas::steps_from_front, crate::proofs::PointerRangeLemmas::ends_of_pointers))]
 impl<R: BitRegister, O: BitOrder<R>> Iterator for BitPtrRange<R, O> {
     type Item = BitPtr<R, O>;
 
@@ -177,7 +186,7 @@ impl<R: BitRegister, O: BitOrder<R>> DoubleEndedIterator for BitPtrRange<R, O> {
     }
 }
 
-#[tactic(auto, using(crate::specs::PointerRange::ends_of_pointers))]
+#[tactic(auto, using(crate::proofs::PointerRangeLemmas::ends_of_pointers))]
 impl<R: BitRegister, O: BitOrder<R>> ExactSizeIterator for BitPtrRange<R, O> {
     fn len(&self) -> usize {
         self.bits_left()
@@ -186,7 +195,7 @@ impl<R: BitRegister, O: BitOrder<R>> ExactSizeIterator for BitPtrRange<R, O> {
 
 impl<R: BitRegister, O: BitOrder<R>> FusedIterator for BitPtrRange<R, O> {}
 
-#[tactic(auto, using(crate::specs::PointerRange::end_seen))]
+#[tactic(auto, using(crate::proofs::PointerRangeLemmas::end_seen))]
 impl<R: BitRegister, O: BitOrder<R>> RangeBounds<BitPtr<R, O>> for BitPtrRange<R, O> {
     ghost use Rattle.std.specs.Prelude.{⊤};
     ghost use Rattle.std.specs.declared.ops.Bound.TheVariants.{Included, Excluded};

@@ -1,7 +1,7 @@
 //! Entries, copies and swaps, by places and by pointers, against edits of a plain list of bits.
 
 ghost use Rattle.std.specs.Prelude.{◌≡◌, ◌+◌, ◌*◌, ◌^◌, ◌<◌, ◌≤◌, length, pos, ◌≤ℤ◌};
-ghost use Rattle.bit_addressing_memory.specs.Pointer.{memory_place};
+ghost use Rattle.bit_addressing.specs.Pointer.{memory_place};
 
 use crate::plain::{fill, listed};
 use bit_addressing::{

@@ -1,7 +1,7 @@
 //! Pointers moved and ranges of pointers, against places counted from word -100 on.
 
 ghost use Rattle.std.specs.Prelude.{◌<◌, ◌≤◌, pos, ◌+ℤ◌, ◌-ℤ◌, ◌*ℤ◌};
-ghost use Rattle.bit_addressing_memory.specs.Pointer.{StaysIn};
+ghost use Rattle.bit_addressing.specs.Pointer.{StaysIn};
 
 use bit_addressing::{BitIdx, BitOrder, BitPtr, BitPtrRange, BitRegister, Limits, Lsb0, Msb0};
 use bit_addressing_samples::FifthStep;
@@ -204,4 +204,48 @@ fn ranges_are_counted(rt: HostRuntime) -> Result<(), Fail> {
     assert!(rt; range == range.clone()?);
     assert!(rt; gives(range, 798, 809, 11));
     Ok(())
+}
+
+// Whether so many bits on from bit 0 of a word of 8 lie in words that an `isize` counts, by whole numbers.
+fn stays(word: isize, index: u8, by: i128) -> bool
+    requires { index < 8 }
+{
+    let word = word as i128 + (index as i128 + by).div_euclid(8);
+    word >= isize::MIN as i128 && word <= isize::MAX as i128
+}
+
+#[test]
+fn moves_are_tested(rt: HostRuntime) {
+    for word in [isize::MIN, isize::MIN + 1, -1, 0, isize::MAX - 1, isize::MAX] {
+        for index in 0..8u8 {
+            let pointer = BitPtr::<u8, Msb0>::new(word, BitIdx::new_unchecked(index));
+            for count in 0..18usize {
+                let on = count as i128;
+                assert!(rt; pointer.can_add(count) == stays(word, index, on), "{word} {index} {count}");
+                assert!(rt; pointer.can_sub(count) == stays(word, index, -on), "{word} {index} {count}");
+                assert!(rt; pointer.can_offset(count as isize) == stays(word, index, on), "{word} {index} {count}");
+            }
+        }
+    }
+    let pointer = BitPtr::<u8, Lsb0>::new(0, BitIdx::MIN);
+    assert!(rt; pointer.can_add(usize::MAX) && pointer.can_sub(usize::MAX));
+}
+
+#[test]
+fn places_in_a_memory_are_tested(rt: HostRuntime) {
+    let pointer = BitPtr::<u8, Lsb0>::new(1, BitIdx::new_unchecked(3));
+    assert!(rt; pointer.lies_in(13, 3));
+    assert!(rt; !pointer.lies_in(14, 3));
+    assert!(rt; !pointer.lies_in(1, 1));
+    let before = BitPtr::<u8, Lsb0>::new(-1, BitIdx::MAX);
+    assert!(rt; !before.lies_in(1, 3));
+    assert!(rt; before.lies_in(0, 0));
+}
+
+#[test]
+fn no_bits_are_copied_anywhere(rt: HostRuntime) {
+    let mut words = [0x12u8, 0x34];
+    let before = BitPtr::<u8, Lsb0>::new(-3, BitIdx::MAX);
+    before.copy_within(&mut words, before, 0);
+    assert!(rt; words == [0x12, 0x34]);
 }

@@ -5,7 +5,7 @@ ghost use Rattle.std.specs.Prelude.{◌≡◌, ◌+◌, ◌*◌, ◌^◌, ◌<�
 ghost use Rattle.bit_addressing.specs.Memory.{entry, read_by, memory, piece, touched, with_piece};
 ghost use Rattle.bit_addressing.specs.Moves.{Moves, changed};
 ghost use Rattle.bit_addressing.specs.Span.{span_place};
-ghost use Rattle.bit_addressing.specs.Runs.{AllFit, AreDisjoint, span_at};
+ghost use Rattle.bit_addressing.specs.Runs.{AllFit, AreDisjoint, HeadsBelow, span_at};
 
 use bit_addressing::{
     BitOrder, BitRegister, BitSpan, SpanCommand, SpanReply, Sweep, Way, move_in, run, way_for,
@@ -87,6 +87,7 @@ pub fn set_and_read<R: BitRegister, O: BitOrder<R>>(
 )
     requires disjoint { AreDisjoint R.BITS spans.now }
     requires fit { AllFit R.BITS spans.now (length memory.old) }
+    requires heads { HeadsBelow R.BITS spans.now }
     requires two { length spans.now ≡ 2 }
     requires bits { (0 < (span_at spans.now 0).len) × (0 < (span_at spans.now 1).len) }
     requires commands { commands.now ≡ (0, SpanCommand.Replace 0 true) ∷ (1, SpanCommand.Read 0) ∷ [] }
@@ -100,14 +101,22 @@ pub fn set_and_read<R: BitRegister, O: BitOrder<R>>(
     run(memory, spans, commands, replies);
 }
 
-/// Writes one word through a sweep over a part of the caller's words. The part is lent and given back in here, and the
-/// whole is known afterwards.
+/// Writes one word through a sweep.
+pub fn put_one<R: BitRegister>(words: &mut [R], k: usize, word: R)
+    requires { k < length words.old }
+    ensures { words.new ≡ slice_set words.old k word }
+{
+    let mut sweep = Sweep::new(words, Way::Up);
+    sweep.put(k, word);
+}
+
+/// Writes one word through a sweep over a part of the caller's words. The part is handed to a function that makes the
+/// sweep, and the whole is known afterwards.
 pub fn put_in_part<R: BitRegister>(words: &mut [R], first: usize, count: usize, k: usize, word: R)
     requires within { first + count ≤ length words.old }
     requires inside { k < count }
+    requires ends { first + count < 2 ^ 64 }
     ensures { words.new ≡ slice_set words.old (first + k) word }
 {
-    let part = &mut words[first..first + count];
-    let mut sweep = Sweep::new(part, Way::Up);
-    sweep.put(k, word);
+    put_one(&mut words[first..first + count], k, word);
 }

@@ -9,7 +9,7 @@ ghost use Rattle.bit_addressing.specs.Parts.{part_from, part_place, part_count};
 use bit_addressing::{BitOrder, BitRegister, BitSpan, PartialElementMut};
 
 /// What is loaded after a store is the value, masked.
-#[tactic(auto, using(bit_addressing::proofs::PartsLemmas::stored_then_read))]
+#[tactic(auto, using(bit_addressing::proofs::CallerLemmas::parts))]
 pub fn store_and_load<'a, R: BitRegister, O: BitOrder<R>>(
     part: &mut PartialElementMut<'a, R, O>,
     value: R,
@@ -21,7 +21,7 @@ pub fn store_and_load<'a, R: BitRegister, O: BitOrder<R>>(
 }
 
 /// What a store answered restores the word, stored again.
-#[tactic(auto, using(bit_addressing::proofs::PartsLemmas::stored_back))]
+#[tactic(auto, using(bit_addressing::proofs::CallerLemmas::parts))]
 pub fn store_and_restore<'a, R: BitRegister, O: BitOrder<R>>(
     part: &mut PartialElementMut<'a, R, O>,
     value: R,

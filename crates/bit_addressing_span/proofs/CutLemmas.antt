@@ -37,12 +37,15 @@ bits_at_edge reading words last k upto from len tail is_last within edge place i
     let none : 0 * reading.bits ≡ from = omega arith in
     let whole : memory reading (take last words) ≡ piece m from (last * reading.bits) =
     memory_part reading words 0 last (omega arith) ∙ ap (λ p. piece m p (last * reading.bits)) none in
-    rw (is_last, whole, is_tail) (piece_join m from (last * reading.bits) (last * reading.bits) upto len (omega arith) (omega arith))
+    rw (is_last, whole, is_tail) (piece_join m from (last * reading.bits) (last * reading.bits) upto len (omega arith)
+    (omega arith))
 
 -- a part before the whole words, too
 pub bits_inside : {R : Type 0} (reading : Reading R) (words : List R) (last upto from len : ℕ)
-    (head tail : List Bool) → 0 < last → last ≤ length words → from < reading.bits → last * reading.bits + upto ≡ from + len
-    → head ≡ piece (memory reading words) from (reading.bits - from) → tail ≡ piece (memory reading words) (last * reading.bits) upto
+    (head tail : List Bool) → 0 < last → last ≤ length words → from < reading.bits
+    → last * reading.bits + upto ≡ from + len
+    → head ≡ piece (memory reading words) from (reading.bits - from)
+    → tail ≡ piece (memory reading words) (last * reading.bits) upto
     → head ++ memory reading (take (last - 1) (drop 1 words)) ++ tail ≡ piece (memory reading words) from len
 bits_inside reading words last upto from len head tail some within low place is_head is_tail =
     let m = memory reading words in

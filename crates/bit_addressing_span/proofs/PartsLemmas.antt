@@ -45,8 +45,10 @@ pub stores_part : {R : Type 0} (reading : Reading R) (words : List R) (j : ℕ) 
     → IsStored reading x w from upto now
     → Overwrites reading words (set words j w) (j * reading.bits + from) (upto - from) (λ k. now (from + k))
 stores_part reading words j x w from upto now within e order short some is =
-    let same = λ (p : ℕ) (row : p / reading.bits ≡ j) (kept : reading.digit w (p % reading.bits) ≡ reading.digit x (p % reading.bits)).
-    let place : j * reading.bits + p % reading.bits ≡ p = ap (λ q. q * reading.bits + p % reading.bits) (sym row) ∙ div-add-mod' p reading.bits in
+    let same = λ (p : ℕ) (row : p / reading.bits ≡ j)
+    (kept : reading.digit w (p % reading.bits) ≡ reading.digit x (p % reading.bits)).
+    let place : j * reading.bits + p % reading.bits ≡ p = ap (λ q. q * reading.bits + p % reading.bits) (sym row)
+    ∙ div-add-mod' p reading.bits in
     entry-set_same reading words j w p row within
     ∙ kept
     ∙ entry_read reading words j (p % reading.bits) x (mod_below p reading.bits some) within e
@@ -62,13 +64,15 @@ stores_part reading words j x w from upto now within e order short some is =
           ∙ is.inside i (omega arith) (omega arith) low;
       below = λ p before. elim (cases_eq (p / reading.bits) j) [
         | inl row ↦
-            let place : j * reading.bits + p % reading.bits ≡ p = ap (λ q. q * reading.bits + p % reading.bits) (sym row) ∙ div-add-mod' p reading.bits in
+            let place : j * reading.bits + p % reading.bits ≡ p = ap (λ q. q * reading.bits + p % reading.bits)
+            (sym row) ∙ div-add-mod' p reading.bits in
             same p row (is.below (p % reading.bits) (omega arith) (mod_below p reading.bits some))
         | inr other ↦ entry-set_other reading words j w p other
       ];
       above = λ p after. elim (cases_eq (p / reading.bits) j) [
         | inl row ↦
-            let place : j * reading.bits + p % reading.bits ≡ p = ap (λ q. q * reading.bits + p % reading.bits) (sym row) ∙ div-add-mod' p reading.bits in
+            let place : j * reading.bits + p % reading.bits ≡ p = ap (λ q. q * reading.bits + p % reading.bits)
+            (sym row) ∙ div-add-mod' p reading.bits in
             same p row (is.above (p % reading.bits) (omega arith) (mod_below p reading.bits some))
         | inr other ↦ entry-set_other reading words j w p other
       ];
@@ -88,7 +92,8 @@ stores_as reading before after place n x y is same = record {
 
 -- a word without digits stored in a part
 pub stores_none : {R : Type 0} (reading : Reading R) (before after : List R) (place n from : ℕ) (value : R)
-    → Overwrites reading before after place n (λ i. reading.digit value (from + i)) → ((i : ℕ) → i < reading.bits → reading.digit value i ≡ false)
+    → Overwrites reading before after place n (λ i. reading.digit value (from + i))
+    → ((i : ℕ) → i < reading.bits → reading.digit value i ≡ false)
     → from + n ≤ reading.bits → Overwrites reading before after place n (λ _. false)
 stores_none reading before after place n from value is none within =
     stores_as reading before after place n (λ i. reading.digit value (from + i)) (λ _. false) is
@@ -96,7 +101,8 @@ stores_none reading before after place n from value is none within =
 
 -- a word with each digit stored in a part
 pub stores_each : {R : Type 0} (reading : Reading R) (before after : List R) (place n from : ℕ) (value : R)
-    → Overwrites reading before after place n (λ i. reading.digit value (from + i)) → ((i : ℕ) → i < reading.bits → reading.digit value i ≡ true)
+    → Overwrites reading before after place n (λ i. reading.digit value (from + i))
+    → ((i : ℕ) → i < reading.bits → reading.digit value i ≡ true)
     → from + n ≤ reading.bits → Overwrites reading before after place n (λ _. true)
 stores_each reading before after place n from value is each within =
     stores_as reading before after place n (λ i. reading.digit value (from + i)) (λ _. true) is
@@ -105,7 +111,8 @@ stores_each reading before after place n from value is each within =
 -- the word j flipped and stored in a part of itself
 pub stores_flipped : {R : Type 0} (reading : Reading R) (before after : List R) (place n from j : ℕ)
     (x value : R) → Overwrites reading before after place n (λ i. reading.digit value (from + i))
-    → ((i : ℕ) → i < reading.bits → reading.digit value i ≡ not (reading.digit x i)) → x ≡ get_or before j x → j < length before
+    → ((i : ℕ) → i < reading.bits → reading.digit value i ≡ not (reading.digit x i)) → x ≡ get_or before j x
+    → j < length before
     → from + n ≤ reading.bits → place ≡ j * reading.bits + from
     → Overwrites reading before after place n (λ i. not (entry reading before (place + i)))
 stores_flipped reading before after place n from j x value is turned e inside within at =
@@ -129,7 +136,8 @@ pub stored_then_read : {R : Type 0} (reading : Reading R) (before after : List R
     (from upto from' upto' n : ℕ) → from' ≡ from → upto' ≡ upto → n ≡ upto - from
     → Overwrites reading before after from n (λ i. reading.digit value (from + i))
     → ReadsPart reading after 0 result from' upto' → IsMasked reading value result from upto
-stored_then_read reading before after value result from upto from' upto' n same_head same_tail is_n stored read = record {
+stored_then_read reading before after value result from upto from' upto' n same_head same_tail is_n stored read =
+    record {
   inside = λ i low high small.
       let k : ℕ = i - from in
       let place : 0 * reading.bits + i ≡ from + k = omega arith in

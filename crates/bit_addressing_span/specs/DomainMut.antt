@@ -20,6 +20,11 @@ domain_lender d = d.words
 abbrev pub domain_span : {R O : Type 0} {g : _} → DomainMut R O g → Extent
 domain_span d = record { word = d.word; head = d.head; len = d.len }
 
+-- the same span, of words lent by the same reference
+pub record IsSameDomain {R O : Type 0} {g : _} (old new : DomainMut R O g) : Type 0 where
+  pub lender : (domain_lender new).ghost_name ≡ (domain_lender old).ghost_name
+  pub span : domain_span new ≡ domain_span old
+
 -- the text is that of the span's masked words: of the domain that is the span in this memory, cut at the borders
 -- of words, its numbers each written by `form`
 pub record IsTextOf {R O : Type 0} {g : _} (reading : Reading R) (number : R → ℕ)

@@ -24,6 +24,7 @@ part_count b span k = part_upto b span k - part_from b span k
 -- the word has the entries of the memory's word j at the indices from one up to before another, and false at each other
 pub record ReadsPart {R : Type 0} (reading : Reading R) (words : List R) (j : ℕ) (word : R) (from upto : ℕ)
     : Type 0 where
-  pub inside : (i : ℕ) → from ≤ i → i < upto → i < reading.bits → reading.digit word i ≡ entry reading words (j * reading.bits + i)
+  pub inside : (i : ℕ) → from ≤ i → i < upto → i < reading.bits
+      → reading.digit word i ≡ entry reading words (j * reading.bits + i)
   pub below : (i : ℕ) → i < from → i < reading.bits → reading.digit word i ≡ false
   pub above : (i : ℕ) → upto ≤ i → i < reading.bits → reading.digit word i ≡ false

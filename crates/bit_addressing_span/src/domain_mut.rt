@@ -147,14 +147,13 @@ impl<'a, R: BitRegister, O: BitOrder<R>> DomainMut<'a, R, O> {
 
 // Write.
 impl<'a, R: BitRegister, O: BitOrder<R>> DomainMut<'a, R, O> {
-    ghost use Rattle.bit_addressing_span.specs.DomainMut.{domain_words, domain_lender, domain_span};
+    ghost use Rattle.bit_addressing_span.specs.DomainMut.{domain_words, domain_span, IsSameDomain};
 
     /// Writes the digits of `value` into the part of word `k` that is in the span. Answers the word masked, as
     /// it was.
     pub fn store_value(&mut self, k: usize, value: R) -> R
         requires { k < touched R.BITS (domain_span self.old).head (domain_span self.old).len }
-        ensures lender { (domain_lender self.new).ghost_name ≡ (domain_lender self.old).ghost_name }
-        ensures span { domain_span self.new ≡ domain_span self.old }
+        ensures same { IsSameDomain self.old self.new }
         ensures was { ReadsPart (read_by R.BitRegister O.position) (domain_words self.old)
             ((domain_span self.old).word + k) result
             (part_from R.BITS (domain_span self.old) k) (part_upto R.BITS (domain_span self.old) k) }
@@ -169,8 +168,7 @@ impl<'a, R: BitRegister, O: BitOrder<R>> DomainMut<'a, R, O> {
     /// Flips each bit of the part of word `k` that is in the span. Answers the word masked, as it was.
     pub fn invert(&mut self, k: usize) -> R
         requires { k < touched R.BITS (domain_span self.old).head (domain_span self.old).len }
-        ensures lender { (domain_lender self.new).ghost_name ≡ (domain_lender self.old).ghost_name }
-        ensures span { domain_span self.new ≡ domain_span self.old }
+        ensures same { IsSameDomain self.old self.new }
         ensures was { ReadsPart (read_by R.BitRegister O.position) (domain_words self.old)
             ((domain_span self.old).word + k) result
             (part_from R.BITS (domain_span self.old) k) (part_upto R.BITS (domain_span self.old) k) }
@@ -187,8 +185,7 @@ impl<'a, R: BitRegister, O: BitOrder<R>> DomainMut<'a, R, O> {
     #[tactic(auto, using(crate::proofs::PartsLemmas::stores_none))]
     pub fn clear(&mut self, k: usize) -> R
         requires { k < touched R.BITS (domain_span self.old).head (domain_span self.old).len }
-        ensures lender { (domain_lender self.new).ghost_name ≡ (domain_lender self.old).ghost_name }
-        ensures span { domain_span self.new ≡ domain_span self.old }
+        ensures same { IsSameDomain self.old self.new }
         ensures was { ReadsPart (read_by R.BitRegister O.position) (domain_words self.old)
             ((domain_span self.old).word + k) result
             (part_from R.BITS (domain_span self.old) k) (part_upto R.BITS (domain_span self.old) k) }
@@ -203,8 +200,7 @@ impl<'a, R: BitRegister, O: BitOrder<R>> DomainMut<'a, R, O> {
     #[tactic(auto, using(crate::proofs::PartsLemmas::stores_each))]
     pub fn set(&mut self, k: usize) -> R
         requires { k < touched R.BITS (domain_span self.old).head (domain_span self.old).len }
-        ensures lender { (domain_lender self.new).ghost_name ≡ (domain_lender self.old).ghost_name }
-        ensures span { domain_span self.new ≡ domain_span self.old }
+        ensures same { IsSameDomain self.old self.new }
         ensures was { ReadsPart (read_by R.BitRegister O.position) (domain_words self.old)
             ((domain_span self.old).word + k) result
             (part_from R.BITS (domain_span self.old) k) (part_upto R.BITS (domain_span self.old) k) }

@@ -106,15 +106,13 @@ impl<'a, R: BitRegister, O: BitOrder<R>> PartialElementMut<'a, R, O> {
 
 // Write.
 impl<'a, R: BitRegister, O: BitOrder<R>> PartialElementMut<'a, R, O> {
-    ghost use Rattle.bit_addressing_span.specs.PartialElementMut.{part_words, part_lender};
+    ghost use Rattle.bit_addressing_span.specs.PartialElementMut.{part_words, IsSamePart};
     ghost use Rattle.bit_addressing_span.specs.PartialElementMut.{part_head, part_tail, part_len};
 
     /// Writes the digits of `value` at the indices of the part. Answers the word masked, as it was.
     #[tactic(auto, using(crate::proofs::PartsLemmas::first_part))]
     pub fn store_value(&mut self, value: R) -> R
-        ensures lender { (part_lender self.new).ghost_name ≡ (part_lender self.old).ghost_name }
-        ensures head { part_head self.new ≡ part_head self.old }
-        ensures tail { part_tail self.new ≡ part_tail self.old }
+        ensures same { IsSamePart self.old self.new }
         ensures was { ReadsPart (read_by R.BitRegister O.position) (part_words self.old) 0 result
             (part_head self.old) (part_tail self.old) }
         ensures now { Overwrites (read_by R.BitRegister O.position) (part_words self.old) (part_words self.new)
@@ -127,9 +125,7 @@ impl<'a, R: BitRegister, O: BitOrder<R>> PartialElementMut<'a, R, O> {
 
     /// Flips each bit of the part. Answers the word masked, as it was.
     pub fn invert(&mut self) -> R
-        ensures lender { (part_lender self.new).ghost_name ≡ (part_lender self.old).ghost_name }
-        ensures head { part_head self.new ≡ part_head self.old }
-        ensures tail { part_tail self.new ≡ part_tail self.old }
+        ensures same { IsSamePart self.old self.new }
         ensures was { ReadsPart (read_by R.BitRegister O.position) (part_words self.old) 0 result
             (part_head self.old) (part_tail self.old) }
         ensures now { Overwrites (read_by R.BitRegister O.position) (part_words self.old) (part_words self.new)
@@ -143,9 +139,7 @@ impl<'a, R: BitRegister, O: BitOrder<R>> PartialElementMut<'a, R, O> {
     /// Makes each bit of the part 0. Answers the word masked, as it was.
     #[tactic(auto, using(crate::proofs::PartsLemmas::stores_none))]
     pub fn clear(&mut self) -> R
-        ensures lender { (part_lender self.new).ghost_name ≡ (part_lender self.old).ghost_name }
-        ensures head { part_head self.new ≡ part_head self.old }
-        ensures tail { part_tail self.new ≡ part_tail self.old }
+        ensures same { IsSamePart self.old self.new }
         ensures was { ReadsPart (read_by R.BitRegister O.position) (part_words self.old) 0 result
             (part_head self.old) (part_tail self.old) }
         ensures now { Overwrites (read_by R.BitRegister O.position) (part_words self.old) (part_words self.new)
@@ -158,9 +152,7 @@ impl<'a, R: BitRegister, O: BitOrder<R>> PartialElementMut<'a, R, O> {
     /// Makes each bit of the part 1. Answers the word masked, as it was.
     #[tactic(auto, using(crate::proofs::PartsLemmas::stores_each))]
     pub fn set(&mut self) -> R
-        ensures lender { (part_lender self.new).ghost_name ≡ (part_lender self.old).ghost_name }
-        ensures head { part_head self.new ≡ part_head self.old }
-        ensures tail { part_tail self.new ≡ part_tail self.old }
+        ensures same { IsSamePart self.old self.new }
         ensures was { ReadsPart (read_by R.BitRegister O.position) (part_words self.old) 0 result
             (part_head self.old) (part_tail self.old) }
         ensures now { Overwrites (read_by R.BitRegister O.position) (part_words self.old) (part_words self.new)

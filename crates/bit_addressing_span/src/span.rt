@@ -107,7 +107,10 @@ impl<R: BitRegister, O: BitOrder<R>> BitSpan<R, O> {
 
     /// Whether each word of the span is one of the first `words`.
     pub fn fits(self, words: usize) -> bool
-        ensures { IsTrue result ↔ FitsIn R.BITS self words }
+        ensures fit { IsTrue result ↔ FitsIn R.BITS self words }
+
+        // What the type says.
+        ensures index { self.head < R.BITS }
     {
         let word = self.word;
         word + words_touched::<R>(self.head, self.len) <= words

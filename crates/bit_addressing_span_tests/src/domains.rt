@@ -1,6 +1,7 @@
 //! Domains and parts of words: the rows.
 
 use bit_addressing::{BitEnd, BitIdx, BitOrder, BitSpan, Domain, Lsb0, Msb0, PartialElementMut};
+use std::slice::from_mut;
 use std::test::Fail;
 
 // The bits 4 to before 20 of three bytes, from the lowest digit on.
@@ -92,7 +93,7 @@ fn write_enclave<O: BitOrder<u8>>(word: &mut u8) -> Result<[u8; 5], Fail> {
     if head.into_inner() > tail.into_inner() {
         return Err(Fail::from("order"));
     }
-    let mut part = PartialElementMut::<u8, O>::new(word, head, tail);
+    let mut part = PartialElementMut::<u8, O>::new(from_mut(word), head, tail);
     let loaded = part.load_value();
     let stored = part.store_value(0xff);
     let flipped = part.invert();
@@ -119,7 +120,7 @@ fn enclave_is_left(rt: HostRuntime) -> Result<(), Fail> {
     let mut word = 0xf0;
     {
         let mut part = PartialElementMut::<u8, Lsb0>::new(
-            &mut word,
+            from_mut(&mut word),
             BitIdx::new_unchecked(2),
             BitEnd::new_unchecked(6),
         );
@@ -128,12 +129,52 @@ fn enclave_is_left(rt: HostRuntime) -> Result<(), Fail> {
     assert!(rt; word == 0xfc);
     {
         let mut part = PartialElementMut::<u8, Lsb0>::new(
-            &mut word,
+            from_mut(&mut word),
             BitIdx::new_unchecked(2),
             BitEnd::new_unchecked(6),
         );
         assert!(rt; part.invert() == 0x3c);
     }
     assert!(rt; word == 0xc0);
+    Ok(())
+}
+
+#[test]
+fn a_domain_gives_its_words_itself(rt: HostRuntime) -> Result<(), Fail> {
+    let memory = [0x12u8, 0x34, 0x56];
+    let span = BitSpan::<u8, Lsb0>::new(0, BitIdx::new(4)?, 16)?;
+    assert!(rt; span.fits(3));
+    let mut domain = span.domain(&memory);
+    assert!(rt; domain.is_counted());
+    assert!(rt; domain.next_back() == Some(0x06));
+    assert!(rt; domain.next() == Some(0x10));
+    assert!(rt; domain.next_back() == Some(0x34));
+    assert!(rt; domain.next().is_none() && domain.next_back().is_none());
+    Ok(())
+}
+
+#[test]
+fn the_words_of_a_domain_are_cloned(rt: HostRuntime) -> Result<(), Fail> {
+    let memory = [0x12u8, 0x34, 0x56];
+    let span = BitSpan::<u8, Msb0>::new(0, BitIdx::new(4)?, 16)?;
+    assert!(rt; span.fits(3));
+    let domain = span.domain(&memory);
+    assert!(rt; domain.is_counted());
+    let mut words = domain.words();
+    let mut copy = words.clone()?;
+    assert!(rt; words.next() == Some(0x02));
+    assert!(rt; copy.len() == 3 && words.len() == 2);
+    assert!(rt; copy.next() == Some(0x02) && copy.next_back() == Some(0x50));
+    Ok(())
+}
+
+#[test]
+fn a_span_loads_its_words(rt: HostRuntime) -> Result<(), Fail> {
+    let memory = [0x12u8, 0x34, 0x56];
+    let span = BitSpan::<u8, Lsb0>::new(0, BitIdx::new(4)?, 16)?;
+    assert!(rt; span.fits(3) && span.elements() == 3);
+    assert!(rt; span.load_value(&memory, 0) == 0x10);
+    assert!(rt; span.load_value(&memory, 1) == 0x34);
+    assert!(rt; span.load_value(&memory, 2) == 0x06);
     Ok(())
 }

@@ -2,6 +2,7 @@
 
 use bit_addressing::{BitEnd, BitIdx, BitSpan, Lsb0, PartialElementMut};
 use bit_addressing_samples::part_callers::{store_and_load, store_and_restore, write_two};
+use std::slice::from_mut;
 use std::test::Fail;
 
 #[test]
@@ -9,7 +10,7 @@ fn parts_are_restored(rt: HostRuntime) -> Result<(), Fail> {
     let mut word = 0xa5u8;
     {
         let mut part = PartialElementMut::<u8, Lsb0>::new(
-            &mut word,
+            from_mut(&mut word),
             BitIdx::new_unchecked(1),
             BitEnd::new_unchecked(7),
         );

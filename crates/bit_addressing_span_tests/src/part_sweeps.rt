@@ -6,6 +6,7 @@ use crate::plain_words::{Plain, same, same_answer, same_count};
 use bit_addressing::{BitEnd, BitIdx, BitOrder, BitRegister, Lsb0, Msb0, PartialElementMut};
 use bit_addressing_samples::{Count, FifthStep};
 use std::process::Abort;
+use std::slice::from_mut;
 use std::test::Fail;
 
 // What is done to a part.
@@ -29,7 +30,7 @@ fn part_of<'a, R: BitRegister, O: BitOrder<R>>(
     }
     let head = BitIdx::<R>::new_unchecked(from as u8);
     let tail = BitEnd::<R>::new_unchecked(upto as u8);
-    Ok(PartialElementMut::new(word, head, tail))
+    Ok(PartialElementMut::new(from_mut(word), head, tail))
 }
 
 // What a part shows, and what it gives back.
@@ -68,10 +69,10 @@ fn check_part<R: BitRegister, O: BitOrder<R>>(
             plain.masked(number, edge + from, edge + upto),
         );
         let (lent, index, len) = part.into_bitslice();
-        same(rt, "word", lent.value(), own);
+        same(rt, "word", lent[0].value(), own);
         same_count(rt, "index", index.into_inner() as usize, from);
         same_count(rt, "count", len, upto.saturating_sub(from));
-        *lent = R::from_value(other);
+        lent[0] = R::from_value(other);
     }
     same(rt, "lent word", word.value(), other);
     Ok(())

@@ -1,7 +1,7 @@
 //! Four words as a plain list of bits, by shifts alone: the second opinion of the sweeps.
 
 ghost use Rattle.std.specs.Prelude.{◌≡◌, ◌/◌, ◌%◌, ◌<◌, ◌≤◌, IfOk};
-ghost use Rattle.bit_addressing_span.specs.Span.{extent};
+ghost use Rattle.bit_addressing.specs.Span.{extent};
 
 use bit_addressing::{BitIdx, BitOrder, BitRegister, BitSpan};
 use bit_addressing_samples::Count;

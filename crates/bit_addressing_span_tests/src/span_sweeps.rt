@@ -1,7 +1,7 @@
 //! Spans and their domains, read, at every start and length against a plain list of bits.
 
 ghost use Rattle.std.specs.Prelude.{◌^◌, ◌<◌, ◌≤◌, length};
-ghost use Rattle.bit_addressing_span.specs.Domain.{domain_numbers};
+ghost use Rattle.bit_addressing.specs.Domain.{domain_numbers};
 
 use crate::plain_words::{Plain, same, same_answer, same_count, same_word, span_of};
 use bit_addressing::{BitOrder, BitRegister, Domain, Lsb0, Msb0, PartialElement};

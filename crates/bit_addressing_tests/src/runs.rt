@@ -1,7 +1,7 @@
 //! Runs over spans: the rows, a device's registers, both orders of two spans' commands, and disjoint spans.
 
 ghost use Rattle.std.specs.Prelude.{◌≡◌, IfOk};
-ghost use Rattle.bit_addressing_span.specs.Span.{extent};
+ghost use Rattle.bit_addressing.specs.Span.{extent};
 
 use bit_addressing::{
     BitIdx, BitOrder, BitRegister, BitSpan, Lsb0, Msb0, SpanCommand, SpanReply, all_fit, disjoint,

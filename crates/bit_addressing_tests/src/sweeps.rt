@@ -1,7 +1,7 @@
 //! Rows of a sweep.
 
 use bit_addressing::{Sweep, Way, way_for};
-use bit_addressing_samples::callers::put_ends;
+use bit_addressing_samples::callers::{put_ends, put_in_part};
 
 #[test]
 fn ways_of_a_move(rt: HostRuntime) {
@@ -32,4 +32,11 @@ fn a_sweep_goes_down(rt: HostRuntime) {
     let mut words = [1u32, 2, 3];
     assert!(rt; put_ends(&mut words, 7, 8) == (1, 2));
     assert!(rt; words == [7, 8, 3]);
+}
+
+#[test]
+fn a_part_is_swept(rt: HostRuntime) {
+    let mut words = [1u16, 2, 3, 4, 5];
+    put_in_part(&mut words, 1, 3, 2, 9);
+    assert!(rt; words == [1, 2, 3, 9, 5]);
 }

@@ -34,7 +34,7 @@ pub fn verify_for_type<R: BitRegister, C: OrderCandidate<R>>() -> Result<(), Ord
     }
 }
 
-// Checks every index, ascending.
+// The first fault of the indices, ascending.
 #[tactic(auto, using(crate::proofs::VerifyLemmas::indices_so_far))]
 fn verify_indices<R: BitRegister, C: OrderCandidate<R>>() -> Result<(), OrderFault<R>>
     ensures { MatchResult result
@@ -48,7 +48,7 @@ fn verify_indices<R: BitRegister, C: OrderCandidate<R>>() -> Result<(), OrderFau
     Ok(())
 }
 
-// Checks one index, where `met` has the positions of those below, and adds its position.
+// The fault of one index, or the positions met with its own: `met` has those of the indices below.
 #[tactic(auto, using(crate::proofs::VerifyLemmas::index_steps))]
 fn verify_index<R: BitRegister, C: OrderCandidate<R>>(
     index: BitIdx<R>,
@@ -72,7 +72,7 @@ fn verify_index<R: BitRegister, C: OrderCandidate<R>>(
     Ok(met.or(position))
 }
 
-// Checks the masks between each two present bounds.
+// The first fault of the masks between each two present bounds.
 #[tactic(auto, using(crate::proofs::VerifyLemmas::masks_so_far))]
 fn verify_pairs<R: BitRegister, C: OrderCandidate<R>>() -> Result<(), OrderFault<R>>
     ensures { MatchResult result
@@ -85,7 +85,7 @@ fn verify_pairs<R: BitRegister, C: OrderCandidate<R>>() -> Result<(), OrderFault
     Ok(())
 }
 
-// Checks the masks from one index up to each end.
+// The first fault of the masks from one index up to each end.
 #[tactic(auto, using(crate::proofs::VerifyLemmas::masks_so_far))]
 fn verify_row<R: BitRegister, C: OrderCandidate<R>>(from: BitIdx<R>) -> Result<(), OrderFault<R>>
     ensures { MatchResult result
@@ -101,7 +101,7 @@ fn verify_row<R: BitRegister, C: OrderCandidate<R>>(from: BitIdx<R>) -> Result<(
     Ok(())
 }
 
-// Checks the masks up to each end with no first bound.
+// The first fault of the masks up to each end with no first bound.
 #[tactic(auto, using(crate::proofs::VerifyLemmas::masks_so_far))]
 fn verify_ends<R: BitRegister, C: OrderCandidate<R>>() -> Result<(), OrderFault<R>>
     ensures { MatchResult result
@@ -117,7 +117,7 @@ fn verify_ends<R: BitRegister, C: OrderCandidate<R>>() -> Result<(), OrderFault<
     Ok(())
 }
 
-// Checks the masks from each index with no second bound.
+// The first fault of the masks from each index with no second bound.
 #[tactic(auto, using(crate::proofs::VerifyLemmas::masks_so_far))]
 fn verify_starts<R: BitRegister, C: OrderCandidate<R>>() -> Result<(), OrderFault<R>>
     ensures { MatchResult result

@@ -7,7 +7,8 @@ use Rattle.bit_addressing.proofs.runner.disjoint.Goals as goal
 pub loop-earlier-preserved : goal.loop-earlier-preserved
 loop-earlier-preserved g c =
     let spans = c.args.spans.now in
-    let one = span_read spans c.loop-earlier.earlier c.index-spans-earlier.result (omega arith) c.index-spans-earlier.is in
+    let one = span_read spans c.loop-earlier.earlier c.index-spans-earlier.result (omega arith)
+    c.index-spans-earlier.is in
     let other = span_read spans c.loop-later.later c.index-spans-later.result (omega arith) c.index-spans-later.is in
     let apart = rw (one, other) at (c.are_apart.ensures.0 c.if-not-are_apart.false) in
     λ s p before. elim (cases_eq s c.loop-earlier.earlier) [
@@ -25,7 +26,8 @@ pub returns-then-not-are_apart : goal.returns-then-not-are_apart
 unfolding AreDisjoint
 returns-then-not-are_apart g c =
     let spans = c.args.spans.now in
-    let one = span_read spans c.loop-earlier.earlier c.index-spans-earlier.result (omega arith) c.index-spans-earlier.is in
+    let one = span_read spans c.loop-earlier.earlier c.index-spans-earlier.result (omega arith)
+    c.index-spans-earlier.is in
     let other = span_read spans c.loop-later.later c.index-spans-later.result (omega arith) c.index-spans-later.is in
     let told = rw (one, other) at c.are_apart.ensures.1 in (
       λ yes. absurd (false≢true yes),

@@ -1,6 +1,6 @@
 use Rattle.std.proofs.Common.{◌<◌, arith}
-use Rattle.bit_addressing_memory.specs.Memory.{indexed}
-use Rattle.bit_addressing_memory.proofs.MemoryLemmas.{memory_copied}
+use Rattle.bit_addressing.specs.Memory.{read_by}
+use Rattle.bit_addressing.proofs.MemoryLemmas.{memory_copied}
 use Rattle.bit_addressing_samples.proofs.callers.move_list.Goals as goal
 
 pub returns-clause-moved : goal.returns-clause-moved

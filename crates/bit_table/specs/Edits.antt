@@ -20,7 +20,8 @@ abbrev pub reply_to : TableShape → Command → Reply
 reply_to t (Insert p vs) = answered.Done
 reply_to t Image = answered.Image (length t.rows) (image_bytes t.layout t.rows)
 
--- one command is refused in a table for the cause for which another is and, where none refuses, does and answers the same
+-- one command is refused in a table for the cause for which another is and, where none refuses, does and answers the
+-- same
 pub record ActsAs (t : TableShape) (one other : Command) : Type 0 where
   pub same_cause : cause_in t one ≡ cause_in t other
   pub same_edit : cause_in t other ≡ None → edit t one ≡ edit t other

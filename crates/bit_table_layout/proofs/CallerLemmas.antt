@@ -9,7 +9,8 @@ use Rattle.bit_table_layout.specs.LineWordsLeft.{words_left}
 use Rattle.bit_table_layout.specs.Layouts.{LayoutShape, row_width, is_layout}
 
 -- a row has 1 to `MAX_ROW_BITS` bits
-pub row_width-bounds : (l : LayoutShape) → IsTrue (is_layout l) → (1 ≤ row_width l.fields) × (row_width l.fields ≤ MAX_ROW_BITS)
+pub row_width-bounds : (l : LayoutShape) → IsTrue (is_layout l)
+    → (1 ≤ row_width l.fields) × (row_width l.fields ≤ MAX_ROW_BITS)
 row_width-bounds l lawful =
     let bits = and_parts _ _ (and_parts _ _ (and_parts _ _ lawful).1).1 in
     (leb-true 1 (row_width l.fields) bits.0, leb-true (row_width l.fields) MAX_ROW_BITS bits.1)

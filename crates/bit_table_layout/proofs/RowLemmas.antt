@@ -26,7 +26,8 @@ fields_lawful l h =
 pub some_row_bits : (l : LayoutShape) → is_layout l ≡ true → 1 ≤ row_width l.fields
 some_row_bits l h =
     let w = row_width l.fields in
-    let rest = and_parts (list_all is_field l.fields) (names_differ l.fields && (nat_le 1 w && nat_le w MAX_ROW_BITS)) h in
+    let rest =
+    and_parts (list_all is_field l.fields) (names_differ l.fields && (nat_le 1 w && nat_le w MAX_ROW_BITS)) h in
     let widths = and_parts (names_differ l.fields) (nat_le 1 w && nat_le w MAX_ROW_BITS) rest.1 in
     leb-true 1 w (and_parts (nat_le 1 w) (nat_le w MAX_ROW_BITS) widths.1).0
 

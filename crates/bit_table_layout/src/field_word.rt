@@ -1,7 +1,8 @@
 //! Field words, read without memory.
 ghost use Rattle.std.specs.Prelude.{◌≡◌, ◌&&◌, IsTrue, IfSome};
 ghost use Rattle.std.specs.List.{list_all};
-ghost use Rattle.bit_table_layout.specs.Fields.{is_field, is_name, is_name_byte, is_width, field_of, name_part, kind_part};
+ghost use Rattle.bit_table_layout.specs.Fields.{is_field, is_name, is_name_byte, is_width};
+ghost use Rattle.bit_table_layout.specs.Fields.{field_of, name_part, kind_part};
 
 use super::numerals::{is_number, number_up_to};
 use std::marker::Model;

@@ -1,5 +1,5 @@
-//! What the tests of the table's crates share: a reader, a writer and a machine that fail when they are told to, and what
-//! callers of the table know.
+//! What the tests of the table's crates share: a reader, a writer and a machine that fail when they are told to, and
+//! what callers of the table know.
 #![tactic(auto)]
 
 mod edges;

@@ -1,5 +1,5 @@
-//! The tests of the table's crates: layouts, commands and images, worked scripts, faults in mid-stream, and a plain second
-//! opinion.
+//! The tests of the table's crates: layouts, commands and images, worked scripts, faults in mid-stream, and a plain
+//! second opinion.
 #![tactic(auto)]
 
 #[cfg(test)]

@@ -9,6 +9,7 @@ use Rattle.bit_table_layout.proofs.layout.names_word.Goals as goal
 
 pub returns : goal.returns
 returns c =
-    any_from_yields_List (λ word. bytes_eq (name_part word) c.args.name.now) c.any.new.self _ c.any.result c.any.ensures.ran
+    any_from_yields_List (λ word. bytes_eq (name_part word) c.args.name.now) c.any.new.self _
+    c.any.result c.any.ensures.ran
     (YieldsList-from_words {w = c.args.words} (words_left c.args.words) cc)
     (λ x b q k. search (rules, tests))

@@ -6,7 +6,6 @@ use crate::plain_words::{Plain, same, same_answer, same_count};
 use bit_addressing::{BitEnd, BitIdx, BitOrder, BitRegister, Lsb0, Msb0, PartialElementMut};
 use bit_addressing_samples::{Count, FifthStep};
 use std::process::Abort;
-use std::slice::from_mut;
 use std::test::Fail;
 
 // What is done to a part.
@@ -21,16 +20,19 @@ enum Act {
 // The part of a word from an index up to before an end.
 fn part_of<'a, R: BitRegister, O: BitOrder<R>>(
     plain: Plain,
-    word: &'a mut R,
+    words: &'a mut [R],
     from: usize,
     upto: usize,
 ) -> Result<PartialElementMut<'a, R, O>, Fail> {
+    if words.len() != 1 {
+        return Err(Fail::from("words"));
+    }
     if plain.bits != R::BITS as usize || from >= plain.bits || upto > plain.bits || from > upto {
         return Err(Fail::from("bounds"));
     }
     let head = BitIdx::<R>::new_unchecked(from as u8);
     let tail = BitEnd::<R>::new_unchecked(upto as u8);
-    Ok(PartialElementMut::new(from_mut(word), head, tail))
+    Ok(PartialElementMut::new(words, head, tail))
 }
 
 // What a part shows, and what it gives back.
@@ -48,9 +50,9 @@ fn check_part<R: BitRegister, O: BitOrder<R>>(
     let edge = number * plain.bits;
     let own = plain.words[number];
     let other = plain.words[3 - number];
-    let mut word = R::from_value(own);
+    let mut words = [R::from_value(own)];
     {
-        let part = part_of::<R, O>(plain, &mut word, from, upto)?;
+        let part = part_of::<R, O>(plain, &mut words, from, upto)?;
         same_count(rt, "head", part.head().into_inner() as usize, from);
         same_count(rt, "tail", part.tail().into_inner() as usize, upto);
         let (head, tail) = part.bounds();
@@ -74,7 +76,7 @@ fn check_part<R: BitRegister, O: BitOrder<R>>(
         same_count(rt, "count", len, upto.saturating_sub(from));
         lent[0] = R::from_value(other);
     }
-    same(rt, "lent word", word.value(), other);
+    same(rt, "lent word", words[0].value(), other);
     Ok(())
 }
 
@@ -108,9 +110,9 @@ fn check_act<R: BitRegister, O: BitOrder<R>>(
 {
     let edge = number * plain.bits;
     let other = plain.words[3 - number];
-    let mut word = R::from_value(plain.words[number]);
+    let mut words = [R::from_value(plain.words[number])];
     {
-        let mut part = part_of::<R, O>(plain, &mut word, from, upto)?;
+        let mut part = part_of::<R, O>(plain, &mut words, from, upto)?;
         let was = apply(&mut part, done, R::from_value(other));
         same(
             rt,
@@ -128,7 +130,7 @@ fn check_act<R: BitRegister, O: BitOrder<R>>(
             Act::Clear => false,
             Act::Set => true,
         };
-        same_answer(rt, "bit", plain.bit_of(word.value(), i), wanted);
+        same_answer(rt, "bit", plain.bit_of(words[0].value(), i), wanted);
     }
     Ok(())
 }

@@ -13,10 +13,10 @@ pub use Rattle.bit_addressing_span.specs.PartialElementMut
 pub use Rattle.bit_addressing_span.specs.Parts
 pub use Rattle.bit_addressing_span.specs.Pointer
 pub use Rattle.bit_addressing_span.specs.PointerRange
-pub use Rattle.bit_addressing_span.specs.Shown
+pub use Rattle.bit_addressing_span.specs.PartialElement
 pub use Rattle.bit_addressing_span.specs.Span
 pub use Rattle.bit_addressing_span.specs.Texts
-pub use Rattle.bit_addressing_span.specs.Words
+pub use Rattle.bit_addressing_span.specs.DomainWords
 pub use Rattle.bit_addressing_verify.specs.BitIdx
 pub use Rattle.bit_addressing_verify.specs.BitMask
 pub use Rattle.bit_addressing_verify.specs.BitOrder

@@ -3,7 +3,7 @@ use Rattle.std.specs.Prelude.{ℕ, ◌+◌, ◌*◌, ◌<◌, ◌≡◌, Bool, L
 use Rattle.std.specs.Borrow.{Bor}
 use Rattle.bit_addressing_memory.specs.Memory.{Reading, memory}
 use Rattle.bit_addressing_span.specs.Span.{Extent, span_bits}
-use Rattle.bit_addressing_span.specs.Shown.{partial_bits, partial_numbers, partial_head, partial_tail}
+use Rattle.bit_addressing_span.specs.PartialElement.{partial_bits, partial_numbers, partial_head, partial_tail}
 use Rattle.bit_addressing_span.specs.declared.partial.PartialElement.{PartialElement}
 use Rattle.bit_addressing_span.specs.declared.domain.Domain.{Domain}
 use Rattle.bit_addressing_span.specs.declared.domain.Domain.TheVariants.{Enclave, Region}

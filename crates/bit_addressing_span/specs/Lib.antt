@@ -1,10 +1,10 @@
 pub mod Domain
 pub mod Form
 pub mod Partial
-pub mod Shown
+pub mod PartialElement
 pub mod Span
 pub mod Texts
-pub mod Words
+pub mod DomainWords
 pub mod PartialElementMut
 pub mod DomainMut
 pub mod Parts

@@ -6,7 +6,7 @@ ghost use Rattle.bit_addressing_memory.specs.Memory.{read_by, memory, piece, tou
 ghost use Rattle.bit_addressing_span.specs.Domain.{IsCut, IsEnclave, IsTail, domain_start, domain_bits};
 ghost use Rattle.bit_addressing_span.specs.Domain.{domain_numbers, option_bits, option_numbers};
 ghost use Rattle.bit_addressing_span.specs.Span.{span_bits, FitsIn, LiesInside};
-ghost use Rattle.bit_addressing_span.specs.Shown.{partial_head, partial_tail, partial_bits, partial_numbers};
+ghost use Rattle.bit_addressing_span.specs.PartialElement.{partial_head, partial_tail, partial_bits, partial_numbers};
 
 use crate::domain::Domain;
 use crate::partial::PartialElement;

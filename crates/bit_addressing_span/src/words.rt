@@ -4,7 +4,7 @@ ghost use Rattle.std.specs.Prelude.{◌≡◌, ◌+◌, ◌<◌, ◌≤◌, ◌^
 ghost use Rattle.std.specs.Iterator.{YieldsFirstBy, YieldsLastBy, item_count, UpTo};
 ghost use Rattle.std.specs.Iterator.SizeHint.{IsWithinCount};
 ghost use Rattle.bit_addressing_span.specs.Domain.{domain_numbers, option_numbers};
-ghost use Rattle.bit_addressing_span.specs.Words.{option_word};
+ghost use Rattle.bit_addressing_span.specs.DomainWords.{option_word};
 
 use crate::domain::Domain;
 use crate::partial::PartialElement;
@@ -25,7 +25,7 @@ pub struct DomainWords<'a, R: BitRegister> {
 
 impl<'a, R: BitRegister> Model for DomainWords<'a, R> {
     ghost use Rattle.std.specs.Prelude.{ℕ, List, ◌<◌, ◌^◌, length};
-    ghost use Rattle.bit_addressing_span.specs.Words.{words_left};
+    ghost use Rattle.bit_addressing_span.specs.DomainWords.{words_left};
 
     ghost Value = { List ℕ };
 

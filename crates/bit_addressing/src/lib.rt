@@ -19,7 +19,7 @@ pub use bit_addressing_order::{
 };
 pub use bit_addressing_span::{
     BitSpan, BitSpanError, Domain, DomainMut, DomainWords, MAX_BITS, PartialElement,
-    PartialElementMut,
+    PartialElementMut, each_digit, flipped, load_in, masked, no_digits, store_in, stored,
 };
 pub use bit_addressing_verify::{OrderFault, WordFault, verify, verify_for_type};
 pub use command::{SpanCommand, SpanReply};

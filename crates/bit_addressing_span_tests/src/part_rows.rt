@@ -1,6 +1,9 @@
 //! Parts of words, stored, loaded and restored.
 
-use bit_addressing::{BitEnd, BitIdx, BitSpan, Lsb0, PartialElementMut};
+use bit_addressing::{
+    BitEnd, BitIdx, BitSpan, Lsb0, Msb0, PartialElementMut, each_digit, flipped, load_in, masked,
+    no_digits, store_in, stored,
+};
 use bit_addressing_samples::part_callers::{store_and_load, store_and_restore, write_two};
 use std::slice::from_mut;
 use std::test::Fail;
@@ -30,4 +33,24 @@ fn two_words_are_written(rt: HostRuntime) -> Result<(), Fail> {
     write_two(span, &mut memory, 0xab, 0xcd);
     assert!(rt; memory == [0xa2, 0x3d, 0x56]);
     Ok(())
+}
+
+#[test]
+fn a_word_is_masked_and_stored(rt: HostRuntime) {
+    let from = BitIdx::<u8>::new_unchecked(4);
+    let upto = BitEnd::<u8>::new_unchecked(7);
+    assert!(rt; masked::<u8, Lsb0>(0xf2, from, upto) == 0x70);
+    assert!(rt; masked::<u8, Msb0>(0x2f, from, upto) == 0x0e);
+    assert!(rt; stored::<u8, Lsb0>(0x02, 0xff, from, upto) == 0x72);
+    let mut memory = [0x12u8, 0x34];
+    assert!(rt; load_in::<u8, Lsb0>(&memory, 1, from, upto) == 0x30);
+    assert!(rt; store_in::<u8, Lsb0>(&mut memory, 1, 0x5f, from, upto) == 0x30);
+    assert!(rt; memory == [0x12, 0x54]);
+}
+
+#[test]
+fn words_of_equal_digits(rt: HostRuntime) {
+    assert!(rt; no_digits::<u16, Msb0>() == 0);
+    assert!(rt; each_digit::<u16, Lsb0>() == 0xffff);
+    assert!(rt; flipped::<u16, Msb0>(0x1234) == 0xedcb);
 }

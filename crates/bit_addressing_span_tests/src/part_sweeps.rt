@@ -1,6 +1,6 @@
 //! Parts of one word, read and written at every head and tail, against a plain list of bits.
 
-ghost use Rattle.std.specs.Prelude.{◌<◌, ◌≤◌};
+ghost use Rattle.std.specs.Prelude.{◌≡◌, ◌<◌, ◌≤◌, length};
 
 use crate::plain_words::{Plain, same, same_answer, same_count};
 use bit_addressing::{BitEnd, BitIdx, BitOrder, BitRegister, Lsb0, Msb0, PartialElementMut};
@@ -39,10 +39,12 @@ fn part_of<'a, R: BitRegister, O: BitOrder<R>>(
 fn check_part<R: BitRegister, O: BitOrder<R>>(
     rt: &impl Abort,
     plain: Plain,
+    words: &mut [R],
     number: usize,
     from: usize,
     upto: usize,
 ) -> Result<(), Fail>
+    requires single { length words.old ≡ 1 }
     requires number { number < 4 }
     requires from { from < 64 }
     requires upto { upto ≤ 64 }
@@ -50,9 +52,9 @@ fn check_part<R: BitRegister, O: BitOrder<R>>(
     let edge = number * plain.bits;
     let own = plain.words[number];
     let other = plain.words[3 - number];
-    let mut words = [R::from_value(own)];
+    words[0] = R::from_value(own);
     {
-        let part = part_of::<R, O>(plain, &mut words, from, upto)?;
+        let part = part_of::<R, O>(plain, words, from, upto)?;
         same_count(rt, "head", part.head().into_inner() as usize, from);
         same_count(rt, "tail", part.tail().into_inner() as usize, upto);
         let (head, tail) = part.bounds();
@@ -99,20 +101,22 @@ fn apply<'a, R: BitRegister, O: BitOrder<R>>(
 fn check_act<R: BitRegister, O: BitOrder<R>>(
     rt: &impl Abort,
     plain: Plain,
+    words: &mut [R],
     number: usize,
     from: usize,
     upto: usize,
     done: Act,
 ) -> Result<(), Fail>
+    requires single { length words.old ≡ 1 }
     requires number { number < 4 }
     requires from { from < 64 }
     requires upto { upto ≤ 64 }
 {
     let edge = number * plain.bits;
     let other = plain.words[3 - number];
-    let mut words = [R::from_value(plain.words[number])];
+    words[0] = R::from_value(plain.words[number]);
     {
-        let mut part = part_of::<R, O>(plain, &mut words, from, upto)?;
+        let mut part = part_of::<R, O>(plain, words, from, upto)?;
         let was = apply(&mut part, done, R::from_value(other));
         same(
             rt,
@@ -139,16 +143,18 @@ fn check_act<R: BitRegister, O: BitOrder<R>>(
 fn check<R: BitRegister, O: BitOrder<R>>(
     rt: &impl Abort,
     plain: Plain,
+    words: &mut [R],
     from: usize,
     upto: usize,
 ) -> Result<(), Fail>
+    requires single { length words.old ≡ 1 }
     requires from { from < 64 }
     requires upto { upto ≤ 64 }
 {
     for number in 0..4 {
-        check_part::<R, O>(rt, plain, number, from, upto)?;
+        check_part::<R, O>(rt, plain, words, number, from, upto)?;
         for done in [Act::Store, Act::Invert, Act::Clear, Act::Set] {
-            check_act::<R, O>(rt, plain, number, from, upto, done)?;
+            check_act::<R, O>(rt, plain, words, number, from, upto, done)?;
         }
     }
     Ok(())
@@ -158,9 +164,9 @@ fn check<R: BitRegister, O: BitOrder<R>>(
 fn parts_of_bytes_are_written(rt: HostRuntime) -> Result<(), Fail> {
     for from in 0..8 {
         for upto in from..9 {
-            check::<u8, Lsb0>(&rt, Plain::bytes(Count::Lowest), from, upto)?;
-            check::<u8, Msb0>(&rt, Plain::bytes(Count::Highest), from, upto)?;
-            check::<u8, FifthStep>(&rt, Plain::bytes(Count::Fifths), from, upto)?;
+            check::<u8, Lsb0>(&rt, Plain::bytes(Count::Lowest), &mut [0u8], from, upto)?;
+            check::<u8, Msb0>(&rt, Plain::bytes(Count::Highest), &mut [0u8], from, upto)?;
+            check::<u8, FifthStep>(&rt, Plain::bytes(Count::Fifths), &mut [0u8], from, upto)?;
         }
     }
     Ok(())
@@ -171,9 +177,27 @@ fn parts_of_wide_words_are_written(rt: HostRuntime) -> Result<(), Fail> {
     for from in [0, 1, 24, 40, 63] {
         for len in [0, 1, 7, 24, 33, 63, 64] {
             if from + len <= 64 {
-                check::<u64, Lsb0>(&rt, Plain::wide(Count::Lowest), from, from + len)?;
-                check::<u64, Msb0>(&rt, Plain::wide(Count::Highest), from, from + len)?;
-                check::<u64, FifthStep>(&rt, Plain::wide(Count::Fifths), from, from + len)?;
+                check::<u64, Lsb0>(
+                    &rt,
+                    Plain::wide(Count::Lowest),
+                    &mut [0u64],
+                    from,
+                    from + len,
+                )?;
+                check::<u64, Msb0>(
+                    &rt,
+                    Plain::wide(Count::Highest),
+                    &mut [0u64],
+                    from,
+                    from + len,
+                )?;
+                check::<u64, FifthStep>(
+                    &rt,
+                    Plain::wide(Count::Fifths),
+                    &mut [0u64],
+                    from,
+                    from + len,
+                )?;
             }
         }
     }

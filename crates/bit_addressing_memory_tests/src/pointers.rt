@@ -206,12 +206,11 @@ fn ranges_are_counted(rt: HostRuntime) -> Result<(), Fail> {
     Ok(())
 }
 
-// Whether so many bits on from bit 0 of a word of 8 lie in words that an `isize` counts, by whole numbers.
-fn stays(word: isize, index: u8, by: i128) -> bool
-    requires { index < 8 }
-{
-    let word = word as i128 + (index as i128 + by).div_euclid(8);
-    word >= isize::MIN as i128 && word <= isize::MAX as i128
+// Whether so many bits on from an index of a byte lie in a word that an `isize` counts, by whole numbers.
+fn stays(word: isize, index: u8, by: i128) -> bool {
+    let words = (index as i128).wrapping_add(by).div_euclid(8);
+    let there = (word as i128).wrapping_add(words);
+    there >= isize::MIN as i128 && there <= isize::MAX as i128
 }
 
 #[test]

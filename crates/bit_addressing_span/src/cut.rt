@@ -5,7 +5,7 @@ ghost use Rattle.std.specs.Prelude.{length, take, drop, min, IfSome};
 ghost use Rattle.bit_addressing_memory.specs.Memory.{read_by, memory, piece, touched};
 ghost use Rattle.bit_addressing_span.specs.Domain.{IsCut, IsEnclave, IsTail, domain_start, domain_bits};
 ghost use Rattle.bit_addressing_span.specs.Domain.{domain_numbers, option_bits, option_numbers};
-ghost use Rattle.bit_addressing_span.specs.Span.{span_bits, FitsIn, LiesInside};
+ghost use Rattle.bit_addressing_span.specs.Span.{extent, span_bits, FitsIn, LiesInside};
 ghost use Rattle.bit_addressing_span.specs.PartialElement.{partial_head, partial_tail, partial_bits, partial_numbers};
 
 use crate::domain::Domain;
@@ -44,7 +44,7 @@ pub(crate) fn cut_from<'a, R: BitRegister, O: BitOrder<R>>(
     ensures bits { domain_bits (read_by R.BitRegister O.position) result
         ≡ piece (memory (read_by R.BitRegister O.position) words.now) (word * R.BITS + head) len }
     ensures start { 0 < len → domain_start result ≡ head }
-    ensures enclave { IsEnclave result ↔ (0 < len) × (0 < head) × (head + len < R.BITS) }
+    ensures enclave { IsEnclave result ↔ LiesInside R.BITS (extent 0 head len) }
     ensures cut { IsCut R.BITS result }
     ensures words { length (domain_numbers R.number O.masked result) ≡ touched R.BITS head len }
 {
@@ -71,7 +71,7 @@ fn cut_words<'a, R: BitRegister, O: BitOrder<R>>(
     ensures bits { domain_bits (read_by R.BitRegister O.position) result
         ≡ piece (memory (read_by R.BitRegister O.position) words.now) head len }
     ensures start { 0 < len → domain_start result ≡ head }
-    ensures enclave { IsEnclave result ↔ (0 < len) × (0 < head) × (head + len < R.BITS) }
+    ensures enclave { IsEnclave result ↔ LiesInside R.BITS (extent 0 head len) }
     ensures cut { IsCut R.BITS result }
     ensures words { length (domain_numbers R.number O.masked result) ≡ touched R.BITS head len }
 {

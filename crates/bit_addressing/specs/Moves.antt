@@ -1,5 +1,5 @@
 -- What a move of bits inside one memory does, and how many words it changes.
-use Rattle.std.specs.Prelude.{ℕ, ◌+◌, ◌==◌, Bool, List, [], ◌∷◌, if◌then◌else◌}
+use Rattle.std.specs.Prelude.{ℕ, ◌+◌, ◌==◌, List, [], ◌∷◌, if◌then◌else◌}
 use Rattle.bit_addressing_memory.specs.Memory.{Reading, Copies}
 
 -- after is before with the len entries from target on made what those from source on were: each other entry

@@ -2,7 +2,7 @@
 --
 -- Where a span lies: `IsInside`, `IsOutside`. What is asked: `AreDisjoint`, `AllFit`; what the spans' type says: `HeadsBelow`.
 -- One command: `CarriesOut`. Its commands and replies: `commands_of`, `replies_of`. A whole run: `Runs`.
-use Rattle.std.specs.Prelude.{ℕ, ◌+◌, ◌*◌, ◌<◌, ◌≤◌, ◌==◌, ◌≡◌, Bool, List, [], ◌∷◌, length, map}
+use Rattle.std.specs.Prelude.{ℕ, ◌+◌, ◌<◌, ◌≤◌, ◌==◌, ◌≡◌, List, [], ◌∷◌, length, map}
 use Rattle.std.specs.Prelude.{if◌then◌else◌, slice_index_or, All}
 use Rattle.bit_addressing_memory.specs.Memory.{Reading, entry, memory}
 use Rattle.bit_addressing_span.specs.Span.{Extent, extent, span_bits, span_place, FitsIn}

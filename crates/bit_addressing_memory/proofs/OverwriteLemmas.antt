@@ -1,7 +1,7 @@
 -- One entry overwritten, and what it tells of each entry.
 --
 -- From the record: `written_there`, `written_others`. To the record: `writes_from`.
-use Rattle.std.proofs.Common.{◌≡◌, ◌≢◌, ℕ, ◌+◌, ◌<◌, ◌≤◌, Bool, List, length, sym, ap, ◌∙◌, inl, inr, arith}
+use Rattle.std.proofs.Common.{◌≡◌, ◌≢◌, ℕ, ◌+◌, Bool, List, length, sym, ap, ◌∙◌, inl, inr, arith}
 use Rattle.std.proofs.lemmas.Bool.{cases_lt}
 use Rattle.bit_addressing_memory.specs.Memory.{Reading, entry, Writes}
 

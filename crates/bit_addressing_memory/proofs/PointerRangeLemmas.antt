@@ -1,14 +1,12 @@
 -- The pointers that a range gives, from both ends, and where its own pointers stay.
-use Rattle.std.proofs.Common.{◌≡◌, ℕ, zero, suc, ◌+◌, ◌-◌, ◌*◌, ◌/◌, ◌%◌, ◌^◌, ◌<◌, ◌≤◌, List, []}
+use Rattle.std.proofs.Common.{◌≡◌, ℕ, zero, suc, ◌+◌, ◌*◌, ◌^◌, ◌<◌, ◌≤◌, []}
 use Rattle.std.proofs.Common.{◌∷◌, ◌++◌, length, refl, sym, ap, ◌∙◌, arith}
-use Rattle.std.proofs.Math.IntN.{ℤ, pos, negsuc, ◌+ℤ◌, ◌-ℤ◌, ◌*ℤ◌, negsuc-*ℤ-pos}
+use Rattle.std.proofs.Math.IntN.{ℤ, pos, negsuc, ◌+ℤ◌, ◌*ℤ◌, negsuc-*ℤ-pos}
 use Rattle.std.proofs.Math.Nat.{mul-le-mul_right}
 use Rattle.std.proofs.lemmas.Int.{ints}
-use Rattle.std.proofs.lemmas.Nat.{div-mul-add, mod-mul-add}
-use lib.Signed.{◌≤ℤ◌}
 use Rattle.std.specs.Int.{w64}
-use Rattle.std.specs.Int.RustNames.{FitsSigned, unsigned_abs}
-use Rattle.bit_addressing_memory.specs.Pointer.{Pointer, StaysIn, whole_place}
+use Rattle.std.specs.Int.RustNames.{FitsSigned}
+use Rattle.bit_addressing_memory.specs.Pointer.{Pointer, StaysIn}
 use Rattle.bit_addressing_memory.specs.PointerRange.{PointerRange, IsRange, bits_between, end_of, pointer_at, pointers}
 use Rattle.bit_addressing_memory.specs.PointerRangeLaws.{end_is, pointer_at_place}
 

@@ -1,15 +1,12 @@
 -- What the type of a range of pointers rests on: its two ends, from its start and its length.
-use Rattle.std.proofs.Common.{◌≡◌, ℕ, zero, suc, ◌+◌, ◌-◌, ◌*◌, ◌/◌, ◌%◌, ◌^◌, ◌<◌, ◌≤◌, List, []}
-use Rattle.std.proofs.Common.{◌∷◌, ◌++◌, length, refl, sym, ap, ◌∙◌, arith}
-use Rattle.std.proofs.Math.IntN.{ℤ, pos, negsuc, ◌+ℤ◌, ◌-ℤ◌, ◌*ℤ◌, negsuc-*ℤ-pos}
-use Rattle.std.proofs.Math.Nat.{mul-le-mul_right}
+use Rattle.std.proofs.Common.{◌≡◌, ℕ, ◌+◌, ◌-◌, ◌*◌, ◌<◌}
+use Rattle.std.proofs.Common.{refl, ap, ◌∙◌, arith}
+use Rattle.std.proofs.Math.IntN.{ℤ, pos, negsuc, ◌+ℤ◌, ◌*ℤ◌, negsuc-*ℤ-pos}
 use Rattle.std.proofs.lemmas.Int.{ints}
 use Rattle.std.proofs.lemmas.Nat.{div-mul-add, mod-mul-add}
 use lib.Signed.{◌≤ℤ◌}
-use Rattle.std.specs.Int.{w64}
-use Rattle.std.specs.Int.RustNames.{FitsSigned, unsigned_abs}
-use Rattle.bit_addressing_memory.specs.Pointer.{Pointer, StaysIn, whole_place}
-use Rattle.bit_addressing_memory.specs.PointerRange.{PointerRange, bits_between, end_of, pointer_at}
+use Rattle.bit_addressing_memory.specs.Pointer.{Pointer, whole_place}
+use Rattle.bit_addressing_memory.specs.PointerRange.{bits_between, end_of, pointer_at}
 
 -- a pointer is the one at its place
 pub pointer_at_place : (b : ℕ) (w : ℤ) (i : ℕ) → i < b

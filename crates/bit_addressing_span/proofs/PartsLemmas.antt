@@ -138,17 +138,17 @@ pub stored_then_read : {R : Type 0} (reading : Reading R) (before after : List R
     → ReadsPart reading after 0 result from' upto' → IsMasked reading value result from upto
 stored_then_read reading before after value result from upto from' upto' n same_head same_tail is_n stored read =
     record {
-  inside = λ i low high small.
-      let k : ℕ = i - from in
-      let place : 0 * reading.bits + i ≡ from + k = omega arith in
-      let index : from + k ≡ i = omega arith in
-      read.inside i (omega arith) (omega arith) small
-      ∙ ap (entry reading after) place
-      ∙ stored.there k (omega arith)
-      ∙ ap (reading.digit value) index;
-  below = λ i low small. read.below i (omega arith) small;
-  above = λ i high small. read.above i (omega arith) small;
-}
+      inside = λ i low high small.
+          let k : ℕ = i - from in
+          let place : 0 * reading.bits + i ≡ from + k = omega arith in
+          let index : from + k ≡ i = omega arith in
+          read.inside i (omega arith) (omega arith) small
+          ∙ ap (entry reading after) place
+          ∙ stored.there k (omega arith)
+          ∙ ap (reading.digit value) index;
+      below = λ i low small. read.below i (omega arith) small;
+      above = λ i high small. read.above i (omega arith) small;
+    }
 
 -- what was read of a part of the first word, stored there again, restores the memory
 pub stored_back : {R : Type 0} (reading : Reading R) (before between after : List R) (was : R)

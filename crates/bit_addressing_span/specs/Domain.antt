@@ -1,5 +1,5 @@
 -- What a domain shows: its bits and its masked words, in order, and how it is cut.
-use Rattle.std.specs.Prelude.{ℕ, ◌+◌, ◌*◌, ◌<◌, ◌≡◌, Bool, List, [], ◌++◌, Option, Some, None, IfSome, map}
+use Rattle.std.specs.Prelude.{ℕ, ◌<◌, ◌≡◌, Bool, List, [], ◌++◌, Option, Some, None, IfSome, map}
 use Rattle.std.specs.Borrow.{Bor}
 use Rattle.bit_addressing_memory.specs.Memory.{Reading, memory}
 use Rattle.bit_addressing_span.specs.Span.{Extent, span_bits}

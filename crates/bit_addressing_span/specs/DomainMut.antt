@@ -1,5 +1,5 @@
 -- What a writable domain shows: the memory, whose it is, and the span.
-use Rattle.std.specs.Prelude.{ℕ, ◌≡◌, Bool, List, Option}
+use Rattle.std.specs.Prelude.{ℕ, ◌≡◌, List, Option}
 use Rattle.std.specs.Borrow.{MutBor}
 use Rattle.bit_addressing_span.specs.Domain.{IsCutOf, domain_numbers}
 use Rattle.bit_addressing_span.specs.Span.{Extent}

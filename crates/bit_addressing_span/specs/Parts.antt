@@ -1,7 +1,7 @@
 -- The parts of a span, a word each: where they are, and what reading one is.
 --
 -- The part of word k: `part_from`, `part_upto`, `part_place`, `part_count`. A read: `ReadsPart`.
-use Rattle.std.specs.Prelude.{ℕ, ◌+◌, ◌-◌, ◌*◌, ◌<◌, ◌≤◌, ◌≡◌, Bool, false, List, length, min}
+use Rattle.std.specs.Prelude.{ℕ, ◌+◌, ◌-◌, ◌*◌, ◌<◌, ◌≤◌, ◌≡◌, false, List, min}
 use Rattle.bit_addressing_memory.specs.Memory.{Reading, entry}
 use Rattle.bit_addressing_span.specs.Span.{Extent}
 

@@ -5,7 +5,9 @@
 
 mod order;
 
-use bit_addressing::{BitIdx, BitSpan, BitSpanError, SpanCommand, SpanReply, all_fit, disjoint, run};
+use bit_addressing::{
+    BitIdx, BitSpan, BitSpanError, SpanCommand, SpanReply, all_fit, disjoint, run,
+};
 use order::UpperHalfFirst;
 use std::io;
 
@@ -13,7 +15,9 @@ type Device = BitSpan<u32, UpperHalfFirst>;
 
 // The numbers of the devices.
 const TIMER: usize = 0;
+
 const PORT: usize = 1;
+
 const COUNTER: usize = 2;
 
 fn main(rt: HostRuntime) -> io::Result<()> {

@@ -1,4 +1,4 @@
-use Rattle.std.proofs.Common.{ap, ◌∙◌, ◌+◌, ◌≤◌, arith}
+use Rattle.std.proofs.Common.{ap, ◌∙◌, ◌+◌, arith}
 use Rattle.bit_addressing_memory.proofs.CopyLemmas.{copies_more}
 use Rattle.bit_addressing_memory.specs.Memory.{entry, read_by}
 use Rattle.bit_addressing_memory.specs.Place.{place_of}

@@ -1,9 +1,9 @@
 use Rattle.std.proofs.Common.{◌≡◌, ℕ, ◌+◌, ◌<◌, true, false, List, [], ◌∷◌, length, get_or, refl, sym, ap, ◌∙◌, arith}
 use Rattle.std.proofs.lemmas.Bool.{lt-ltb}
 use Rattle.std.proofs.lemmas.List.{get_or-set_same}
-use Rattle.bit_addressing.specs.Memory.{Reading, entry, read_by}
+use Rattle.bit_addressing.specs.Memory.{entry, read_by}
 use Rattle.bit_addressing.specs.Span.{span_bits, span_place}
-use Rattle.bit_addressing.specs.Runs.{Runs, commands_of, replies_of, span_at}
+use Rattle.bit_addressing.specs.Runs.{commands_of, replies_of, span_at}
 use Rattle.bit_addressing.specs.declared.command.SpanCommand.TheVariants.{Read, Replace}
 use Rattle.bit_addressing.specs.declared.command.SpanReply.{SpanReply}
 use Rattle.bit_addressing.specs.declared.command.SpanReply.TheVariants.{Bit, Refused}

@@ -3,9 +3,12 @@
 --
 -- One span's commands among all: `run_bit`, `run_replies`. Commands with their numbers in range, on a list: `list_of_one`,
 -- `list_in_range`, `answer_of_one`, `answer_in_range`. A reply that is seen as a bit is that bit: `seen_bit`.
-use Rattle.std.proofs.Common.{◌≡◌, ℕ, ◌+◌, ◌<◌, Bool, true, false, List, [], ◌∷◌, length, map, get_or, refl, sym, ap, ◌∙◌}
-use Rattle.bit_addressing_memory.specs.Memory.{Reading, entry}
+-- The word that a domain gives first: `first_masked`.
+use Rattle.std.proofs.Common.{◌≡◌, ℕ, ◌+◌, ◌<◌, Bool, true, false, List, [], ◌∷◌, length, map, get_or, refl}
+use Rattle.std.proofs.Common.{suc, Option, Some, None, IfSome, MatchOption, sym, ap, ◌∙◌, arith}
+use Rattle.bit_addressing_memory.specs.Memory.{Reading, entry, reading_in, touched}
 use Rattle.bit_addressing_span.proofs.PartsLemmas.{stored_back, stored_then_read}
+use Rattle.bit_addressing_span.specs.Parts.{AreMasked, ReadsPart, part_from, part_upto}
 use Rattle.bit_addressing_span.specs.Span.{Extent, span_bits, span_place}
 use Rattle.bit_addressing.specs.declared.command.SpanCommand.{SpanCommand}
 use Rattle.bit_addressing.specs.declared.command.SpanReply.{SpanReply}
@@ -72,6 +75,21 @@ seen_bit reading (Word word) bit is = cc
 seen_bit reading (Bit other) bit is = cc
 seen_bit reading Done bit is = cc
 seen_bit reading Refused bit is = cc
+
+-- the word that a span's domain gives first reads the span's part of its first word
+pub first_masked : {R : Type 0} (b : ℕ) (number : R → ℕ) (at : ℕ → ℕ) (words : List R) (span : Extent)
+    (numbers left : List ℕ) (given : Option R) → length numbers ≡ touched b span.head span.len
+    → AreMasked (reading_in b number at) at words span numbers
+    → MatchOption given ((numbers ≡ []) × (left ≡ [])) (λ word. numbers ≡ number word ∷ left)
+    → IfSome given (λ word. ReadsPart (reading_in b number at) words span.word word (part_from b span 0)
+    (part_upto b span 0))
+first_masked b number at words span numbers left None count are gives = tt
+first_masked b number at words span numbers left (Some word) count are gives =
+    let size : length numbers ≡ suc (length left) = ap length gives in
+    let first : get_or numbers 0 0 ≡ number word = ap (λ ns. get_or ns 0 0) gives in
+    let start : span.word + 0 ≡ span.word = omega arith in
+    let part = are 0 (omega arith) in
+    rw (start, first) at part
 
 -- what is read of a part of a word after it was written, and what restores it
 pub ruleset parts = (stored_then_read, stored_back)

@@ -1,10 +1,11 @@
 //! What callers know of parts of words and of spans, from their contracts alone.
 
-ghost use Rattle.std.specs.Prelude.{◌≡◌, ℕ, ◌+◌, ◌<◌, ◌≤◌, length};
+ghost use Rattle.std.specs.Prelude.{◌≡◌, ℕ, ◌+◌, ◌<◌, ◌≤◌, ◌↔◌, length, IfSome, IsSome};
 ghost use Rattle.bit_addressing.specs.Memory.{entry, indexed, read_by, touched};
 ghost use Rattle.bit_addressing.specs.Partial.{IsMasked};
 ghost use Rattle.bit_addressing.specs.PartialElementMut.{part_words, part_head, part_tail};
-ghost use Rattle.bit_addressing.specs.Parts.{part_from, part_place, part_count};
+ghost use Rattle.bit_addressing.specs.Parts.{ReadsPart, part_from, part_upto, part_place, part_count};
+ghost use Rattle.bit_addressing.specs.Span.{FitsIn};
 
 use bit_addressing::{BitOrder, BitRegister, BitSpan, PartialElementMut};
 
@@ -59,4 +60,16 @@ pub fn write_two<R: BitRegister, O: BitOrder<R>>(
     let mut domain = span.domain_mut(words);
     domain.store_value(0, first);
     domain.store_value(1, second);
+}
+
+/// The first masked word of a span, where it has bits, as its domain gives it: the entries of the memory that lie in the
+/// span, and no other digit.
+pub fn first_word<R: BitRegister, O: BitOrder<R>>(span: BitSpan<R, O>, words: &[R]) -> Option<R>
+    requires { FitsIn R.BITS span (length words.now) }
+    ensures some { IsSome result ↔ (0 < touched R.BITS span.head span.len) }
+    ensures masked { IfSome result (λ word. ReadsPart (read_by R.BitRegister O.position) words.now span.word word
+        (part_from R.BITS span 0) (part_upto R.BITS span 0)) }
+{
+    let mut domain = span.domain(words);
+    domain.next()
 }

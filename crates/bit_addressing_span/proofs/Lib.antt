@@ -1,4 +1,5 @@
 pub mod CutLemmas
+pub mod MaskedLemmas
 pub mod PartialLemmas
 pub mod SpanLemmas
 pub mod StoredLemmas

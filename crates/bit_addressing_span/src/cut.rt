@@ -1,10 +1,12 @@
 //! Where a span is cut.
 
 ghost use Rattle.std.specs.Prelude.{◌≡◌, ℕ, ◌+◌, ◌-◌, ◌*◌, ◌/◌, ◌%◌, ◌^◌, ◌<◌, ◌≤◌, ◌↔◌};
-ghost use Rattle.std.specs.Prelude.{length, take, drop, min, IfSome};
+ghost use Rattle.std.specs.Prelude.{length, take, drop, min, slice_index, IfSome};
 ghost use Rattle.bit_addressing_memory.specs.Memory.{read_by, memory, piece, touched};
 ghost use Rattle.bit_addressing_span.specs.Domain.{IsCut, IsEnclave, IsTail, domain_start, domain_bits};
 ghost use Rattle.bit_addressing_span.specs.Domain.{domain_numbers, option_bits, option_numbers};
+ghost use Rattle.bit_addressing_order.specs.Bits.{digit_at};
+ghost use Rattle.bit_addressing_span.specs.Parts.{AreMasked, ReadsDigits};
 ghost use Rattle.bit_addressing_span.specs.Span.{extent, span_bits, FitsIn, LiesInside};
 ghost use Rattle.bit_addressing_span.specs.PartialElement.{partial_head, partial_tail, partial_bits, partial_numbers};
 
@@ -24,6 +26,8 @@ impl<R: BitRegister, O: BitOrder<R>> BitSpan<R, O> {
         ensures enclave { IsEnclave result ↔ LiesInside R.BITS self }
         ensures cut { IsCut R.BITS result }
         ensures words { length (domain_numbers R.number O.masked result) ≡ touched R.BITS self.head self.len }
+        ensures masked { AreMasked (read_by R.BitRegister O.position) O.position words.now self
+            (domain_numbers R.number O.masked result) }
     {
         let (word, head, len) = self.raw_parts();
         cut_from::<R, O>(words, word, head, len)
@@ -47,6 +51,8 @@ pub(crate) fn cut_from<'a, R: BitRegister, O: BitOrder<R>>(
     ensures enclave { IsEnclave result ↔ LiesInside R.BITS (extent 0 head len) }
     ensures cut { IsCut R.BITS result }
     ensures words { length (domain_numbers R.number O.masked result) ≡ touched R.BITS head len }
+    ensures masked { AreMasked (read_by R.BitRegister O.position) O.position words.now (extent word head len)
+        (domain_numbers R.number O.masked result) }
 {
     let rest = words_from(words, word);
     if len == 0 {
@@ -74,6 +80,8 @@ fn cut_words<'a, R: BitRegister, O: BitOrder<R>>(
     ensures enclave { IsEnclave result ↔ LiesInside R.BITS (extent 0 head len) }
     ensures cut { IsCut R.BITS result }
     ensures words { length (domain_numbers R.number O.masked result) ≡ touched R.BITS head len }
+    ensures masked { AreMasked (read_by R.BitRegister O.position) O.position words.now (extent 0 head len)
+        (domain_numbers R.number O.masked result) }
 {
     let bits = R::BITS as usize;
     let from = head.into_inner() as usize;
@@ -128,6 +136,8 @@ fn part_before<'a, R: BitRegister, O: BitOrder<R>>(
         ≡ piece (memory (read_by R.BitRegister O.position) words.now) (word * R.BITS) upto }
     ensures cut { IfSome result (IsTail R.BITS) }
     ensures words { length (option_numbers R.number O.masked result) ≡ min 1 upto }
+    ensures masked { 0 < upto → ReadsDigits (read_by R.BitRegister O.position) words.now word
+        (λ i. digit_at (slice_index (option_numbers R.number O.masked result) 0) (O.position i)) 0 upto }
 {
     if upto == 0 {
         return None;
@@ -150,6 +160,8 @@ fn part_of<'a, R: BitRegister, O: BitOrder<R>>(
     ensures head { partial_head result ≡ head }
     ensures tail { partial_tail result ≡ tail }
     ensures words { length (partial_numbers R.number O.masked result) ≡ 1 }
+    ensures masked { ReadsDigits (read_by R.BitRegister O.position) words.now word
+        (λ i. digit_at (slice_index (partial_numbers R.number O.masked result) 0) (O.position i)) head tail }
 {
     PartialElement::new(&words[word..word + 1], head, tail)
 }

@@ -5,7 +5,7 @@ ghost use Rattle.std.specs.Prelude.{not, true, false, length, slice_index_or, mi
 ghost use Rattle.bit_addressing_span.specs.Domain.{IsCutOf, IsEnclave, domain_numbers};
 ghost use Rattle.bit_addressing_memory.specs.Memory.{indexed, read_by, entry, touched, Overwrites};
 ghost use Rattle.bit_addressing_span.specs.declared.span.TheConstants.{MAX_BITS};
-ghost use Rattle.bit_addressing_span.specs.Parts.{ReadsPart};
+ghost use Rattle.bit_addressing_span.specs.Parts.{AreMasked, ReadsPart};
 ghost use Rattle.bit_addressing_span.specs.Span.{extent, FitsIn, LiesInside};
 ghost use Rattle.bit_addressing_span.specs.Parts.{part_from, part_upto, part_place, part_count};
 
@@ -95,6 +95,8 @@ impl<'a, R: BitRegister, O: BitOrder<R>> DomainMut<'a, R, O> {
         ensures cut { IsCutOf (read_by R.BitRegister O.position) (domain_words self.now) (domain_span self.now) result }
         ensures words { length (domain_numbers R.number O.masked result)
             ≡ touched R.BITS (domain_span self.now).head (domain_span self.now).len }
+        ensures masked { AreMasked (read_by R.BitRegister O.position) O.position (domain_words self.now)
+            (domain_span self.now) (domain_numbers R.number O.masked result) }
         ensures enclave { IsEnclave result ↔ LiesInside R.BITS (domain_span self.now) }
     {
         let head = BitIdx::new_unchecked(self.head);

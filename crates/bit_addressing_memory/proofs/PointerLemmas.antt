@@ -191,6 +191,15 @@ pub ruleset steps_from_front = (pointers-none, first_stays, without_first, gives
 
 pub ruleset steps_from_back = (pointers-none, last_stays, without_last, gives_last, fewer_last)
 
+-- one fewer each time
+pub one_fewer_first : (b : ℕ) (s e n : Pointer) → IsRange b s e → 0 < bits_between b s e
+    → whole_place b n ≡ whole_place b s +ℤ pos 1 → bits_between b n e + 1 ≡ bits_between b s e
+one_fewer_first b s e n is some place = omega (arith, ints, is.order)
+
+pub one_fewer_last : (b : ℕ) (s e l : Pointer) → IsRange b s e → 0 < bits_between b s e
+    → whole_place b l ≡ whole_place b e -ℤ pos 1 → bits_between b s l + 1 ≡ bits_between b s e
+one_fewer_last b s e l is some place = omega (arith, ints, is.order)
+
 -- the number of the word of a bit so many bits on, as code adds it up, fits exactly where the bit's place stays in
 pub fits_where_stays : (b : ℕ) (p : Pointer) (w words by : ℤ) (i j : ℕ) → w ≡ p.word → i ≡ p.bit
     → FitsSigned w64 w → FitsSigned w64 words → IsOffset b i by words j

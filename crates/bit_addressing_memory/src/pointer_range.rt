@@ -1,9 +1,10 @@
 //! Ranges of pointers: from one bit up to before another.
 
-ghost use Rattle.std.specs.Prelude.{◌≡◌, ◌^◌, ◌<◌, ◌↔◌, pos, IsTrue, IfSome, ◌+ℤ◌, ◌-ℤ◌, ◌≤ℤ◌, ◌<ℤ◌, FitsSigned};
+ghost use Rattle.std.specs.Prelude.{◌≡◌, ⊤, ◌+◌, ◌^◌, ◌<◌, ◌↔◌, pos, IsTrue, IfSome, length, ◌+ℤ◌, ◌-ℤ◌, ◌≤ℤ◌, ◌<ℤ◌, FitsSigned};
 ghost use Rattle.std.specs.Int.{w64};
-ghost use Rattle.std.specs.Iterator.{YieldsFirst, YieldsLast, UpTo, item_count};
+ghost use Rattle.std.specs.Iterator.{MakesProgress, YieldsFirst, YieldsLast, UpTo, item_count};
 ghost use Rattle.std.specs.Iterator.SizeHint.{IsWithinCount};
+ghost use Rattle.std.specs.Option.{option_to_list};
 ghost use Rattle.bit_addressing_memory.specs.Pointer.{whole_place};
 ghost use Rattle.bit_addressing_memory.specs.PointerRange.{end_of, pointers_of};
 
@@ -154,7 +155,14 @@ impl<R: BitRegister, O: BitOrder<R>> Iterator for BitPtrRange<R, O> {
 
     ghost remaining = { item_count (pointers_of R.BITS) };
 
-    fn next(&mut self) -> Option<BitPtr<R, O>> {
+    fn next(&mut self) -> Option<BitPtr<R, O>>
+        ensures steps { YieldsFirst (pointers_of R.BITS) self.old result self.new }
+        ensures goes { MakesProgress (λ _. ⊤) (item_count (pointers_of R.BITS)) self.old result self.new }
+
+        // Where the range ends stays, so one that is spent begins there, too.
+        ensures end { end_of R.BITS self.new ≡ end_of R.BITS self.old }
+        ensures left { self.new.len + length (option_to_list result) ≡ self.old.len }
+    {
         if self.bits_left() == 0 {
             return None;
         }
@@ -177,7 +185,14 @@ impl<R: BitRegister, O: BitOrder<R>> Iterator for BitPtrRange<R, O> {
 impl<R: BitRegister, O: BitOrder<R>> DoubleEndedIterator for BitPtrRange<R, O> {
     ghost next_back_gives = { YieldsLast (pointers_of R.BITS) };
 
-    fn next_back(&mut self) -> Option<BitPtr<R, O>> {
+    fn next_back(&mut self) -> Option<BitPtr<R, O>>
+        ensures steps { YieldsLast (pointers_of R.BITS) self.old result self.new }
+        ensures goes { MakesProgress (λ _. ⊤) (item_count (pointers_of R.BITS)) self.old result self.new }
+
+        // Where the range begins stays, so one that is spent ends there, too.
+        ensures start { self.new.start ≡ self.old.start }
+        ensures left { self.new.len + length (option_to_list result) ≡ self.old.len }
+    {
         if self.bits_left() == 0 {
             return None;
         }

@@ -163,7 +163,12 @@ fn gives<R: BitRegister, O: BitOrder<R>>(
             high = high.wrapping_sub(1);
         }
     }
-    low == high && range.is_empty() && range.next().is_none() && range.next_back().is_none()
+    low == high
+        && range.is_empty()
+        && range.next().is_none()
+        && range.next_back().is_none()
+        && lies_at(range.start(), low)
+        && lies_at(range.end(), high)
 }
 
 // Whether a range lies between two places, by what it tells of itself and of pointers.

@@ -4,7 +4,7 @@ use bit_addressing::{
     BitEnd, BitIdx, BitSpan, Lsb0, Msb0, PartialElementMut, each_digit, flipped, load_in, masked,
     no_digits, store_in, stored,
 };
-use bit_addressing_samples::part_callers::{store_and_load, store_and_restore, write_two};
+use bit_addressing_samples::part_callers::{first_word, store_and_load, store_and_restore, write_two};
 use std::slice::from_mut;
 use std::test::Fail;
 
@@ -53,4 +53,16 @@ fn words_of_equal_digits(rt: HostRuntime) {
     assert!(rt; no_digits::<u16, Msb0>() == 0);
     assert!(rt; each_digit::<u16, Lsb0>() == 0xffff);
     assert!(rt; flipped::<u16, Msb0>(0x1234) == 0xedcb);
+}
+
+#[test]
+fn the_first_word_is_masked(rt: HostRuntime) -> Result<(), Fail> {
+    let memory = [0x12u8, 0x34, 0x56];
+    let span = BitSpan::<u8, Lsb0>::new(0, BitIdx::new(4)?, 16)?;
+    assert!(rt; span.fits(3));
+    assert!(rt; first_word(span, &memory) == Some(0x10));
+    let none = BitSpan::<u8, Lsb0>::new(1, BitIdx::new(4)?, 0)?;
+    assert!(rt; none.fits(3));
+    assert!(rt; first_word(none, &memory).is_none());
+    Ok(())
 }

@@ -107,10 +107,7 @@ fn load_part<'a, R: BitRegister, O: BitOrder<R>>(
 ) -> Option<R>
     ensures { option_word R.number result ≡ option_numbers R.number O.masked part.entry }
 {
-    match part {
-        Some(part) => Some(part.load_value()),
-        None => None,
-    }
+    part.map(|part| part.load_value())
 }
 
 impl<'a, R: BitRegister> Iterator for DomainWords<'a, R> {

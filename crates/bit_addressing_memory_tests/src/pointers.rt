@@ -220,14 +220,30 @@ fn stays(word: isize, index: u8, by: i128) -> bool {
 
 #[test]
 fn moves_are_tested(rt: HostRuntime) {
-    for word in [isize::MIN, isize::MIN + 1, -1, 0, isize::MAX - 1, isize::MAX] {
+    for word in [
+        isize::MIN,
+        isize::MIN + 1,
+        -1,
+        0,
+        isize::MAX - 1,
+        isize::MAX,
+    ] {
         for index in 0..8u8 {
             let pointer = BitPtr::<u8, Msb0>::new(word, BitIdx::new_unchecked(index));
             for count in 0..18usize {
                 let on = count as i128;
-                assert!(rt; pointer.can_add(count) == stays(word, index, on), "{word} {index} {count}");
-                assert!(rt; pointer.can_sub(count) == stays(word, index, -on), "{word} {index} {count}");
-                assert!(rt; pointer.can_offset(count as isize) == stays(word, index, on), "{word} {index} {count}");
+                assert!(rt;
+                    pointer.can_add(count) == stays(word, index, on),
+                    "{word} {index} {count}"
+                );
+                assert!(rt;
+                    pointer.can_sub(count) == stays(word, index, -on),
+                    "{word} {index} {count}"
+                );
+                assert!(rt;
+                    pointer.can_offset(count as isize) == stays(word, index, on),
+                    "{word} {index} {count}"
+                );
             }
         }
     }

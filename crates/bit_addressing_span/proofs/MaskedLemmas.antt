@@ -133,8 +133,10 @@ region_reads reading at words head len last upto first heads body tails low few 
   where
     one_at_least : (n : ℕ) → 0 < n → 1 ≤ n
     one_at_least n some = omega arith
+
     one_more : (k n : ℕ) → k < n → k + 1 ≤ n
     one_more k n low = omega arith
+
     nothing_left : (k n : ℕ) → k ≡ n → k - n ≡ 0
     nothing_left k n same = omega arith
 

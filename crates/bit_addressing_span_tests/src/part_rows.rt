@@ -4,7 +4,9 @@ use bit_addressing::{
     BitEnd, BitIdx, BitSpan, Lsb0, Msb0, PartialElementMut, each_digit, flipped, load_in, masked,
     no_digits, store_in, stored,
 };
-use bit_addressing_samples::part_callers::{first_word, store_and_load, store_and_restore, write_two};
+use bit_addressing_samples::part_callers::{
+    first_word, store_and_load, store_and_restore, write_two,
+};
 use std::slice::from_mut;
 use std::test::Fail;
 

@@ -1,0 +1,60 @@
+-- What a call that wrote inside a window makes of its list and of its frame.
+--
+-- What stands beside it stays: `overwritten_beside`, `frame_kept`. The list: `window_now`.
+use Rattle.std.proofs.Common.{◌≡◌, ℕ, ◌+◌, ◌-◌, ◌*◌, ◌<◌, ◌≤◌, Bool, false, List, length, take, drop, get_or, sym, ap}
+use Rattle.std.proofs.Common.{◌∙◌, arith, refl, rules}
+use Rattle.std.proofs.lemmas.List.{ext_get_or, length-take, length-drop, places}
+use Rattle.bit_addressing.specs.Memory.{Reading, entry, memory, piece, Overwrites}
+use Rattle.bit_addressing_memory.proofs.MemoryLemmas.{length-memory, entry_memory}
+use Rattle.bit_addressing_memory.proofs.WindowLemmas.{length-window, window_written, window_is}
+use Rattle.bit_slice_writes.specs.Frame.{Frame, frame_of, KeepsBeside}
+
+-- equal elements before a place are equal beginnings, and from a place on equal ends
+front_same : (xs ys : List Bool) (p : ℕ) → length xs ≡ length ys
+    → ((k : ℕ) → k < p → get_or xs k false ≡ get_or ys k false) → take p xs ≡ take p ys
+front_same xs ys p size same =
+    ext_get_or false (take p xs) (take p ys) (search (rules, places, size)) (λ k h.
+    let low : k < p = omega (arith, length-take p xs) in
+    let here = same k low in
+    grind (arith, places))
+
+back_same : (xs ys : List Bool) (p : ℕ) → length xs ≡ length ys
+    → ((k : ℕ) → p ≤ k → get_or xs k false ≡ get_or ys k false) → drop p xs ≡ drop p ys
+back_same xs ys p size same =
+    ext_get_or false (drop p xs) (drop p ys) (search (rules, places, size)) (λ k h.
+    let here = same (p + k) (omega arith) in
+    grind (arith, places))
+
+-- what is overwritten inside a window keeps what stands beside it
+pub overwritten_beside : {R : Type 0} (reading : Reading R) (before after : List R) (place n p m : ℕ)
+    (now : ℕ → Bool) → place ≤ p → p + m ≤ place + n → Overwrites reading before after p m now
+    → KeepsBeside reading before after place n
+overwritten_beside reading before after place n p m now from upto is = record {
+  below = λ k low. is.below k (omega arith);
+  above = λ k high. is.above k (omega arith);
+  words = is.words;
+}
+
+-- and so it keeps the window's frame
+pub frame_kept : {X R : Type 0} (reading : Reading R) (lender : X) (before after : List R) (place n : ℕ)
+    → 0 < reading.bits → KeepsBeside reading before after place n
+    → frame_of reading lender after place n ≡ frame_of reading lender before place n
+frame_kept reading lender before after place n some is =
+    let size : length (memory reading after) ≡ length (memory reading before) =
+    length-memory reading after ∙ ap (λ k. k * reading.bits) is.words ∙ sym (length-memory reading before) in
+    let front = front_same (memory reading after) (memory reading before) place size (λ k low.
+    entry_memory reading after k some ∙ is.below k low ∙ sym (entry_memory reading before k some)) in
+    let back = back_same (memory reading after) (memory reading before) (place + n) size (λ k high.
+    entry_memory reading after k some ∙ is.above k high ∙ sym (entry_memory reading before k some)) in
+    let count = is.words in
+    rw (front, back, count) refl
+
+-- a window whose bits are all overwritten is the list of what they became
+pub window_now : {R : Type 0} (reading : Reading R) (before after : List R) (place n : ℕ) (now : ℕ → Bool)
+    (ys : List Bool) → 0 < reading.bits → place + n ≤ length before * reading.bits → length ys ≡ n
+    → ((k : ℕ) → k < n → now k ≡ get_or ys k false) → Overwrites reading before after place n now
+    → piece (memory reading after) place n ≡ ys
+window_now reading before after place n now ys some fits size same is =
+    window_is reading after place n ys some (rw is.words fits) size (λ k low. is.there k low ∙ same k low)
+
+pub ruleset frames = (length-window, window_written, overwritten_beside)

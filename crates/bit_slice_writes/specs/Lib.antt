@@ -1,0 +1,5 @@
+pub mod Frame
+pub mod FrameLaws
+pub mod ViewMut
+pub mod Lending
+pub mod Parts

@@ -1,0 +1,12 @@
+//! Windows of bits to write.
+#![tactic(auto)]
+
+mod bits_mut;
+mod callers;
+mod pair;
+mod view_mut;
+
+pub use bits_mut::BitsMut;
+pub use callers::{four_set, set_twice, set_both};
+pub use pair::Pair;
+pub use view_mut::BitSliceMut;

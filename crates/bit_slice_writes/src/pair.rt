@@ -1,0 +1,81 @@
+//! Two parts of a window, of which one is lent at a time.
+
+ghost use Rattle.std.specs.Prelude.{◌≡◌, ℕ, ◌+◌, ◌-◌, ◌*◌, ◌<◌, ◌≤◌, ◌^◌, length};
+ghost use Rattle.std.specs.Borrow.{sem};
+ghost use Rattle.bit_addressing_span.specs.declared.span.TheConstants.{MAX_BITS};
+ghost use Rattle.bit_slice_writes.specs.Lending.{LendsHalf};
+
+use crate::bits_mut::BitsMut;
+use bit_addressing::BitRegister;
+use bit_slice_views::Bits;
+
+/// Two parts of a window, of which one is lent at a time.
+pub struct Pair<'s, V: BitsMut> {
+    of: &'s mut V,
+    head: usize,
+    mid: usize,
+    len: usize,
+}
+
+impl<V: BitsMut> Drop for Pair<'_, V> {
+    fn drop(self)
+        requires fits { self.head + self.len ≤ length (V.words self.of.now) * V.Store.BITS }
+        requires short { self.len ≤ MAX_BITS }
+        requires small { self.head + self.len < 2 ^ 63 }
+        ensures words { V.words self.exit.0.now ≡ V.words self.entry.of.now }
+        ensures lender { V.lender self.exit.0.now ≡ V.lender self.entry.of.now }
+        ensures place { V.place self.exit.0.now ≡ self.entry.head }
+        ensures len { length (V.bits self.exit.0.now) ≡ self.entry.len }
+    {
+        let Pair { of, head, mid: _, len } = self;
+        of.show(head, len);
+    }
+}
+
+impl<'s, V: BitsMut> Pair<'s, V> {
+    pub(crate) fn new(of: &'s mut V, head: usize, mid: usize, len: usize) -> Pair<'s, V>
+        ensures same_reference { result.of.ghost_name ≡ of.entry.ghost_name }
+        ensures value { result.of.now ≡ of.old }
+        ensures head { result.head ≡ head }
+        ensures mid { result.mid ≡ mid }
+        ensures len { result.len ≡ len }
+    {
+        Pair { of, head, mid, len }
+    }
+
+    /// The first part, to write.
+    pub fn left_mut(&mut self) -> &mut V
+        requires ordered { self.old.mid ≤ self.old.len }
+        requires fits { self.old.head + self.old.len ≤ length (V.words self.old.of.now) * V.Store.BITS }
+        requires short { self.old.len ≤ MAX_BITS }
+        requires small { self.old.head + self.old.len < 2 ^ 63 }
+        ensures words { V.words result.now ≡ V.words self.old.of.now }
+        ensures lender { V.lender result.now ≡ V.lender self.old.of.now }
+        ensures place { V.place result.now ≡ self.old.head }
+        ensures len { length (V.bits result.now) ≡ self.old.mid }
+        ensures* lends { sem 𝓛 (LendsHalf V.row V.Store.row V.Order.row self.entry result) }
+    {
+        let head = self.head;
+        let mid = self.mid;
+        self.of.show(head, mid);
+        &mut *self.of
+    }
+
+    /// The other part, to write.
+    pub fn right_mut(&mut self) -> &mut V
+        requires ordered { self.old.mid ≤ self.old.len }
+        requires fits { self.old.head + self.old.len ≤ length (V.words self.old.of.now) * V.Store.BITS }
+        requires short { self.old.len ≤ MAX_BITS }
+        requires small { self.old.head + self.old.len < 2 ^ 63 }
+        ensures words { V.words result.now ≡ V.words self.old.of.now }
+        ensures lender { V.lender result.now ≡ V.lender self.old.of.now }
+        ensures place { V.place result.now ≡ self.old.head + self.old.mid }
+        ensures len { length (V.bits result.now) ≡ self.old.len - self.old.mid }
+        ensures* lends { sem 𝓛 (LendsHalf V.row V.Store.row V.Order.row self.entry result) }
+    {
+        let head = self.head + self.mid;
+        let len = self.len - self.mid;
+        self.of.show(head, len);
+        &mut *self.of
+    }
+}

@@ -1,0 +1,109 @@
+//! A window of words, to write.
+
+ghost use Rattle.std.specs.Prelude.{◌≡◌, ◌+◌, ◌-◌, ◌*◌, ◌^◌, ◌<◌, ◌≤◌, length};
+ghost use Rattle.std.specs.Fn.{FnOnceReturnsAtMut};
+ghost use Rattle.bit_addressing.specs.Memory.{memory, piece, read_by, reading_in};
+ghost use Rattle.bit_addressing_span.specs.declared.span.TheConstants.{MAX_BITS};
+ghost use Rattle.bit_slice_writes.specs.Frame.{frame_of};
+
+use crate::bits_mut::BitsMut;
+use bit_addressing::{BitOrder, BitRegister, MAX_BITS};
+use bit_slice_views::{BitSlice, Bits};
+use std::marker::PhantomData;
+
+/// A writable window of a slice of words.
+#[derive(Drop)]
+pub struct BitSliceMut<'a, T: BitRegister, O> {
+    words: &'a mut [T],
+    head: usize,
+    len: usize,
+    order: PhantomData<O>,
+
+    ghost short: { len ≤ MAX_BITS },
+    ghost small: { head + len < 2 ^ 63 },
+    ghost fits: { head + len ≤ length words.now * T.BITS },
+}
+
+#[tactic(auto, using(bit_slice_views::proofs::ViewLemmas::views))]
+impl<'a, T: BitRegister, O: BitOrder<T>> BitSliceMut<'a, T, O> {
+    ghost use Rattle.bit_slice_writes.specs.ViewMut.{lent_words, lent_name, lent_place, lent_bits};
+
+    /// All bits of these words.
+    pub fn from_slice_mut(words: &'a mut [T]) -> BitSliceMut<'a, T, O>
+        requires { length words.old * T.BITS ≤ MAX_BITS }
+        ensures same_reference { lent_name result ≡ words.entry.ghost_name }
+        ensures words { lent_words result ≡ words.old }
+        ensures place { lent_place result ≡ 0 }
+        ensures len { length (lent_bits (read_by T.BitRegister O.position) result) ≡ length words.old * T.BITS }
+    {
+        let len = words.len() * T::BITS as usize;
+        BitSliceMut {
+            words,
+            head: 0,
+            len,
+            order: PhantomData,
+        }
+    }
+}
+
+#[tactic(auto, using(bit_slice_views::proofs::ViewLemmas::views))]
+impl<T: BitRegister, O: BitOrder<T>> Bits for BitSliceMut<'_, T, O> {
+    ghost use Rattle.bit_slice_writes.specs.ViewMut.{lent_bits};
+
+    type Store = T;
+
+    type Order = O;
+
+    ghost bits = { lent_bits (read_by T.BitRegister O.position) };
+
+    fn as_bitslice(&self) -> BitSlice<'_, T, O> {
+        BitSlice::<T, O>::from_place(&*self.words, self.head, self.len)
+    }
+}
+
+#[tactic(auto, using(crate::proofs::FrameLemmas::frames))]
+impl<T: BitRegister, O: BitOrder<T>> BitsMut for BitSliceMut<'_, T, O> {
+    ghost use Rattle.std.specs.Borrow.{GName};
+    ghost use Rattle.std.specs.Prelude.{refl};
+    ghost use Rattle.bit_slice_writes.specs.ViewMut.{lent_frame, lent_words};
+    ghost use Rattle.bit_slice_writes.specs.FrameLaws.{shown_window, shown_fits};
+
+    ghost Lender = { GName };
+
+    ghost lender = { λ v. v.words.ghost_name };
+
+    ghost words = { lent_words };
+
+    ghost place = { λ v. v.head };
+
+    ghost frame = { lent_frame (read_by T.BitRegister O.position) };
+
+    fn first_place(&self) -> usize {
+        self.head
+    }
+
+    fn with_words<F: FnOnce(&mut [T])>(&mut self, f: F) {
+        apply::<T, F>(self.words, f);
+    }
+
+    fn show(&mut self, from: usize, count: usize) {
+        self.head = from;
+        self.len = count;
+    }
+
+    ghost window = { λ v. shown_window (reading_in T.BITS T.number O.position) v.words.now v.head v.len v.fits };
+
+    ghost fits = { λ v. shown_fits (reading_in T.BITS T.number O.position) v.words.now v.head v.len v.fits };
+
+    ghost framed = { λ v. refl };
+}
+
+// A function's work on words, which keeps how many there are.
+fn apply<T: BitRegister, F: FnOnce(&mut [T])>(words: &mut [T], f: F)
+    requires callable { (w : _) → w.now ≡ words.old → F.pre f w }
+    requires keeps { (w : _) (a : _) → FnOnceReturnsAtMut F.FnOnce f w tt a → length a ≡ length w }
+    ensures len { length words.new ≡ length words.old }
+    ensures ran { FnOnceReturnsAtMut F.FnOnce f words.old tt words.new }
+{
+    f(words);
+}

@@ -1,8 +1,8 @@
 -- What the commands at one bit, or at a stretch of bits, do to a span's list: a window of the memory is edited.
 --
 -- One bit: `carried_read`, `carried_replace`. Two: `carried_swap`. Many: `carried_copy`, `carried_nothing`, `copy_out`.
-use Rattle.std.proofs.Common.{◌≡◌, ◌≢◌, ◌⊎◌, ℕ, ◌+◌, ◌<◌, ◌≤◌, Bool, false, List, [], length, take, get_or, leb, ◌&&◌, refl, sym, ap}
-use Rattle.std.proofs.Common.{◌∙◌, inl, inr, arith}
+use Rattle.std.proofs.Common.{◌≡◌, ◌≢◌, ◌⊎◌, ℕ, ◌+◌, ◌<◌, ◌≤◌, Bool, false, leb, ◌&&◌, List, [], length, take, get_or}
+use Rattle.std.proofs.Common.{refl, sym, ap, ◌∙◌, inl, inr, arith}
 use Rattle.std.proofs.lemmas.Bool.{cases_lt}
 use Rattle.std.proofs.lemmas.Bool.Decides.{nat_tests}
 use Rattle.std.proofs.lemmas.List.{append-nil, take-append-drop}

@@ -1,6 +1,6 @@
 -- What the commands at one word of a span do to the span's list.
 --
--- No write: `carried_load`. A write of its bits: `carried_store`, `carried_set`, `carried_clear`, `carried_invert`.
+-- No write: `carried_load`. A write of its bits, whichever it is: `carried_word`.
 use Rattle.std.proofs.Common.{◌≡◌, ◌≢◌, ℕ, ◌+◌, ◌-◌, ◌*◌, ◌/◌, ◌%◌, ◌<◌, ◌≤◌, Bool, true, false, List}
 use Rattle.std.proofs.Common.{length, map, get_or, ltb, not, refl, sym, ap, ◌∙◌, inl, inr, arith}
 use Rattle.std.proofs.lemmas.Bool.{cases_lt}
@@ -19,46 +19,36 @@ use Rattle.bit_addressing_span.proofs.PartsLemmas.{part_some, part_start}
 use Rattle.bit_addressing.specs.Own.{lies_in, own_digit, own_edit, own_reading, own_word, over_word}
 use Rattle.bit_addressing.specs.Runs.{CarriesOut}
 use Rattle.bit_addressing.specs.declared.command.SpanCommand.{SpanCommand}
-use Rattle.bit_addressing.specs.declared.command.SpanCommand.TheVariants.{Load, Store, Set, Clear, Invert}
+use Rattle.bit_addressing.specs.declared.command.SpanCommand.TheVariants.{Load}
 use Rattle.bit_addressing.specs.declared.command.SpanReply.TheVariants.{Word}
-use Rattle.bit_addressing.proofs.CommandLemmas.{carried_list, length-span_bits, span_bit, span_within}
+use Rattle.bit_addressing.proofs.CommandLemmas.{carried, length-span_bits, span_bit, span_within}
 
 -- ---- the word that is answered
-
-own_digit_below : (b head : ℕ) (bits : List Bool) (k i : ℕ) → k * b + i < head → own_digit b head bits k i ≡ false
-unfolding own_digit
-own_digit_below b head bits k i h = grind (arith, nat_tests)
-
-own_digit_from : (b head : ℕ) (bits : List Bool) (k i : ℕ) → head ≤ k * b + i
-    → own_digit b head bits k i ≡ get_or bits (k * b + i - head) false
-unfolding own_digit
-own_digit_from b head bits k i h = grind (arith, nat_tests)
 
 digit_reads : {R : Type 0} (reading : Reading R) (words : List R) (span : Extent) (k : ℕ) (word : R) (i : ℕ)
     → span.head < reading.bits → FitsIn reading.bits span (length words)
     → ReadsPart reading words (span.word + k) word (part_from reading.bits span k) (part_upto reading.bits span k)
     → i < reading.bits
     → reading.digit word i ≡ own_digit reading.bits span.head (span_bits reading words span) k i
+unfolding own_digit
 digit_reads reading words span k word i low fits reads small =
     let bits = span_bits reading words span in
     let size : length bits ≡ span.len = length-span_bits reading words span low fits in
+    let j : ℕ = k * reading.bits + i - span.head in
     elim (cases_lt (k * reading.bits + i) span.head) [
-      | inl before ↦
-          reads.below i (omega arith) small ∙ sym (own_digit_below reading.bits span.head bits k i before)
-      | inr from ↦
-          let j : ℕ = k * reading.bits + i - span.head in
-          let own : own_digit reading.bits span.head bits k i ≡ get_or bits j false = own_digit_from reading.bits
-          span.head bits k i from in
-          elim (cases_lt j span.len) [
-            | inl inside ↦
-                let place : (span.word + k) * reading.bits + i ≡ span_place reading.bits span + j = omega arith in
-                reads.inside i (omega arith) (omega arith) small
-                ∙ ap (entry reading words) place
-                ∙ sym (span_bit reading words span j (omega arith) inside)
-                ∙ sym own
-            | inr past ↦
-                reads.above i (omega arith) small ∙ sym (get_or_past bits j false (omega arith)) ∙ sym own
-          ]
+      | inl before ↦ reads.below i (omega arith) small ∙ grind (arith, nat_tests)
+      | inr from ↦ elim (cases_lt j span.len) [
+        | inl inside ↦
+            let place : (span.word + k) * reading.bits + i ≡ span_place reading.bits span + j = omega arith in
+            reads.inside i (omega arith) (omega arith) small
+            ∙ ap (entry reading words) place
+            ∙ sym (span_bit reading words span j (omega arith) inside)
+            ∙ grind (arith, nat_tests)
+        | inr past ↦
+            reads.above i (omega arith) small
+            ∙ sym (get_or_past bits j false (omega arith))
+            ∙ grind (arith, nat_tests)
+      ]
     ]
 
 -- two functions with equal values below n
@@ -89,7 +79,7 @@ pub carried_load : {R : Type 0} (reading : Reading R) (words : List R) (span : E
     → ReadsPart reading words (span.word + k) word (part_from reading.bits span k) (part_upto reading.bits span k)
     → CarriesOut reading words words span (Load k) (Word word)
 carried_load reading words span k word low fits within reads =
-    carried_list reading words words span (Load k) (Word word) low fits (grind (arith, nat_tests))
+    carried reading words words span (Load k) (Word word) low fits (grind (arith, nat_tests))
     (ap Word (own_word_reads reading words span k word low fits reads)) refl (λ p _. refl) refl
 
 -- ---- a write of its bits
@@ -132,8 +122,8 @@ over_piece b head k now bits ys i from m some count at short inside first last s
     ])
 
 -- a word read and written: each bit of the word of the list made `now` of its index and what it was
-carried_word : {R : Type 0} (reading : Reading R) (before after : List R) (span : Extent)
-    (command : SpanCommand R) (k : ℕ) (word : R) (stored : ℕ → Bool) (now : ℕ → Bool → Bool)
+pub carried_word : {R : Type 0} (reading : Reading R) (before after : List R) (span : Extent)
+    (command : SpanCommand R) (k : ℕ) (word : R) (now : ℕ → Bool → Bool)
     → span.head < reading.bits → FitsIn reading.bits span (length before) → k < touched reading.bits span.head span.len
     → lies_in reading.bits span.head span.len command ≡ ltb k (touched reading.bits span.head span.len)
     → own_edit reading span.head command (span_bits reading before span)
@@ -141,11 +131,10 @@ carried_word : {R : Type 0} (reading : Reading R) (before after : List R) (span 
     → own_reading reading.bits span.head command (span_bits reading before span)
     ≡ Word (own_word reading.bits span.head (span_bits reading before span) k)
     → ReadsPart reading before (span.word + k) word (part_from reading.bits span k) (part_upto reading.bits span k)
-    → Overwrites reading before after (part_place reading.bits span k) (part_count reading.bits span k) stored
-    → ((i : ℕ) → i < part_count reading.bits span k
-    → stored i ≡ now (part_from reading.bits span k + i) (entry reading before (part_place reading.bits span k + i)))
+    → Overwrites reading before after (part_place reading.bits span k) (part_count reading.bits span k)
+    (λ i. now (part_from reading.bits span k + i) (entry reading before (part_place reading.bits span k + i)))
     → CarriesOut reading before after span command (Word word)
-carried_word reading before after span command k word stored now low fits within range edit answered reads stores same =
+carried_word reading before after span command k word now low fits within range edit answered reads writes =
     let b : ℕ = reading.bits in
     let some : 0 < b = omega arith in
     let bits = span_bits reading before span in
@@ -155,70 +144,26 @@ carried_word reading before after span command k word stored now low fits within
     let from : ℕ = part_from b span k in
     let m : ℕ = part_count b span k in
     let i : ℕ = k * b + from - span.head in
-    let ys = map stored (range_with_len 0 m) in
-    let count : length ys ≡ m = length-map-range_with_len stored 0 m in
-    let at : span_place b span + i ≡ part_place b span k = omega arith in
-    let value = λ (q : ℕ) (small : q < m). get_or-map-range_with_len stored 0 m q q false small (omega arith) in
-    carried_list reading before after span command (Word word) low fits (range ∙ grind (arith, nat_tests))
+    let new = λ (q : ℕ). now (from + q) (get_or bits (i + q) false) in
+    let ys = map new (range_with_len 0 m) in
+    let count : length ys ≡ m = length-map-range_with_len new 0 m in
+    let at : part_place b span k ≡ span_place b span + i = omega arith in
+    let value = λ (q : ℕ) (small : q < m). get_or-map-range_with_len new 0 m q q false small (omega arith) in
+    carried reading before after span command (Word word) low fits (range ∙ grind (arith, nat_tests))
     (ap Word (own_word_reads reading before span k word low fits reads) ∙ sym answered)
-    (window_overwritten reading before after (span_place b span) span.len (part_place b span k) i m stored ys some
-    (span_within b span (length before) low has fits) (sym at) (omega arith) count
-    (λ q small. sym (value q small)) stores
-    ∙ over_piece b span.head k now bits ys i from m some count (omega arith) (omega arith) (omega arith) (omega arith)
-    (λ more. omega arith)
+    (window_overwritten reading before after (span_place b span) span.len (part_place b span k) i m
+    (λ q. now (from + q) (entry reading before (part_place b span k + q))) ys some
+    (span_within b span (length before) low has fits) at (omega arith) count
     (λ q small.
     let place : part_place b span k + q ≡ span_place b span + (i + q) = omega arith in
-    value q small ∙ same q small ∙ ap (λ p. now (from + q) (entry reading before p)) place
-    ∙ ap (now (from + q)) (sym (span_bit reading before span (i + q) some (omega arith))))
+    ap (λ p. now (from + q) (entry reading before p)) place
+    ∙ ap (now (from + q)) (sym (span_bit reading before span (i + q) some (omega arith)))
+    ∙ sym (value q small)) writes
+    ∙ over_piece b span.head k now bits ys i from m some count (omega arith) (omega arith) (omega arith) (omega arith)
+    (λ more. omega arith) value
     ∙ sym edit)
     (λ p out. elim (cases_lt p (span_place b span)) [
-      | inl under ↦ stores.below p (omega arith)
-      | inr up ↦ let past : span_place b span + span.len ≤ p = out up in stores.above p (omega arith)
+      | inl under ↦ writes.below p (omega arith)
+      | inr up ↦ let past : span_place b span + span.len ≤ p = out up in writes.above p (omega arith)
     ])
-    stores.words
-
--- each of the writes of one word
-
-pub carried_store : {R : Type 0} (reading : Reading R) (before after : List R) (span : Extent) (k : ℕ)
-    (word was : R) → span.head < reading.bits → FitsIn reading.bits span (length before)
-    → k < touched reading.bits span.head span.len
-    → ReadsPart reading before (span.word + k) was (part_from reading.bits span k) (part_upto reading.bits span k)
-    → Overwrites reading before after (part_place reading.bits span k) (part_count reading.bits span k)
-    (λ i. reading.digit word (part_from reading.bits span k + i))
-    → CarriesOut reading before after span (Store k word) (Word was)
-carried_store reading before after span k word was low fits within reads stores =
-    carried_word reading before after span (Store k word) k was
-    (λ i. reading.digit word (part_from reading.bits span k + i))
-    (λ i _. reading.digit word i) low fits within refl refl refl reads stores (λ _ _. refl)
-
-pub carried_set : {R : Type 0} (reading : Reading R) (before after : List R) (span : Extent) (k : ℕ) (was : R)
-    → span.head < reading.bits → FitsIn reading.bits span (length before) → k < touched reading.bits span.head span.len
-    → ReadsPart reading before (span.word + k) was (part_from reading.bits span k) (part_upto reading.bits span k)
-    → Overwrites reading before after (part_place reading.bits span k) (part_count reading.bits span k) (λ _. true)
-    → CarriesOut reading before after span (Set k) (Word was)
-carried_set reading before after span k was low fits within reads stores =
-    carried_word reading before after span (Set k) k was (λ _. true) (λ _ _. true) low fits within
-    refl refl refl reads stores (λ _ _. refl)
-
-pub carried_clear : {R : Type 0} (reading : Reading R) (before after : List R) (span : Extent) (k : ℕ)
-    (was : R)
-    → span.head < reading.bits → FitsIn reading.bits span (length before) → k < touched reading.bits span.head span.len
-    → ReadsPart reading before (span.word + k) was (part_from reading.bits span k) (part_upto reading.bits span k)
-    → Overwrites reading before after (part_place reading.bits span k) (part_count reading.bits span k) (λ _. false)
-    → CarriesOut reading before after span (Clear k) (Word was)
-carried_clear reading before after span k was low fits within reads stores =
-    carried_word reading before after span (Clear k) k was (λ _. false) (λ _ _. false) low fits within
-    refl refl refl reads stores (λ _ _. refl)
-
-pub carried_invert : {R : Type 0} (reading : Reading R) (before after : List R) (span : Extent) (k : ℕ)
-    (was : R)
-    → span.head < reading.bits → FitsIn reading.bits span (length before) → k < touched reading.bits span.head span.len
-    → ReadsPart reading before (span.word + k) was (part_from reading.bits span k) (part_upto reading.bits span k)
-    → Overwrites reading before after (part_place reading.bits span k) (part_count reading.bits span k)
-    (λ i. not (entry reading before (part_place reading.bits span k + i)))
-    → CarriesOut reading before after span (Invert k) (Word was)
-carried_invert reading before after span k was low fits within reads stores =
-    carried_word reading before after span (Invert k) k was
-    (λ i. not (entry reading before (part_place reading.bits span k + i))) (λ _ bit. not bit) low fits within refl
-    refl refl
-    reads stores (λ _ _. refl)
+    writes.words

@@ -2,7 +2,7 @@
 --
 -- One word: `one_word`, `part_reads`, `whole_reads`; by other names `reads_as`. All words of a cut: `region_reads`.
 -- From a word of a memory on: `entry-drop`, `masked_from_word`.
-use Rattle.std.proofs.Common.{◌≡◌, ℕ, zero, suc, ◌+◌, ◌-◌, ◌*◌, ◌/◌, ◌%◌, ◌<◌, ◌≤◌, min, bit_and, Bool, false, Option}
+use Rattle.std.proofs.Common.{◌≡◌, ℕ, zero, suc, ◌+◌, ◌-◌, ◌*◌, ◌<◌, ◌≤◌, min, bit_and, Option}
 use Rattle.std.proofs.Common.{List, [], ◌∷◌, ◌++◌, length, map, take, drop, get_or, refl, sym, ap, ◌∙◌, inl, inr, arith}
 use Rattle.std.proofs.lemmas.Bool.{cases_eq, cases_lt}
 use Rattle.std.proofs.lemmas.List.{get_or-map, get_or_append_left, get_or-append_right, drop-map, length-append}
@@ -14,7 +14,7 @@ use Rattle.bit_addressing_order.specs.BitOrder.{IsLawful}
 use Rattle.bit_addressing_memory.specs.Memory.{Reading, entry, reading_in, touched}
 use Rattle.bit_addressing_memory.proofs.EntryLemmas.{entry_read}
 use Rattle.bit_addressing_span.specs.Partial.{part_mask}
-use Rattle.bit_addressing_span.specs.Parts.{AreMasked, ReadsDigits, ReadsPart, part_from, part_upto}
+use Rattle.bit_addressing_span.specs.Parts.{AreMasked, ReadsDigits}
 use Rattle.bit_addressing_span.specs.Span.{extent}
 use Rattle.bit_addressing_span.proofs.PartialLemmas.{masked_digits}
 

@@ -26,6 +26,7 @@ returns g c =
       carried =
           carried_as (read_by g.R.BitRegister g.O.Positions.position) (domain_words d) _
           (domain_words c.store_value.new.self) _ (domain_span d) _ _ _ lent.words (search rules) lent.span
-          (carried_word _ _ _ _ (Store c.args.k c.args.word) c.args.k _ (λ i _. indexed g.R.BitRegister.number g.O.Positions.position c.args.word i) d.index d.fits
+          (carried_word _ _ _ _ (Store c.args.k c.args.word) c.args.k _
+          (λ i _. indexed g.R.BitRegister.number g.O.Positions.position c.args.word i) d.index d.fits
           (omega (arith, c.len.ensures)) refl refl refl c.store_value.ensures.was c.store_value.ensures.now);
     }

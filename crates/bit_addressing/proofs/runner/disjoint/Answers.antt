@@ -11,9 +11,9 @@ loop-earlier-preserved g c =
     let one = span_read spans c.loop-earlier.earlier c.index-spans-earlier.result (omega arith)
     c.index-spans-earlier.is in
     let other = span_read spans c.loop-later.later c.index-spans-later.result (omega arith) c.index-spans-later.is in
-    let from = c.places.ensures in
-    let upto = c.places-place.ensures in
-    let apart = rw (from.start, from.end, upto.start, upto.end, one, other) at
+    let of_earlier = c.places.ensures in
+    let of_later = c.places-place.ensures in
+    let apart = rw (of_earlier.start, of_earlier.end, of_later.start, of_later.end, one, other) at
     (c.are_apart.ensures.0 c.if-not-are_apart.false) in
     λ s p before inside low. elim (cases_eq s c.loop-earlier.earlier) [
       | inl last ↦
@@ -44,9 +44,10 @@ returns-then-not-are_apart-clause-disjoint g c =
     let one = span_read spans c.loop-earlier.earlier c.index-spans-earlier.result (omega arith)
     c.index-spans-earlier.is in
     let other = span_read spans c.loop-later.later c.index-spans-later.result (omega arith) c.index-spans-later.is in
-    let from = c.places.ensures in
-    let upto = c.places-place.ensures in
-    let told = rw (from.start, from.end, upto.start, upto.end, one, other) at c.are_apart.ensures.1 in (
+    let of_earlier = c.places.ensures in
+    let of_later = c.places-place.ensures in
+    let told = rw (of_earlier.start, of_earlier.end, of_later.start, of_later.end, one, other) at
+    c.are_apart.ensures.1 in (
       λ yes. absurd (false≢true yes),
       λ disjoint.
           sym c.if-not-are_apart.true

@@ -1,8 +1,8 @@
 -- What the commands at one bit, or at a stretch of bits, do to a span's list: a window of the memory is edited.
 --
 -- One bit: `carried_read`, `carried_replace`. Two: `carried_swap`. Many: `carried_copy`, `carried_nothing`, `copy_out`.
-use Rattle.std.proofs.Common.{◌≡◌, ◌≢◌, ◌⊎◌, ℕ, ◌+◌, ◌<◌, ◌≤◌, Bool, false, List, [], length, take, get_or, leb, ◌&&◌, refl, sym, ap}
-use Rattle.std.proofs.Common.{◌∙◌, inl, inr, arith}
+use Rattle.std.proofs.Common.{◌≡◌, ◌≢◌, ◌⊎◌, ℕ, ◌+◌, ◌<◌, ◌≤◌, Bool, false, leb, ◌&&◌, List, [], length, take, get_or}
+use Rattle.std.proofs.Common.{refl, sym, ap, ◌∙◌, inl, inr, arith}
 use Rattle.std.proofs.lemmas.Bool.{cases_lt}
 use Rattle.std.proofs.lemmas.Bool.Decides.{nat_tests}
 use Rattle.std.proofs.lemmas.List.{append-nil, take-append-drop}
@@ -14,7 +14,7 @@ use Rattle.bit_addressing_span.specs.Span.{Extent, FitsIn, span_bits, span_place
 use Rattle.bit_addressing.specs.Runs.{CarriesOut, IsOutside}
 use Rattle.bit_addressing.specs.declared.command.SpanCommand.TheVariants.{Read, Replace, Swap, Copy}
 use Rattle.bit_addressing.specs.declared.command.SpanReply.TheVariants.{Bit, Done}
-use Rattle.bit_addressing.proofs.CommandLemmas.{carried_list, span_bit, span_within}
+use Rattle.bit_addressing.proofs.CommandLemmas.{carried, span_bit, span_within}
 
 -- the place of a bit of the span is not outside it
 apart : (b : ℕ) (span : Extent) (i p q : ℕ) → i < span.len → p ≡ span_place b span + i → IsOutside b span q → q ≢ p
@@ -30,7 +30,7 @@ carried_read reading words span i p bit low fits small place is =
     let some : 0 < reading.bits = omega arith in
     let value : bit ≡ get_or (span_bits reading words span) i false =
     is ∙ ap (entry reading words) place ∙ sym (span_bit reading words span i some small) in
-    carried_list reading words words span (Read i) (Bit bit) low fits (grind (arith, nat_tests)) (ap Bit value) refl
+    carried reading words words span (Read i) (Bit bit) low fits (grind (arith, nat_tests)) (ap Bit value) refl
     (λ p _. refl) refl
 
 pub carried_replace : {R : Type 0} (reading : Reading R) (before after : List R) (span : Extent) (i p : ℕ)
@@ -42,7 +42,7 @@ carried_replace reading before after span i p bit was low fits small place is wr
     let within = span_within reading.bits span (length before) low (omega arith) fits in
     let value : was ≡ get_or (span_bits reading before span) i false =
     is ∙ ap (entry reading before) place ∙ sym (span_bit reading before span i some small) in
-    carried_list reading before after span (Replace i bit) (Bit was) low fits (grind (arith, nat_tests)) (ap Bit value)
+    carried reading before after span (Replace i bit) (Bit was) low fits (grind (arith, nat_tests)) (ap Bit value)
     (window_written reading before after (span_place reading.bits span) span.len p i bit some within place small writes)
     (λ q out. written_others writes q (λ e. apart reading.bits span i p q small place out e))
     writes.words
@@ -54,7 +54,7 @@ pub carried_swap : {R : Type 0} (reading : Reading R) (before after : List R) (s
 carried_swap reading before after span i j p q low fits small_i small_j is_p is_q swaps =
     let some : 0 < reading.bits = omega arith in
     let within = span_within reading.bits span (length before) low (omega arith) fits in
-    carried_list reading before after span (Swap i j) Done low fits (grind (arith, nat_tests)) refl
+    carried reading before after span (Swap i j) Done low fits (grind (arith, nat_tests)) refl
     (window_swapped reading before after (span_place reading.bits span) span.len p q i j some within is_p is_q small_i
     small_j swaps)
     (λ m out.
@@ -71,7 +71,7 @@ pub carried_copy : {R : Type 0} (reading : Reading R) (before after : List R) (s
 carried_copy reading before after span from to count p q low fits some_bits from_in to_in is_p is_q copies =
     let some : 0 < reading.bits = omega arith in
     let within = span_within reading.bits span (length before) low some_bits fits in
-    carried_list reading before after span (Copy from to count) Done low fits (grind (arith, nat_tests)) refl
+    carried reading before after span (Copy from to count) Done low fits (grind (arith, nat_tests)) refl
     (window_copied reading before after (span_place reading.bits span) span.len p q from to count some within is_p is_q
     from_in to_in copies)
     (λ m out. elim (cases_lt m (span_place reading.bits span)) [
@@ -96,5 +96,5 @@ carried_nothing reading words span from to count low fits none from_in to_in =
     let kept : with_piece bits to [] ≡ bits = rw (append-nil (take to bits), start) (take-append-drop to bits) in
     let same : bits ≡ with_piece bits to (piece bits from count) =
     sym (ap (with_piece bits to) (piece_none bits from count none) ∙ kept) in
-    carried_list reading words words span (Copy from to count) Done low fits (grind (arith, nat_tests)) refl same
+    carried reading words words span (Copy from to count) Done low fits (grind (arith, nat_tests)) refl same
     (λ p _. refl) refl

@@ -1,8 +1,9 @@
--- What a caller reads off a whole run: the bits and the replies of one span, by its own commands alone; and `parts`, for
--- those who read what they wrote into a part of a word.
+-- What a caller reads off a whole run: the bits and the replies of one span, by its own commands alone; and `parts`,
+-- for those who read what they wrote into a part of a word.
 --
--- One span's commands among all: `run_bit`, `run_replies`. Commands with their numbers in range, on a list: `list_of_one`,
--- `list_in_range`, `answer_of_one`, `answer_in_range`. A reply that is seen as a bit is that bit: `seen_bit`.
+-- One span's commands among all: `run_bit`, `run_replies`. Commands with their numbers in range, on a list:
+-- `list_of_one`, `list_in_range`, `answer_of_one`, `answer_in_range`. A reply that is seen as a bit is that bit:
+-- `seen_bit`.
 -- The word that a domain gives first: `first_masked`.
 use Rattle.std.proofs.Common.{◌≡◌, ℕ, ◌+◌, ◌<◌, Bool, true, false, List, [], ◌∷◌, length, map, get_or, refl}
 use Rattle.std.proofs.Common.{suc, Option, Some, None, IfSome, MatchOption, sym, ap, ◌∙◌, arith}

@@ -1,12 +1,11 @@
 -- A span's list of bits, by the entries of the memory that the span fits.
 --
 -- Where the span lies: `span_within`, `place_fits`, `lies_in_memory`. Its list: `length-span_bits`, `span_bit`.
--- What one command did: `refused`, `carried`, `carried_list`; the same at equal lists and spans: `carried_as`.
+-- What one command did: `refused`, `carried`; the same at equal lists and spans: `carried_as`.
 use Rattle.std.proofs.Common.{◌≡◌, ℕ, ◌+◌, ◌-◌, ◌*◌, ◌^◌, ◌<◌, ◌≤◌, true, false, List, length, get_or, refl}
 use Rattle.std.proofs.Common.{sym, ap, ◌∙◌, inl, inr, arith}
 use Rattle.std.proofs.Math.IntN.{pos}
 use Rattle.std.proofs.lemmas.Bool.{cases_eq}
-use Rattle.std.proofs.lemmas.List.{ext_get_or}
 use Rattle.bit_addressing_memory.specs.Memory.{Reading, entry, memory, touched}
 use Rattle.bit_addressing_memory.specs.Pointer.{LiesIn, Pointer, memory_place}
 use Rattle.bit_addressing_span.specs.Span.{Extent, span_bits, span_place, FitsIn}
@@ -84,28 +83,16 @@ refused reading words span command low fits is =
 
 -- its edit, where they are in range
 pub carried : {R : Type 0} (reading : Reading R) (before after : List R) (span : Extent)
-    (command : SpanCommand R) (reply : SpanReply R)
-    → span.head < reading.bits → FitsIn reading.bits span (length before)
-    → lies_in reading.bits span.head span.len command ≡ true
+    (command : SpanCommand R) (reply : SpanReply R) → span.head < reading.bits
+    → FitsIn reading.bits span (length before) → lies_in reading.bits span.head span.len command ≡ true
     → seen reading reply ≡ own_reading reading.bits span.head command (span_bits reading before span)
-    → length (own_edit reading span.head command (span_bits reading before span)) ≡ span.len
-    → ((j : ℕ) → j < span.len → entry reading after (span_place reading.bits span + j)
-    ≡ get_or (own_edit reading span.head command (span_bits reading before span)) j false)
+    → span_bits reading after span ≡ own_edit reading span.head command (span_bits reading before span)
     → ((p : ℕ) → IsOutside reading.bits span p → entry reading after p ≡ entry reading before p)
-    → length after ≡ length before
-    → CarriesOut reading before after span command reply
+    → length after ≡ length before → CarriesOut reading before after span command reply
 unfolding own_after own_answer
-carried reading before after span command reply low fits is replied len edited others words =
-    let bits = span_bits reading before span in
-    let now = span_bits reading after span in
-    let still : FitsIn reading.bits span (length after) = rw words fits in
+carried reading before after span command reply low fits is replied list others words =
     let size = length-span_bits reading before span low fits in
-    let now_size : length now ≡ span.len = length-span_bits reading after span low still in
-    let inside : lies_in reading.bits span.head (length bits) command ≡ true = rw size is in
-    let list : now ≡ own_edit reading span.head command bits =
-    ext_get_or false now (own_edit reading span.head command bits) (now_size ∙ sym len) (λ j h.
-    let small : j < span.len = omega arith in
-    span_bit reading after span j (omega arith) small ∙ edited j small) in
+    let inside : lies_in reading.bits span.head (length (span_bits reading before span)) command ≡ true = rw size is in
     record { replied = rw inside replied; list = rw inside list; others = others; words = words }
 
 -- the same of a memory and a span by other names
@@ -114,17 +101,3 @@ pub carried_as : {R : Type 0} (reading : Reading R) (words before stored after :
     → CarriesOut reading words stored its command reply → CarriesOut reading before after span command reply
 carried_as reading words before stored after its span command reply is_before is_after is_span done =
     rw (is_after, ← is_before, ← is_span) done
-
--- the same, where the span's list afterwards is known whole
-pub carried_list : {R : Type 0} (reading : Reading R) (before after : List R) (span : Extent)
-    (command : SpanCommand R) (reply : SpanReply R) → span.head < reading.bits
-    → FitsIn reading.bits span (length before) → lies_in reading.bits span.head span.len command ≡ true
-    → seen reading reply ≡ own_reading reading.bits span.head command (span_bits reading before span)
-    → span_bits reading after span ≡ own_edit reading span.head command (span_bits reading before span)
-    → ((p : ℕ) → IsOutside reading.bits span p → entry reading after p ≡ entry reading before p)
-    → length after ≡ length before → CarriesOut reading before after span command reply
-unfolding own_after own_answer
-carried_list reading before after span command reply low fits is replied list others words =
-    let size = length-span_bits reading before span low fits in
-    let inside : lies_in reading.bits span.head (length (span_bits reading before span)) command ≡ true = rw size is in
-    record { replied = rw inside replied; list = rw inside list; others = others; words = words }

@@ -1,6 +1,7 @@
 -- What a runner does over spans of one memory, of words of b bits: each span's list is edited by its own commands.
 --
--- Where a span lies: `IsInside`, `IsOutside`. What is asked: `AreDisjoint`, `AllFit`; what the spans' type says: `HeadsBelow`.
+-- Where a span lies: `IsInside`, `IsOutside`. What is asked: `AreDisjoint`, `AllFit`; what the spans' type says:
+-- `HeadsBelow`.
 -- One command: `CarriesOut`. Its commands and replies: `commands_of`, `replies_of`. A whole run: `Runs`.
 use Rattle.std.specs.Prelude.{ℕ, ◌+◌, ◌<◌, ◌≤◌, ◌==◌, ◌≡◌, List, [], ◌∷◌, length, map}
 use Rattle.std.specs.Prelude.{if◌then◌else◌, slice_index_or, All}

@@ -3,7 +3,7 @@
 ghost use Rattle.std.specs.Prelude.{◌≡◌, ℕ, ◌+◌, ◌<◌, ◌≤◌, ◌↔◌, IsTrue, length};
 ghost use Rattle.bit_addressing_memory.specs.Memory.{read_by};
 ghost use Rattle.bit_addressing_span.specs.Span.{span_place};
-ghost use Rattle.bit_addressing.specs.Runs.{AllFit, AreDisjoint, HeadsBelow, IsInside, IsOutside, span_at};
+ghost use Rattle.bit_addressing.specs.Runs.{AllFit, AreDisjoint, HeadsBelow, span_at};
 ghost use Rattle.bit_addressing.specs.Runs.{CarriesOut, OrderOfSpansIsFree, Runs};
 
 use crate::command::{SpanCommand, SpanReply};
@@ -13,11 +13,15 @@ use bit_addressing_span::BitSpan;
 
 /// Whether no bit is one of two spans'. Spans may share a word, and a span without bits shares none.
 pub fn disjoint<R: BitRegister, O: BitOrder<R>>(spans: &[BitSpan<R, O>]) -> bool
-    ensures { IsTrue result ↔ AreDisjoint R.BITS spans.now }
+    ensures disjoint { IsTrue result ↔ AreDisjoint R.BITS spans.now }
+
+    // What the spans' type says, told where each was looked at.
+    ensures heads { IsTrue result → HeadsBelow R.BITS spans.now }
 {
     for later in 0..spans.len() {
+        let place = places(spans[later]);
         for earlier in 0..later {
-            if !are_apart(spans[earlier], spans[later]) {
+            if !are_apart(places(spans[earlier]), place) {
                 return false;
             }
         }
@@ -54,7 +58,11 @@ pub fn run<R: BitRegister, O: BitOrder<R>>(
     requires fit { AllFit R.BITS spans.now (length memory.old) }
     requires places { length replies.old ≡ length commands.now }
     ensures run { Runs (read_by R.BitRegister O.position) memory.old memory.new spans.now commands.now replies.new }
+
+    // What the spans' type says.
+    ensures heads { HeadsBelow R.BITS spans.now }
 {
+    look_at(spans);
     for k in 0..commands.len() {
         let (number, command) = commands[k];
         replies[k] = run_at(memory, spans, number, command);
@@ -87,19 +95,29 @@ fn run_at<R: BitRegister, O: BitOrder<R>>(
     run_one(memory, spans[number], command)
 }
 
-// Whether no bit is in both spans.
-fn are_apart<R: BitRegister, O: BitOrder<R>>(one: BitSpan<R, O>, other: BitSpan<R, O>) -> bool
-    ensures { IsTrue result ↔ ((p : ℕ) → IsInside R.BITS one p → IsOutside R.BITS other p) }
+// Looks at each span, so that what their type says of each is known.
+fn look_at<R: BitRegister, O: BitOrder<R>>(spans: &[BitSpan<R, O>])
+    ensures { HeadsBelow R.BITS spans.now }
 {
-    let (one_start, one_end) = places(one);
-    let (other_start, other_end) = places(other);
-    one_start.max(other_start) >= one_end.min(other_end)
+    for span in spans {
+        let (_, _, _) = span.raw_parts();
+    }
+}
+
+// Whether no place is in both of two stretches, each from its first place up to before an end.
+fn are_apart(one: (u128, u128), other: (u128, u128)) -> bool
+    ensures { IsTrue result ↔ ((p : ℕ) → one.0 ≤ p → p < one.1 → other.0 ≤ p → other.1 ≤ p) }
+{
+    one.0.max(other.0) >= one.1.min(other.1)
 }
 
 // The place of a span's first bit and the place where it ends, which `usize` may not count.
 fn places<R: BitRegister, O: BitOrder<R>>(span: BitSpan<R, O>) -> (u128, u128)
     ensures start { result.0 ≡ span_place R.BITS span }
     ensures end { result.1 ≡ span_place R.BITS span + span.len }
+
+    // What the type says.
+    ensures index { span.head < R.BITS }
 {
     let (word, head, len) = span.raw_parts();
     let start = word as u128 * R::BITS as u128 + head.into_inner() as u128;

@@ -12,8 +12,8 @@ use Rattle.bit_addressing_order.specs.BitIdx.{IsOffset}
 use Rattle.bit_addressing_memory.proofs.PlaceLemmas.{word_within}
 use Rattle.bit_addressing_memory.specs.Pointer.{Pointer, StaysIn, whole_place}
 use Rattle.bit_addressing_memory.specs.PointerRange.{PointerRange, IsRange, bits_between, pointers_of}
-use Rattle.bit_addressing_memory.proofs.PointerRangeLemmas.{pointers-none, pointers-first, pointers-last, length-pointers}
-use Rattle.bit_addressing_memory.proofs.PointerRangeLemmas.{stays_here}
+use Rattle.bit_addressing_memory.proofs.PointerRangeLemmas.{pointers-none, pointers-first, pointers-last}
+use Rattle.bit_addressing_memory.proofs.PointerRangeLemmas.{length-pointers, stays_here}
 
 -- words times bits, of a sum of word numbers
 pub times_sum : (w v : ℤ) (b : ℕ) → (w +ℤ v) *ℤ pos b ≡ (w *ℤ pos b) +ℤ (v *ℤ pos b)

@@ -1,8 +1,8 @@
 -- A window is a piece of the memory: what a call that wrote inside it, or beside it, makes of its list.
 --
--- By its entries: `window_is`, `window_bit`, `length-window`. Written: `window_written` (one entry), `window_overwritten`
--- (several), `window_copied` (a piece of the same window), `window_swapped` (two exchanged). Beside it: `window_same`,
--- `window_beside`.
+-- By its entries: `window_is`, `window_bit`, `length-window`. Beside it: `window_same`, `window_beside`.
+-- Written: `window_written` (one entry), `window_overwritten` (several), `window_copied` (a piece of the same window),
+-- `window_swapped` (two exchanged).
 use Rattle.std.proofs.Common.{◌≡◌, ◌⊎◌, ℕ, ◌+◌, ◌-◌, ◌*◌, ◌<◌, ◌≤◌, Bool, false, List, length, get_or, set, sym, ap}
 use Rattle.std.proofs.Common.{◌∙◌, inl, inr, arith, length-set, get_or-set_same, get_or-set_other}
 use Rattle.std.proofs.lemmas.Bool.{cases_eq, cases_lt}

@@ -5,7 +5,7 @@ ghost use Rattle.std.specs.Prelude.{◌≡◌, ◌+◌, ◌*◌, ◌^◌, ◌<�
 ghost use Rattle.bit_addressing.specs.Memory.{entry, read_by, memory, piece, touched, with_piece};
 ghost use Rattle.bit_addressing.specs.Moves.{Moves, changed};
 ghost use Rattle.bit_addressing.specs.Span.{span_place};
-ghost use Rattle.bit_addressing.specs.Runs.{AllFit, AreDisjoint, HeadsBelow, span_at};
+ghost use Rattle.bit_addressing.specs.Runs.{AllFit, AreDisjoint, span_at};
 
 use bit_addressing::{
     BitOrder, BitRegister, BitSpan, SpanCommand, SpanReply, Sweep, Way, move_in, run, way_for,
@@ -87,7 +87,6 @@ pub fn set_and_read<R: BitRegister, O: BitOrder<R>>(
 )
     requires disjoint { AreDisjoint R.BITS spans.now }
     requires fit { AllFit R.BITS spans.now (length memory.old) }
-    requires heads { HeadsBelow R.BITS spans.now }
     requires two { length spans.now ≡ 2 }
     requires bits { (0 < (span_at spans.now 0).len) × (0 < (span_at spans.now 1).len) }
     requires commands { commands.now ≡ (0, SpanCommand.Replace 0 true) ∷ (1, SpanCommand.Read 0) ∷ [] }

@@ -1,9 +1,9 @@
 -- The masked words that a domain gives, as numbers: each has the digits of its word of the memory, inside the span.
 --
--- One word: `one_word`, `part_reads`, `whole_reads`; by other names `reads_as`. All words of a cut: `region_reads`. From a
--- word of a memory on: `entry-drop`, `masked_from_word`.
-use Rattle.std.proofs.Common.{◌≡◌, ℕ, zero, suc, ◌+◌, ◌-◌, ◌*◌, ◌/◌, ◌%◌, ◌<◌, ◌≤◌, Bool, false, List, [], ◌∷◌, ◌++◌}
-use Rattle.std.proofs.Common.{Option, length, map, take, drop, get_or, min, bit_and, refl, sym, ap, ◌∙◌, inl, inr, arith}
+-- One word: `one_word`, `part_reads`, `whole_reads`; by other names `reads_as`. All words of a cut: `region_reads`.
+-- From a word of a memory on: `entry-drop`, `masked_from_word`.
+use Rattle.std.proofs.Common.{◌≡◌, ℕ, zero, suc, ◌+◌, ◌-◌, ◌*◌, ◌<◌, ◌≤◌, min, bit_and, Option}
+use Rattle.std.proofs.Common.{List, [], ◌∷◌, ◌++◌, length, map, take, drop, get_or, refl, sym, ap, ◌∙◌, inl, inr, arith}
 use Rattle.std.proofs.lemmas.Bool.{cases_eq, cases_lt}
 use Rattle.std.proofs.lemmas.List.{get_or-map, get_or_append_left, get_or-append_right, drop-map, length-append}
 use Rattle.std.proofs.lemmas.List.{places}
@@ -14,7 +14,7 @@ use Rattle.bit_addressing_order.specs.BitOrder.{IsLawful}
 use Rattle.bit_addressing_memory.specs.Memory.{Reading, entry, reading_in, touched}
 use Rattle.bit_addressing_memory.proofs.EntryLemmas.{entry_read}
 use Rattle.bit_addressing_span.specs.Partial.{part_mask}
-use Rattle.bit_addressing_span.specs.Parts.{AreMasked, ReadsDigits, ReadsPart, part_from, part_upto}
+use Rattle.bit_addressing_span.specs.Parts.{AreMasked, ReadsDigits}
 use Rattle.bit_addressing_span.specs.Span.{extent}
 use Rattle.bit_addressing_span.proofs.PartialLemmas.{masked_digits}
 
@@ -42,8 +42,8 @@ pub part_reads : {R : Type 0} (b : ℕ) (number : R → ℕ) (at select : ℕ �
     → ReadsDigits (reading_in b number at) words j
     (λ i. digit_at (bit_and (number x) (part_mask mask from upto)) (at i)) from upto
 part_reads b number at select mask words j x from upto law index order within inside is =
-    let masked = masked_digits b (λ (n : ℕ). n) at select mask (number x) (bit_and (number x) (part_mask mask from upto))
-    from upto law index order within refl in
+    let masked = masked_digits b (λ (n : ℕ). n) at select mask (number x)
+    (bit_and (number x) (part_mask mask from upto)) from upto law index order within refl in
     record {
       inside = λ i low high small.
           masked.inside i low high small ∙ entry_read (reading_in b number at) words j i x small inside is;

@@ -1,6 +1,7 @@
 -- The parts of a span, a word each: where they are, and what reading one is.
 --
--- The part of word k: `part_from`, `part_upto`, `part_place`, `part_count`. A read: `ReadsDigits`, and by it `ReadsPart` and `AreMasked`.
+-- The part of word k: `part_from`, `part_upto`, `part_place`, `part_count`.
+-- A read: `ReadsDigits`, and by it `ReadsPart` and `AreMasked`.
 use Rattle.std.specs.Prelude.{ℕ, ◌+◌, ◌-◌, ◌*◌, ◌<◌, ◌≤◌, ◌≡◌, Bool, false, List, min, slice_index}
 use Rattle.bit_addressing_memory.specs.Memory.{Reading, entry, touched}
 use Rattle.bit_addressing_order.specs.Bits.{digit_at}
@@ -22,7 +23,8 @@ part_place b span k = (span.word + k) * b + part_from b span k
 abbrev pub part_count : ℕ → Extent → ℕ → ℕ
 part_count b span k = part_upto b span k - part_from b span k
 
--- the digits are the entries of the memory's word j at the indices from one up to before another, and false at each other
+-- the digits are the entries of the memory's word j at the indices from one up to before another, and false at each
+-- other
 pub record ReadsDigits {R : Type 0} (reading : Reading R) (words : List R) (j : ℕ) (digit : ℕ → Bool) (from upto : ℕ)
     : Type 0 where
   pub inside : (i : ℕ) → from ≤ i → i < upto → i < reading.bits → digit i ≡ entry reading words (j * reading.bits + i)

@@ -214,7 +214,8 @@ impl<'a, R: BitRegister, O: BitOrder<R>> DomainMut<'a, R, O> {
     }
 }
 
-// The indices of word `k` of some bits that begin at index `head` of a word: from the first of them up to before an end.
+// The indices of word `k` of some bits that begin at index `head` of a word: from the first of them up to before
+// an end.
 fn bounds_of<R: BitRegister>(head: u8, len: usize, k: usize) -> (BitIdx<R>, BitEnd<R>)
     requires index { head < R.BITS }
     requires short { len ≤ MAX_BITS }

@@ -36,7 +36,8 @@ impl<'a, R: BitRegister, O> Clone for PartialElement<'a, R, O> {
 }
 
 impl<'a, R: BitRegister, O: BitOrder<R>> PartialElement<'a, R, O> {
-    ghost use Rattle.bit_addressing_span.specs.PartialElement.{partial_words, partial_head, partial_tail, partial_numbers};
+    ghost use Rattle.bit_addressing_span.specs.PartialElement.{partial_words, partial_numbers};
+    ghost use Rattle.bit_addressing_span.specs.PartialElement.{partial_head, partial_tail};
 
     pub(crate) fn new(words: &'a [R], head: BitIdx<R>, tail: BitEnd<R>) -> PartialElement<'a, R, O>
         requires single { length words.now ≡ 1 }

@@ -174,8 +174,8 @@ impl<'a, R: BitRegister> ExactSizeIterator for DomainWords<'a, R> {
 
 impl<'a, R: BitRegister> FusedIterator for DomainWords<'a, R> {}
 
-/// The masked words of the domain, in order, from both ends; after the last one the domain is empty, and gives `None` for
-/// good.
+/// The masked words of the domain, in order, from both ends; after the last one the domain is empty, and gives `None`
+/// for good.
 impl<'a, R: BitRegister, O: BitOrder<R>> Iterator for Domain<'a, R, O> {
     type Item = R;
 

@@ -1,8 +1,9 @@
-use Rattle.std.proofs.Common.{arith, rules}
+use Rattle.std.proofs.Common.{arith, rules, refl, true}
 use Rattle.std.proofs.lemmas.Bool.Decides.{nat_tests}
 use Rattle.bit_addressing_span.specs.DomainMut.{domain_span, domain_words}
 use Rattle.bit_addressing_memory.specs.Memory.{read_by}
-use Rattle.bit_addressing.proofs.WordCommandLemmas.{carried_set}
+use Rattle.bit_addressing.specs.declared.command.SpanCommand.TheVariants.{Set}
+use Rattle.bit_addressing.proofs.WordCommandLemmas.{carried_word}
 use Rattle.bit_addressing.proofs.CommandLemmas.{carried_as, refused}
 use Rattle.bit_addressing.proofs.one_command.set.Goals as goal
 
@@ -25,6 +26,6 @@ returns g c =
       carried =
           carried_as (read_by g.R.BitRegister g.O.Positions.position) (domain_words d) _
           (domain_words c.set.new.self) _ (domain_span d) _ _ _ lent.words (search rules) lent.span
-          (carried_set _ _ _ _ c.args.k _ d.index d.fits (omega (arith, c.len.ensures)) c.set.ensures.was
-          c.set.ensures.now);
+          (carried_word _ _ _ _ (Set c.args.k) c.args.k _ (λ _ _. true) d.index d.fits
+          (omega (arith, c.len.ensures)) refl refl refl c.set.ensures.was c.set.ensures.now);
     }

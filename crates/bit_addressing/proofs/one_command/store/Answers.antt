@@ -1,8 +1,9 @@
-use Rattle.std.proofs.Common.{arith, rules}
+use Rattle.std.proofs.Common.{arith, rules, refl}
 use Rattle.std.proofs.lemmas.Bool.Decides.{nat_tests}
 use Rattle.bit_addressing_span.specs.DomainMut.{domain_span, domain_words}
-use Rattle.bit_addressing_memory.specs.Memory.{read_by}
-use Rattle.bit_addressing.proofs.WordCommandLemmas.{carried_store}
+use Rattle.bit_addressing_memory.specs.Memory.{indexed, read_by}
+use Rattle.bit_addressing.specs.declared.command.SpanCommand.TheVariants.{Store}
+use Rattle.bit_addressing.proofs.WordCommandLemmas.{carried_word}
 use Rattle.bit_addressing.proofs.CommandLemmas.{carried_as, refused}
 use Rattle.bit_addressing.proofs.one_command.store.Goals as goal
 
@@ -25,6 +26,7 @@ returns g c =
       carried =
           carried_as (read_by g.R.BitRegister g.O.Positions.position) (domain_words d) _
           (domain_words c.store_value.new.self) _ (domain_span d) _ _ _ lent.words (search rules) lent.span
-          (carried_store _ _ _ _ c.args.k c.args.word _ d.index d.fits (omega (arith, c.len.ensures))
-          c.store_value.ensures.was c.store_value.ensures.now);
+          (carried_word _ _ _ _ (Store c.args.k c.args.word) c.args.k _
+          (λ i _. indexed g.R.BitRegister.number g.O.Positions.position c.args.word i) d.index d.fits
+          (omega (arith, c.len.ensures)) refl refl refl c.store_value.ensures.was c.store_value.ensures.now);
     }

@@ -32,7 +32,7 @@ returns g c =
     let place = λ (s : ℕ). span_place reading.bits (span_at spans s) in
     let bits = λ (s : ℕ). span_bits reading before (span_at spans s) in
     let size = λ (s : ℕ) (within : s < length spans).
-    length-span_bits reading before (span_at spans s) (c.requires.heads s within) (c.requires.fit s within) in
+    length-span_bits reading before (span_at spans s) (c.run.ensures.heads s within) (c.requires.fit s within) in
     let first : 0 < length (bits 0) = omega (arith, size 0 (omega arith)) in
     let other : 0 < length (bits 1) = omega (arith, size 1 (omega arith)) in
     let set =

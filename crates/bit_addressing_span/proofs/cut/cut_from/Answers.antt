@@ -28,5 +28,5 @@ returns-clause-bits g c =
 
 pub returns-clause-masked : goal.returns-clause-masked
 returns-clause-masked g c =
-    masked_from_word (read_by g.R.BitRegister g.O.Positions.position) g.O.Positions.position c.args.words.now c.args.word
-    c.args.head c.args.len _ (rw c.words_from-rest.ensures at c.cut_words.ensures.masked)
+    masked_from_word (read_by g.R.BitRegister g.O.Positions.position) g.O.Positions.position c.args.words.now
+    c.args.word c.args.head c.args.len _ (rw c.words_from-rest.ensures at c.cut_words.ensures.masked)

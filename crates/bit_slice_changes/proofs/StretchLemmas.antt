@@ -1,5 +1,5 @@
 -- A stretch overwritten bit by bit.
-use Rattle.std.proofs.Common.{◌≡◌, ℕ, ◌+◌, ◌<◌, ◌≤◌, Bool, List, refl, sym, ap, ap₂, ◌∙◌, arith, below_more}
+use Rattle.std.proofs.Common.{◌≡◌, ℕ, ◌+◌, Bool, List, refl, ap₂, ◌∙◌, arith, below_more}
 use Rattle.bit_addressing.specs.Memory.{Reading, entry, Overwrites, Writes}
 use Rattle.bit_addressing.proofs.OverwriteLemmas.{written_there, written_others}
 use Rattle.bit_slice_changes.specs.Edits.{Combines}

@@ -5,6 +5,7 @@ mod bits_mut;
 mod callers;
 mod pair;
 mod view_mut;
+mod windows;
 
 pub use bits_mut::BitsMut;
 pub use callers::{four_set, set_twice, set_both};

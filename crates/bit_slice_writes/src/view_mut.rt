@@ -82,8 +82,8 @@ impl<T: BitRegister, O: BitOrder<T>> BitsMut for BitSliceMut<'_, T, O> {
         self.head
     }
 
-    fn with_words<F: FnOnce(&mut [T])>(&mut self, f: F) {
-        apply::<T, F>(self.words, f);
+    fn with_words<A, F: FnOnce(&mut [T]) -> A>(&mut self, f: F) -> A {
+        apply::<T, A, F>(self.words, f)
     }
 
     fn show(&mut self, from: usize, count: usize) {
@@ -99,11 +99,11 @@ impl<T: BitRegister, O: BitOrder<T>> BitsMut for BitSliceMut<'_, T, O> {
 }
 
 // A function's work on words, which keeps how many there are.
-fn apply<T: BitRegister, F: FnOnce(&mut [T])>(words: &mut [T], f: F)
+fn apply<T: BitRegister, A, F: FnOnce(&mut [T]) -> A>(words: &mut [T], f: F) -> A
     requires callable { (w : _) → w.now ≡ words.old → F.pre f w }
-    requires keeps { (w : _) (a : _) → FnOnceReturnsAtMut F.FnOnce f w tt a → length a ≡ length w }
+    requires keeps { (w : _) (r : A) (a : _) → FnOnceReturnsAtMut F.FnOnce f w r a → length a ≡ length w }
     ensures len { length words.new ≡ length words.old }
-    ensures ran { FnOnceReturnsAtMut F.FnOnce f words.old tt words.new }
+    ensures ran { FnOnceReturnsAtMut F.FnOnce f words.old result words.new }
 {
-    f(words);
+    f(words)
 }

@@ -6,7 +6,7 @@ use Rattle.bit_slice_changes.proofs.change.change_whole.Goals as goal
 
 pub loop-k-preserved : goal.loop-k-preserved
 loop-k-preserved g c =
-    changes_whole (read_by g.R.BitRegister g.O.Positions.position) c.args.words.now c.loop-k.words c.args.from c.loop-k.k
-    c.index-words-k.result c.changed_word.result (changed_bit c.args.change)
-    (omega (arith, g.met.R.BitRegister.least_bits)) c.loop-k.auto.k (omega arith) c.index-words-k.is
-    c.changed_word.ensures c.loop-k.invariant
+    let reading = read_by g.R.BitRegister g.O.Positions.position in
+    changes_whole reading c.args.words.now c.loop-k.words c.args.from c.loop-k.k c.index-words-k.result
+    c.changed_word.result (changed_bit c.args.change) (omega (arith, g.met.R.BitRegister.least_bits))
+    c.loop-k.auto.k (omega arith) c.index-words-k.is c.changed_word.ensures c.loop-k.invariant

@@ -1,4 +1,4 @@
-use Rattle.std.proofs.Common.{ap, sym, refl, ◌∙◌}
+use Rattle.std.proofs.Common.{ap, sym}
 use mathlib.Core.Bool.{xor}
 use Rattle.bit_slice_changes.specs.Edits.{combined_bit}
 use Rattle.bit_slice_changes.proofs.combine.combined.Goals as goal

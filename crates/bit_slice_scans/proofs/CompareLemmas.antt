@@ -1,7 +1,7 @@
 -- How lists of bits compare: `compare_differ` (the first two bits that differ), `compare_ends` (none differs), and both
 -- at bits of memories, `windows_compare_differ`, `windows_compare_ends`.
-use Rattle.std.proofs.Common.{◌≡◌, ◌≢◌, ℕ, zero, suc, ◌+◌, ◌*◌, ◌<◌, ◌≤◌, Bool, true, false, List, [], ◌∷◌, length, get_or}
-use Rattle.std.proofs.Common.{refl, sym, ap, subst, ◌∙◌, arith}
+use Rattle.std.proofs.Common.{◌≡◌, ◌≢◌, ℕ, zero, suc, ◌+◌, ◌*◌, ◌<◌, ◌≤◌, Bool, true, false, List, [], ◌∷◌, length}
+use Rattle.std.proofs.Common.{get_or, refl, sym, ap, subst, ◌∙◌, arith}
 use Rattle.std.specs.Cmp.Lexicographic.{slice_cmp}
 use Rattle.std.specs.Cmp.{nat_cmp_is}
 use Rattle.std.specs.Ordering.{MatchOrdering, bool_cmp, nat_cmp}
@@ -63,14 +63,14 @@ compare_ends xs ys same =
 
 -- bits of two memories: the first two that differ decide
 pub windows_compare_differ : {R Q : Type 0} (reading : Reading R) (words : List R) (its : Reading Q) (others : List Q)
-    (place other_place len other_len i : ℕ) (x y : Bool) → 0 < reading.bits → 0 < its.bits
+    (place other_place len other_len i : ℕ) (x y : Bool) (r : Ordering) → 0 < reading.bits → 0 < its.bits
     → place + len ≤ length words * reading.bits → other_place + other_len ≤ length others * its.bits
     → i < len → i < other_len → x ≡ entry reading words (place + i) → y ≡ entry its others (other_place + i)
     → ((k : ℕ) → k < i → entry reading words (place + k) ≡ entry its others (other_place + k)) → x ≢ y
-    → bool_cmp x y
-    ≡ slice_cmp bool_cmp (piece (memory reading words) place len) (piece (memory its others) other_place other_len)
-windows_compare_differ reading words its others place other_place len other_len i x y some its_some fits its_fit low
-    its_low is_x is_y same other =
+    → r ≡ bool_cmp x y
+    → r ≡ slice_cmp bool_cmp (piece (memory reading words) place len) (piece (memory its others) other_place other_len)
+windows_compare_differ reading words its others place other_place len other_len i x y r some its_some fits its_fit low
+    its_low is_x is_y same other now =
     let xs = piece (memory reading words) place len in
     let ys = piece (memory its others) other_place other_len in
     let size : length xs ≡ len = length-window reading words place len fits in
@@ -83,16 +83,16 @@ windows_compare_differ reading words its others place other_place len other_len 
     ∙ same k small
     ∙ sym (window_bit its others other_place other_len k its_some (omega arith)))
     (λ e. other (sym mine ∙ e ∙ theirs)) in
-    sym (differ ∙ ap (λ b. bool_cmp b (get_or ys i false)) mine ∙ ap (bool_cmp x) theirs)
+    now ∙ sym (differ ∙ ap (λ b. bool_cmp b (get_or ys i false)) mine ∙ ap (bool_cmp x) theirs)
 
 -- bits of two memories: where none differs the lengths do
 pub windows_compare_ends : {R Q : Type 0} (reading : Reading R) (words : List R) (its : Reading Q) (others : List Q)
-    (place other_place len other_len : ℕ) → 0 < reading.bits → 0 < its.bits
+    (place other_place len other_len : ℕ) (r : Ordering) → 0 < reading.bits → 0 < its.bits
     → place + len ≤ length words * reading.bits → other_place + other_len ≤ length others * its.bits
     → ((k : ℕ) → k < len → k < other_len → entry reading words (place + k) ≡ entry its others (other_place + k))
-    → nat_cmp len other_len
-    ≡ slice_cmp bool_cmp (piece (memory reading words) place len) (piece (memory its others) other_place other_len)
-windows_compare_ends reading words its others place other_place len other_len some its_some fits its_fit same =
+    → r ≡ nat_cmp len other_len
+    → r ≡ slice_cmp bool_cmp (piece (memory reading words) place len) (piece (memory its others) other_place other_len)
+windows_compare_ends reading words its others place other_place len other_len r some its_some fits its_fit same now =
     let xs = piece (memory reading words) place len in
     let ys = piece (memory its others) other_place other_len in
     let size : length xs ≡ len = length-window reading words place len fits in
@@ -101,4 +101,4 @@ windows_compare_ends reading words its others place other_place len other_len so
     window_bit reading words place len k some (omega arith)
     ∙ same k (omega arith) (omega arith)
     ∙ sym (window_bit its others other_place other_len k its_some (omega arith))) in
-    sym (ends ∙ ap (λ n. nat_cmp n (length ys)) size ∙ ap (nat_cmp len) its_size)
+    now ∙ sym (ends ∙ ap (λ n. nat_cmp n (length ys)) size ∙ ap (nat_cmp len) its_size)

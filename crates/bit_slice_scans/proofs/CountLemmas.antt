@@ -1,7 +1,8 @@
 -- The true bits of words and of memories.
 --
--- Pieces: `trues_join`, `trues_empty`, `trues_short`. Words: `trues_part` (masked), `ones_digits`. Word by word:
--- `ones_more`, `ones_bound`, `trues_all`. A stretch cut at its edges: `trues_cut`, `trues_fit`.
+-- Pieces: `trues_join`, `trues_empty`, `trues_short`. One word: `trues_part`, `ones_digits`, `ones_part`. Word by word:
+-- `ones_more`, `ones_bound`, `trues_all`. A stretch: `trues_one`, `trues_cut` (cut at its edges), `trues_fit`,
+-- `falses_are`.
 use Rattle.std.proofs.Common.{◌≡◌, ℕ, ◌+◌, ◌-◌, ◌*◌, ◌^◌, ◌<◌, ◌≤◌, Bool, false, not, List, ◌++◌, Option, length, take}
 use Rattle.std.proofs.Common.{drop, get_or, count_by, refl, sym, ap, ◌∙◌, arith}
 use Rattle.std.specs.Int.RustNames.{count_ones}
@@ -10,11 +11,11 @@ use Rattle.std.proofs.lemmas.List.{ext_get_or}
 use Rattle.std.proofs.lemmas.List.FromFn.{get_or-map-range_with_len, length-map-range_with_len}
 use Rattle.std.proofs.lemmas.List.Sums.{count_by-le-length}
 use Rattle.bit_addressing.specs.BitOrder.{IsLawful}
-use Rattle.bit_addressing.specs.Memory.{Reading, reading_in, indexed, digits, memory, piece}
+use Rattle.bit_addressing.specs.Memory.{Reading, reading_in, digits, memory, piece}
 use Rattle.bit_addressing.specs.Partial.{IsMasked}
 use Rattle.bit_addressing.proofs.MemoryLemmas.{length-memory, piece_join, piece_all, piece_none, length-piece}
 use Rattle.bit_addressing.proofs.MemoryLemmas.{get_or-piece, word_whole}
-use Rattle.bit_slice_scans.proofs.EdgeLemmas.{cut_more}
+use Rattle.bit_slice_scans.proofs.EdgeLemmas.{cut_one, cut_more}
 use Rattle.bit_slice_scans.proofs.OnesLemmas.{trues, trues-append, trues_none, trues-falses, ones_in_order}
 
 -- ---- pieces
@@ -99,6 +100,19 @@ pub ones_digits : {R : Type 0} (b : ℕ) (number : R → ℕ) (at select : ℕ �
     → IsLawful b at select mask → number w < 2 ^ b → count_ones (number w) ≡ trues (digits (reading_in b number at) w)
 ones_digits b number at select mask w law fits = ones_in_order b at select mask (number w) law fits
 
+-- the ones of a masked word are the true bits of the part
+pub ones_part : {R : Type 0} (b : ℕ) (number : R → ℕ) (at select : ℕ → ℕ) (mask : Option ℕ → Option ℕ → ℕ)
+    (word result : R) (from upto from' upto' ones : ℕ) → IsLawful b at select mask → number result < 2 ^ b
+    → from' ≡ from → upto' ≡ upto → from ≤ upto → upto ≤ b
+    → IsMasked (reading_in b number at) word result from' upto' → ones ≡ count_ones (number result)
+    → ones ≡ trues (piece (digits (reading_in b number at) word) from (upto - from))
+ones_part b number at select mask word result from upto from' upto' ones law fits same_from same_upto order within is
+    now =
+    let reading = reading_in b number at in
+    let masked = rw (same_from, same_upto) at is in
+    let digit = ones_digits b number at select mask result law fits in
+    now ∙ digit ∙ trues_part reading word result from upto order within masked
+
 -- ---- word by word
 
 -- one word more
@@ -141,14 +155,25 @@ ones_bound b number at select mask words j x ones o law fits low is now before =
     omega arith
 
 -- all words
-pub trues_all : {R : Type 0} (reading : Reading R) (words : List R) (j : ℕ) → j ≡ length words
-    → trues (piece (memory reading words) 0 (j * reading.bits)) ≡ trues (memory reading words)
-trues_all reading words j all =
+pub trues_all : {R : Type 0} (reading : Reading R) (words : List R) (j ones : ℕ) → j ≡ length words
+    → ones ≡ trues (piece (memory reading words) 0 (j * reading.bits)) → ones ≡ trues (memory reading words)
+trues_all reading words j ones all is =
     let size : length (memory reading words) ≡ j * reading.bits =
     length-memory reading words ∙ ap (λ k. k * reading.bits) (sym all) in
-    ap trues (piece_all (memory reading words) (j * reading.bits) size)
+    is ∙ ap trues (piece_all (memory reading words) (j * reading.bits) size)
 
 -- ---- a stretch
+
+-- inside one word, it has those of the word's part
+pub trues_one : {R : Type 0} (reading : Reading R) (words : List R) (place len first from last upto : ℕ) (x : R)
+    (ones : ℕ) → first * reading.bits + from ≡ place → last * reading.bits + upto ≡ place + len → first ≡ last
+    → upto ≤ reading.bits → 0 < len → first < length words → x ≡ get_or words first x
+    → ones ≡ trues (piece (digits reading x) from (upto - from))
+    → ones ≡ trues (piece (memory reading words) place len)
+trues_one reading words place len first from last upto x ones start end same within some low is now =
+    let row : first * reading.bits ≡ last * reading.bits = ap (λ k. k * reading.bits) same in
+    now
+    ∙ ap trues (cut_one reading words place len first from last upto x start end same (omega arith) within low is)
 
 -- cut at its edges, it has those of the first word's part, of the words between, and of the last word's part
 pub trues_cut : {R : Type 0} (reading : Reading R) (words body : List R)

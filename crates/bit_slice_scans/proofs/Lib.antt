@@ -2,6 +2,7 @@ pub mod CompareLemmas
 pub mod CountLemmas
 pub mod EdgeLemmas
 pub mod FoundLemmas
+pub mod KnownRows
 pub mod OnesLemmas
 pub mod SameLemmas
 pub mod StretchLemmas

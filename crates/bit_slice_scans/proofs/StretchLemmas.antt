@@ -2,14 +2,14 @@
 --
 -- One word: `lacks_is`, `digit_found`, `nowhere_word`, `word_nowhere`, `nowhere_part`, `first_part`, `last_part`.
 -- Joined: `nowhere_join`, `first_of_cut`, `last_of_cut`. As an index of the list: `position_in`, `last_position_in`.
-use Rattle.std.proofs.Common.{◌≡◌, ◌≢◌, ℕ, ◌+◌, ◌-◌, ◌*◌, ◌^◌, ◌<◌, ◌≤◌, ◌↔◌, Bool, true, false, List, Option, Some, None}
-use Rattle.std.proofs.Common.{length, get_or, position, refl, sym, ap, ◌∙◌, inl, inr, arith}
+use Rattle.std.proofs.Common.{◌≡◌, ℕ, ◌+◌, ◌-◌, ◌*◌, ◌^◌, ◌<◌, ◌≤◌, ◌↔◌, Bool, false, List, Option, Some, None}
+use Rattle.std.proofs.Common.{length, get_or, position, sym, ap, ◌∙◌, inl, inr, arith}
 use Rattle.std.specs.Option.{option_map}
 use Rattle.std.proofs.Math.Nat.{mul-le-mul_right}
-use Rattle.std.proofs.lemmas.Bool.{cases_eq, cases_lt}
+use Rattle.std.proofs.lemmas.Bool.{cases_lt}
 use Rattle.bit_addressing.specs.BitOrder.{IsLawful}
 use Rattle.bit_addressing.specs.Bits.{digit_at}
-use Rattle.bit_addressing.specs.Memory.{Reading, entry, indexed, memory, piece}
+use Rattle.bit_addressing.specs.Memory.{Reading, indexed, memory, piece}
 use Rattle.bit_addressing.proofs.EntryLemmas.{entry_read}
 use Rattle.bit_addressing.proofs.OrderCallerLemmas.{same_word}
 use Rattle.bit_addressing.proofs.WindowLemmas.{length-window, window_bit}
@@ -28,7 +28,7 @@ pub lacks_is : {R : Type 0} (b : ℕ) (number : R → ℕ) (at select : ℕ → 
 lacks_is b number at select mask w z bit law fits_w fits_z without = (
   λ same i small. ap (λ n. is_bit bit (digit_at n (at i))) same ∙ without i small,
   λ none. same_word b at select mask (number w) (number z) law fits_w fits_z (λ i small.
-  without_bit bit (indexed number at w i) (indexed number at z i) (none i small) (without i small)),
+      without_bit bit (indexed number at w i) (indexed number at z i) (none i small) (without i small)),
 )
 
 -- the bit at an index of the word j

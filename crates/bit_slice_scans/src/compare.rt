@@ -10,7 +10,9 @@ use std::cmp::Ordering;
 
 /// How the `len` bits of the memory `words` from a place on compare with the `other_len` bits of the memory `others`
 /// from another place on: the first two that differ decide, 0 before 1, and where none does the shorter list is less.
-/// The two may have different words and orders.
+///
+/// The two may have different words and orders. It answers what `partial_cmp` of two slices in bitvec 1.1.1 has in its
+/// `Some`.
 pub fn compare_in<R: BitRegister, O: BitOrder<R>, Q: BitRegister, P: BitOrder<Q>>(
     words: &[R],
     place: usize,

@@ -8,8 +8,10 @@ use crate::equal::equal_in;
 use bit_addressing::{BitOrder, BitRegister};
 
 /// Whether the `other_len` bits of the memory `others` from a place on stand, in order and next to each other, in the
-/// `len` bits of the memory `words` from another place on. No bits stand everywhere. The two may have different words
-/// and orders.
+/// `len` bits of the memory `words` from another place on. No bits stand everywhere.
+///
+/// The two may have different words and orders. Where the other list has bits, it answers as `contains` of a slice in
+/// bitvec 1.1.1.
 pub fn contains_in<R: BitRegister, O: BitOrder<R>, Q: BitRegister, P: BitOrder<Q>>(
     words: &[R],
     place: usize,

@@ -8,12 +8,9 @@ use bit_addressing::{BitEnd, BitIdx, BitOrder, BitRegister, masked};
 
 /// How many of the `len` bits from a place on are 1. Of no bits there are none.
 ///
-/// Whole words are counted as words; the words at the two edges are masked.
-pub fn count_ones_in<R: BitRegister, O: BitOrder<R>>(
-    words: &[R],
-    place: usize,
-    len: usize,
-) -> usize
+/// Whole words are counted as words; the words at the two edges are masked. It answers as `count_ones` of a slice in
+/// bitvec 1.1.1.
+pub fn count_ones_in<R: BitRegister, O: BitOrder<R>>(words: &[R], place: usize, len: usize) -> usize
     requires within { place + len ≤ length words.now * R.BITS }
     requires ends { place + len < 2 ^ 64 }
     ensures { result ≡ count_by (λ b. b) (piece (memory (read_by R.BitRegister O.position) words.now) place len) }
@@ -32,6 +29,8 @@ pub fn count_ones_in<R: BitRegister, O: BitOrder<R>>(
 }
 
 /// How many of the `len` bits from a place on are 0. Of no bits there are none.
+///
+/// It answers as `count_zeros` of a slice in bitvec 1.1.1.
 pub fn count_zeros_in<R: BitRegister, O: BitOrder<R>>(
     words: &[R],
     place: usize,

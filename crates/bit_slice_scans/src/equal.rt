@@ -6,7 +6,9 @@ ghost use Rattle.bit_addressing.specs.Memory.{memory, piece, read_by};
 use bit_addressing::{BitOrder, BitRegister, read_entry};
 
 /// Whether the `len` bits of the memory `words` from a place on are those of the memory `others` from another place
-/// on, in order. The two may have different words and orders. No bits are equal to no bits.
+/// on, in order. No bits are equal to no bits.
+///
+/// The two may have different words and orders. It answers as `==` of two slices of one length in bitvec 1.1.1.
 pub fn equal_in<R: BitRegister, O: BitOrder<R>, Q: BitRegister, P: BitOrder<Q>>(
     words: &[R],
     place: usize,

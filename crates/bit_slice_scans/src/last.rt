@@ -13,7 +13,8 @@ use bit_addressing::{BitIdx, BitOrder, BitRegister, read_bit};
 /// The index of the last of the `len` bits from a place on that is `bit`, counted from that place; `None` where
 /// none is.
 ///
-/// A whole word that has no such bit is passed over by one comparison.
+/// A whole word that has no such bit is passed over by one comparison. It answers as `last_one` of a slice in bitvec
+/// 1.1.1, and for false as `last_zero`.
 pub fn last_in<R: BitRegister, O: BitOrder<R>>(
     words: &[R],
     place: usize,

@@ -3,3 +3,4 @@ pub mod FrameLaws
 pub mod ViewMut
 pub mod Lending
 pub mod Parts
+pub mod Combined

@@ -1,14 +1,17 @@
 //! What is written of a list of bits, whatever lends it.
 
-ghost use Rattle.std.specs.Prelude.{◌≡◌, ℕ, ◌+◌, ◌-◌, ◌*◌, ◌<◌, ◌≤◌, ◌^◌, ◌++◌, List, Bool, false, not, length, map, min};
+ghost use Rattle.std.specs.Prelude.{◌≡◌, ℕ, ◌+◌, ◌-◌, ◌*◌, ◌<◌, ◌≤◌, ◌^◌, ◌++◌, ◌&&◌, ◌||◌, List, Bool, false, not, length, map, min};
 ghost use Rattle.std.specs.Prelude.{drop, replicate, reverse, slice_index_or, slice_set, take};
+ghost use Rattle.std.specs.Bool.{xor};
 ghost use Rattle.std.specs.Fn.{FnOnceReturnsAtMut};
 ghost use Rattle.bit_addressing.specs.Memory.{memory, piece, read_by, touched, with_piece};
 ghost use Rattle.bit_addressing.specs.Moves.{changed};
 ghost use Rattle.bit_addressing_span.specs.declared.span.TheConstants.{MAX_BITS};
+ghost use Rattle.bit_slice_writes.specs.Combined.{combined};
 ghost use Rattle.bit_slice_writes.specs.Frame.{Frame, frame_of, KeepsBeside};
 
 use crate::pair::Pair;
+use crate::combine::{and_window, or_window, xor_window};
 use crate::windows::{copy_window, fill_window, move_window};
 use bit_addressing::{BitRegister, write_entry};
 use bit_slice_changes::{not_in, reverse_in, rotate_left_in, shift_left_in, shift_right_in};
@@ -283,5 +286,55 @@ pub trait BitsMut: Bits {
         self.write(|words| {
             move_window::<Self::Store, Self::Order>(words, place, all, from, to, len)
         })
+    }
+
+    // ---- combine
+
+    /// Makes each bit what it and the bit at its index in another list are both. Where the other list is shorter, the bits
+    /// past its end are cleared; where it is longer, the rest is not looked at.
+    #[tactic(auto, using(crate::proofs::FrameLemmas::frames))]
+    final fn and_bits<V: Bits>(&mut self, other: &V)
+        ensures bits { Self.bits self.new ≡ combined (λ a b. a && b) (Self.bits self.old) (V.bits other.now) }
+        ensures len { length (Self.bits self.new) ≡ length (Self.bits self.old) }
+        ensures frame { frame self.new ≡ frame self.old }
+    {
+        let place = self.first_place();
+        let len = self.len();
+        let view = other.as_bitslice();
+        self.write(|words| {
+            and_window::<Self::Store, Self::Order, V::Store, V::Order>(words, place, len, view)
+        });
+    }
+
+    /// Makes each bit what it or the bit at its index in another list is. Where the other list is shorter, the bits past
+    /// its end stay; where it is longer, the rest is not looked at.
+    #[tactic(auto, using(crate::proofs::FrameLemmas::frames))]
+    final fn or_bits<V: Bits>(&mut self, other: &V)
+        ensures bits { Self.bits self.new ≡ combined (λ a b. a || b) (Self.bits self.old) (V.bits other.now) }
+        ensures len { length (Self.bits self.new) ≡ length (Self.bits self.old) }
+        ensures frame { frame self.new ≡ frame self.old }
+    {
+        let place = self.first_place();
+        let len = self.len();
+        let view = other.as_bitslice();
+        self.write(|words| {
+            or_window::<Self::Store, Self::Order, V::Store, V::Order>(words, place, len, view)
+        });
+    }
+
+    /// Makes each bit whether it and the bit at its index in another list differ. Where the other list is shorter, the
+    /// bits past its end stay; where it is longer, the rest is not looked at.
+    #[tactic(auto, using(crate::proofs::FrameLemmas::frames))]
+    final fn xor_bits<V: Bits>(&mut self, other: &V)
+        ensures bits { Self.bits self.new ≡ combined xor (Self.bits self.old) (V.bits other.now) }
+        ensures len { length (Self.bits self.new) ≡ length (Self.bits self.old) }
+        ensures frame { frame self.new ≡ frame self.old }
+    {
+        let place = self.first_place();
+        let len = self.len();
+        let view = other.as_bitslice();
+        self.write(|words| {
+            xor_window::<Self::Store, Self::Order, V::Store, V::Order>(words, place, len, view)
+        });
     }
 }

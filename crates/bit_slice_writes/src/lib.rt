@@ -3,6 +3,7 @@
 
 mod bits_mut;
 mod callers;
+mod combine;
 mod pair;
 mod view_mut;
 mod windows;

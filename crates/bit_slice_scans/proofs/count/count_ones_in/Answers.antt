@@ -1,8 +1,6 @@
-use Rattle.std.proofs.Common.{◌≡◌, ◌<◌, ◌*◌, ◌∙◌, length, ap, arith}
+use Rattle.std.proofs.Common.{◌<◌, length, arith}
 use Rattle.bit_addressing.specs.Memory.{read_by}
-use Rattle.bit_slice_scans.proofs.OnesLemmas.{trues}
-use Rattle.bit_slice_scans.proofs.EdgeLemmas.{cut_one}
-use Rattle.bit_slice_scans.proofs.CountLemmas.{trues_empty, trues_cut, trues_fit}
+use Rattle.bit_slice_scans.proofs.CountLemmas.{trues_empty, trues_one, trues_cut, trues_fit}
 use Rattle.bit_slice_scans.proofs.count.count_ones_in.Goals as goal
 
 pub returns-then-len-eq0 : goal.returns-then-len-eq0
@@ -14,11 +12,9 @@ returns-then-cut g c =
     let cut = c.edges_of-cut.ensures in
     let at = c.edges_of-cut.result in
     let low : at.last < length c.args.words.now = cut.fits _ c.requires.within in
-    let row : at.first * g.R.BitRegister.BITS ≡ at.last * g.R.BitRegister.BITS =
-    ap (λ k. k * g.R.BitRegister.BITS) c.if-cut.true in
-    c.ones_of_part.ensures
-    ∙ ap trues (cut_one reading c.args.words.now c.args.place c.args.len at.first at.from at.last at.upto _ cut.start
-    cut.end c.if-cut.true (omega arith) cut.within (omega arith) c.index-words-cut.is)
+    trues_one reading c.args.words.now c.args.place c.args.len at.first at.from at.last at.upto
+    c.index-words-cut.result c.ones_of_part.result cut.start cut.end c.if-cut.true cut.within (omega arith)
+    (omega arith) c.index-words-cut.is c.ones_of_part.ensures
 
 -- the first word's part, the words between, the last word's part
 pub returns : goal.returns

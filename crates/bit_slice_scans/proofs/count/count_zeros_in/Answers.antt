@@ -1,4 +1,3 @@
-use Rattle.std.proofs.Common.{arith}
 use Rattle.bit_addressing.specs.Memory.{read_by}
 use Rattle.bit_slice_scans.proofs.CountLemmas.{falses_are, trues_fit}
 use Rattle.bit_slice_scans.proofs.count.count_zeros_in.Goals as goal

@@ -1,4 +1,5 @@
-use Rattle.std.proofs.Common.{◌≤◌, ◌+◌, ◌*◌, ◌∙◌, length, arith}
+use Rattle.std.proofs.Common.{◌≤◌, ◌+◌, ◌*◌, length, arith}
+use Rattle.bit_addressing.specs.Memory.{read_by}
 use Rattle.bit_slice_scans.proofs.CountLemmas.{trues_empty, ones_more, ones_bound, trues_all}
 use Rattle.bit_slice_scans.proofs.count.ones_of_words.Goals as goal
 
@@ -20,4 +21,6 @@ loop-word-preserved g c =
     c.loop-word.invariant
 
 pub returns : goal.returns
-returns g c = c.loop-word.invariant ∙ trues_all _ c.args.body.now _ (omega arith)
+returns g c =
+    trues_all (read_by g.R.BitRegister g.O.Positions.position) c.args.body.now c.loop-word.word-index c.loop-word.ones
+    (omega arith) c.loop-word.invariant

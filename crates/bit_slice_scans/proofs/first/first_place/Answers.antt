@@ -1,4 +1,4 @@
-use Rattle.std.proofs.Common.{◌<◌, ◌≡◌, ◌∙◌, length, arith}
+use Rattle.std.proofs.Common.{◌+◌, arith}
 use Rattle.bit_addressing.specs.Memory.{read_by}
 use Rattle.bit_slice_scans.specs.Stretch.{bit_found}
 use Rattle.bit_slice_scans.proofs.StretchLemmas.{first_of_cut}
@@ -14,8 +14,9 @@ returns g c =
     let next = c.next_word-next.ensures in
     let head = rw c.BITS.ensures at c.in_default.ensures in
     first_of_cut (bit_found (read_by g.R.BitRegister g.O.Positions.position) c.args.words.now c.args.bit) b
-    c.args.place _ at.first at.from at.last at.upto c.next_word-next.result c.if-next-cut.upto c.first_at-3.result
-    cut.start cut.end (omega arith) cut.within next.least next.most head next.none next.some
+    c.args.place (c.args.place + c.args.len) at.first at.from at.last at.upto
+    c.next_word-next.result c.if-next-cut.upto c.first_at-3.result cut.start cut.end (omega arith) cut.within
+    next.least next.most head next.none next.some
     (λ same. elim c.if-next-cut.branch [ then-next-cut w ↦ w.upto-is | else-next-cut w ↦ absurd (omega arith) ])
     (λ less. elim c.if-next-cut.branch [ then-next-cut w ↦ absurd (omega arith) | else-next-cut w ↦ omega arith ])
     c.first_at-3.ensures

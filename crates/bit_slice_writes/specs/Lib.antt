@@ -4,3 +4,4 @@ pub mod ViewMut
 pub mod Lending
 pub mod Parts
 pub mod Combined
+pub mod Pair

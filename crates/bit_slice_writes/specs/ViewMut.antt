@@ -12,8 +12,8 @@ lent_bits reading view = piece (memory reading view.words.now) view.head view.le
 abbrev pub lent_words : {T O : Type 0} {g : _} → BitSliceMut T O g → List T
 lent_words view = view.words.now
 
-abbrev pub lent_name : {T O : Type 0} {g : _} → BitSliceMut T O g → ℕ
-lent_name view = view.words.ghost_name
+abbrev pub lent_lender : {T O : Type 0} {g : _} → BitSliceMut T O g → ℕ
+lent_lender view = view.words.ghost_name
 
 -- the place of its first bit
 abbrev pub lent_place : {T O : Type 0} {g : _} → BitSliceMut T O g → ℕ

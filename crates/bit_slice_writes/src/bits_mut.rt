@@ -9,6 +9,7 @@ ghost use Rattle.bit_addressing.specs.Moves.{changed};
 ghost use Rattle.bit_addressing_span.specs.declared.span.TheConstants.{MAX_BITS};
 ghost use Rattle.bit_slice_writes.specs.Combined.{combined};
 ghost use Rattle.bit_slice_writes.specs.Frame.{Frame, frame_of, KeepsBeside};
+ghost use Rattle.bit_slice_writes.specs.Pair.{pair_len, pair_loan, pair_mid, pair_place, pair_view};
 
 use crate::pair::Pair;
 use crate::combine::{and_window, or_window, xor_window};
@@ -87,13 +88,15 @@ pub trait BitsMut: Bits {
     /// Two parts, the first `mid` bits and the others, of which one is lent at a time.
     final fn split_at_mut(&mut self, mid: usize) -> Pair<'_, Self>
         requires { mid ≤ length (Self.bits self.old) }
-        ensures same_reference { result.of.ghost_name ≡ self.entry.ghost_name }
-        ensures value { result.of.now ≡ self.old }
-        ensures head { result.head ≡ place self.old }
-        ensures mid { result.mid ≡ mid }
-        ensures len { result.len ≡ length (Self.bits self.old) }
-        ensures short { result.len ≤ MAX_BITS }
-        ensures small { result.head + result.len < 2 ^ 63 }
+        ensures same_reference { pair_loan result ≡ self.entry.ghost_name }
+        ensures value { pair_view result ≡ self.old }
+        ensures place { pair_place result ≡ place self.old }
+        ensures mid { pair_mid result ≡ mid }
+        ensures len { pair_len result ≡ length (Self.bits self.old) }
+
+        // What the window's type says.
+        ensures short { pair_len result ≤ MAX_BITS }
+        ensures small { pair_place result + pair_len result < 2 ^ 63 }
     {
         let head = self.first_place();
         let len = self.len();

@@ -33,26 +33,28 @@ impl<V: BitsMut> Drop for Pair<'_, V> {
 }
 
 impl<'s, V: BitsMut> Pair<'s, V> {
+    ghost use Rattle.bit_slice_writes.specs.Pair.{pair_len, pair_loan, pair_mid, pair_place, pair_view};
+
     pub(crate) fn new(of: &'s mut V, head: usize, mid: usize, len: usize) -> Pair<'s, V>
-        ensures same_reference { result.of.ghost_name ≡ of.entry.ghost_name }
-        ensures value { result.of.now ≡ of.old }
-        ensures head { result.head ≡ head }
-        ensures mid { result.mid ≡ mid }
-        ensures len { result.len ≡ len }
+        ensures same_reference { pair_loan result ≡ of.entry.ghost_name }
+        ensures value { pair_view result ≡ of.old }
+        ensures head { pair_place result ≡ head }
+        ensures mid { pair_mid result ≡ mid }
+        ensures len { pair_len result ≡ len }
     {
         Pair { of, head, mid, len }
     }
 
     /// The first part, to write.
     pub fn left_mut(&mut self) -> &mut V
-        requires ordered { self.old.mid ≤ self.old.len }
-        requires fits { self.old.head + self.old.len ≤ length (V.words self.old.of.now) * V.Store.BITS }
-        requires short { self.old.len ≤ MAX_BITS }
-        requires small { self.old.head + self.old.len < 2 ^ 63 }
-        ensures words { V.words result.now ≡ V.words self.old.of.now }
-        ensures lender { V.lender result.now ≡ V.lender self.old.of.now }
-        ensures place { V.place result.now ≡ self.old.head }
-        ensures len { length (V.bits result.now) ≡ self.old.mid }
+        requires ordered { pair_mid self.old ≤ pair_len self.old }
+        requires fits { pair_place self.old + pair_len self.old ≤ length (V.words (pair_view self.old)) * V.Store.BITS }
+        requires short { pair_len self.old ≤ MAX_BITS }
+        requires small { pair_place self.old + pair_len self.old < 2 ^ 63 }
+        ensures words { V.words result.now ≡ V.words (pair_view self.old) }
+        ensures lender { V.lender result.now ≡ V.lender (pair_view self.old) }
+        ensures place { V.place result.now ≡ pair_place self.old }
+        ensures len { length (V.bits result.now) ≡ pair_mid self.old }
         ensures* lends { sem 𝓛 (LendsHalf V.row V.Store.row V.Order.row self.entry result) }
     {
         let head = self.head;
@@ -63,14 +65,14 @@ impl<'s, V: BitsMut> Pair<'s, V> {
 
     /// The other part, to write.
     pub fn right_mut(&mut self) -> &mut V
-        requires ordered { self.old.mid ≤ self.old.len }
-        requires fits { self.old.head + self.old.len ≤ length (V.words self.old.of.now) * V.Store.BITS }
-        requires short { self.old.len ≤ MAX_BITS }
-        requires small { self.old.head + self.old.len < 2 ^ 63 }
-        ensures words { V.words result.now ≡ V.words self.old.of.now }
-        ensures lender { V.lender result.now ≡ V.lender self.old.of.now }
-        ensures place { V.place result.now ≡ self.old.head + self.old.mid }
-        ensures len { length (V.bits result.now) ≡ self.old.len - self.old.mid }
+        requires ordered { pair_mid self.old ≤ pair_len self.old }
+        requires fits { pair_place self.old + pair_len self.old ≤ length (V.words (pair_view self.old)) * V.Store.BITS }
+        requires short { pair_len self.old ≤ MAX_BITS }
+        requires small { pair_place self.old + pair_len self.old < 2 ^ 63 }
+        ensures words { V.words result.now ≡ V.words (pair_view self.old) }
+        ensures lender { V.lender result.now ≡ V.lender (pair_view self.old) }
+        ensures place { V.place result.now ≡ pair_place self.old + pair_mid self.old }
+        ensures len { length (V.bits result.now) ≡ pair_len self.old - pair_mid self.old }
         ensures* lends { sem 𝓛 (LendsHalf V.row V.Store.row V.Order.row self.entry result) }
     {
         let head = self.head + self.mid;

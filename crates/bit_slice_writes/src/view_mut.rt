@@ -1,13 +1,13 @@
 //! A window of words, to write.
 
-ghost use Rattle.std.specs.Prelude.{◌≡◌, ◌+◌, ◌-◌, ◌*◌, ◌^◌, ◌<◌, ◌≤◌, length};
+ghost use Rattle.std.specs.Prelude.{◌≡◌, ◌+◌, ◌-◌, ◌*◌, ◌^◌, ◌<◌, ◌≤◌, ◌↔◌, [], length, min, IsOk, IfOk, IfErr};
 ghost use Rattle.std.specs.Fn.{FnOnceReturnsAtMut};
 ghost use Rattle.bit_addressing.specs.Memory.{memory, piece, read_by, reading_in};
 ghost use Rattle.bit_addressing_span.specs.declared.span.TheConstants.{MAX_BITS};
-ghost use Rattle.bit_slice_writes.specs.Frame.{frame_of};
+ghost use Rattle.bit_addressing_span.specs.declared.span_error.BitSpanError.TheVariants.{TooLong};
 
 use crate::bits_mut::BitsMut;
-use bit_addressing::{BitOrder, BitRegister, MAX_BITS};
+use bit_addressing::{BitOrder, BitRegister, BitSpanError, MAX_BITS};
 use bit_slice_views::{BitSlice, Bits};
 use std::marker::PhantomData;
 
@@ -26,23 +26,75 @@ pub struct BitSliceMut<'a, T: BitRegister, O> {
 
 #[tactic(auto, using(bit_slice_views::proofs::ViewLemmas::views))]
 impl<'a, T: BitRegister, O: BitOrder<T>> BitSliceMut<'a, T, O> {
-    ghost use Rattle.bit_slice_writes.specs.ViewMut.{lent_words, lent_name, lent_place, lent_bits};
+    ghost use Rattle.bit_slice_writes.specs.ViewMut.{lent_words, lent_lender, lent_place, lent_bits};
+
+    // ---- make
 
     /// All bits of these words.
     pub fn from_slice_mut(words: &'a mut [T]) -> BitSliceMut<'a, T, O>
         requires { length words.old * T.BITS ≤ MAX_BITS }
-        ensures same_reference { lent_name result ≡ words.entry.ghost_name }
+        ensures lender { lent_lender result ≡ words.entry.ghost_name }
         ensures words { lent_words result ≡ words.old }
         ensures place { lent_place result ≡ 0 }
         ensures len { length (lent_bits (read_by T.BitRegister O.position) result) ≡ length words.old * T.BITS }
     {
         let len = words.len() * T::BITS as usize;
+        BitSliceMut::from_place_mut(words, 0, len)
+    }
+
+    /// What `from_slice_mut` does.
+    pub fn from_slice_unchecked_mut(words: &'a mut [T]) -> BitSliceMut<'a, T, O>
+        requires { length words.old * T.BITS ≤ MAX_BITS }
+        ensures lender { lent_lender result ≡ words.entry.ghost_name }
+        ensures words { lent_words result ≡ words.old }
+        ensures place { lent_place result ≡ 0 }
+        ensures len { length (lent_bits (read_by T.BitRegister O.position) result) ≡ length words.old * T.BITS }
+    {
+        BitSliceMut::from_slice_mut(words)
+    }
+
+    /// `len` bits of these words, from a place on, which may lie in any of them.
+    pub fn from_place_mut(words: &'a mut [T], place: usize, len: usize) -> BitSliceMut<'a, T, O>
+        requires short { len ≤ MAX_BITS }
+        requires ends { place + len < 2 ^ 63 }
+        requires fits { place + len ≤ length words.old * T.BITS }
+        ensures lender { lent_lender result ≡ words.entry.ghost_name }
+        ensures words { lent_words result ≡ words.old }
+        ensures place { lent_place result ≡ place }
+        ensures len { length (lent_bits (read_by T.BitRegister O.position) result) ≡ len }
+    {
         BitSliceMut {
             words,
-            head: 0,
+            head: place,
             len,
             order: PhantomData,
         }
+    }
+
+    /// No bits.
+    pub fn empty_mut() -> BitSliceMut<'a, T, O>
+        ensures { lent_bits (read_by T.BitRegister O.position) result ≡ [] }
+    {
+        BitSliceMut::from_slice_mut(&mut [])
+    }
+
+    /// All bits of these words, or how many they are where that is too many.
+    ///
+    /// Where their number passes `usize::MAX`, the error has `usize::MAX`.
+    pub fn try_from_slice_mut(words: &'a mut [T]) -> Result<BitSliceMut<'a, T, O>, BitSpanError>
+        ensures variant { IsOk result ↔ (length words.old * T.BITS ≤ MAX_BITS) }
+        ensures lender { IfOk result (λ view. lent_lender view ≡ words.entry.ghost_name) }
+        ensures words { IfOk result (λ view. lent_words view ≡ words.old) }
+        ensures place { IfOk result (λ view. lent_place view ≡ 0) }
+        ensures len { IfOk result (λ view. length (lent_bits (read_by T.BitRegister O.position) view)
+            ≡ length words.old * T.BITS) }
+        ensures err { IfErr result (λ error. error ≡ TooLong (min (length words.old * T.BITS) (2 ^ 64 - 1))) }
+    {
+        let bits = words.len().saturating_mul(T::BITS as usize);
+        if bits > MAX_BITS {
+            return Err(BitSpanError::TooLong(bits));
+        }
+        Ok(BitSliceMut::from_slice_mut(words))
     }
 }
 

@@ -13,9 +13,11 @@ ghost use Rattle.bit_slice_writes.specs.Pair.{pair_len, pair_loan, pair_mid, pai
 
 use crate::pair::Pair;
 use crate::combine::{and_window, or_window, xor_window};
+use crate::paths::copy_path;
 use crate::windows::{copy_window, fill_window, move_window};
 use bit_addressing::{BitRegister, write_entry};
 use bit_slice_changes::{not_in, reverse_in, rotate_left_in, shift_left_in, shift_right_in};
+use bit_slice_paths::WordPaths;
 use bit_slice_views::Bits;
 
 /// A writable window of words: what writes its bits and leaves all others.
@@ -266,6 +268,23 @@ pub trait BitsMut: Bits {
         let (others, head, len) = other.as_bitslice().parts();
         self.write(|words| {
             copy_window::<Self::Store, Self::Order, V::Store, V::Order>(words, place, others, head as usize, len)
+        });
+    }
+
+    /// Makes the bits those of another list as long, of the same words and order, by their word path.
+    #[tactic(auto, using(crate::proofs::FrameLemmas::frames))]
+    final fn copy_from_bitslice<V: Bits<Store = Self::Store, Order = Self::Order>>(&mut self, other: &V)
+    where
+        Self::Order: WordPaths<Self::Store>,
+        requires { length (V.bits other.now) ≡ length (Self.bits self.old) }
+        ensures bits { Self.bits self.new ≡ V.bits other.now }
+        ensures len { length (Self.bits self.new) ≡ length (Self.bits self.old) }
+        ensures frame { frame self.new ≡ frame self.old }
+    {
+        let place = self.first_place();
+        let (others, head, len) = other.as_bitslice().parts();
+        self.write(|words| {
+            copy_path::<Self::Store, Self::Order>(words, place, others, head as usize, len)
         });
     }
 

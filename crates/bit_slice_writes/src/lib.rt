@@ -4,7 +4,9 @@
 mod bits_mut;
 mod callers;
 mod combine;
+mod operators;
 mod pair;
+mod paths;
 mod view_mut;
 mod windows;
 

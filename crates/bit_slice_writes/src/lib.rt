@@ -2,7 +2,6 @@
 #![tactic(auto)]
 
 mod bits_mut;
-mod callers;
 mod combine;
 mod operators;
 mod pair;
@@ -11,6 +10,5 @@ mod view_mut;
 mod windows;
 
 pub use bits_mut::BitsMut;
-pub use callers::{four_set, set_twice, set_both};
 pub use pair::Pair;
 pub use view_mut::BitSliceMut;

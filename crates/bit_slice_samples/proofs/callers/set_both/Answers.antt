@@ -3,7 +3,7 @@ use Rattle.std.proofs.lemmas.List.{set-append_left, set-append_right, take-appen
 use Rattle.bit_addressing.specs.Memory.{read_by, piece}
 use Rattle.bit_slice_writes.specs.Parts.{IsPart, Windows}
 use Rattle.bit_slice_writes.proofs.PairLemmas.{both_written, left_bits, right_bits}
-use Rattle.bit_slice_writes.proofs.callers.set_both.Goals as goal
+use Rattle.bit_slice_samples.proofs.callers.set_both.Goals as goal
 
 set_in_turn : (xs : List Bool) (mid i j : ℕ) → mid ≤ length xs → i < mid
     → set (take mid xs) i true ++ set (drop mid xs) j true ≡ set (set xs i true) (mid + j) true
@@ -53,4 +53,4 @@ returns g c =
     (c.set-2.ensures.bits ∙ ap (λ xs. set xs c.args.right true) was_right)
     ∙ set_in_turn (of.bits v) mid c.args.left c.args.right c.requires.within c.requires.left in
     let frame = both.1 in
-    record { bits = search (rules, bits); frame = search (rules, frame); }
+    record { bits = search (rules, bits); len = search (rules, size); frame = search (rules, frame); }

@@ -1,0 +1,4 @@
+//! What a user of windows proves from their contracts alone.
+#![tactic(auto)]
+
+pub mod callers;

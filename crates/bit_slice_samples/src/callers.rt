@@ -8,29 +8,6 @@ use bit_addressing::{BitOrder, BitRegister, Lsb0, MAX_BITS, Msb0};
 use bit_slice_views::{BitSlice, Bits};
 use bit_slice_writes::{BitSliceMut, BitsMut};
 
-/// Two writes, whatever the window.
-pub fn set_twice<V: BitsMut>(view: &mut V)
-    requires { 5 < length (V.bits view.old) }
-    ensures bits { V.bits view.new ≡ slice_set (slice_set (V.bits view.old) 3 true) 4 false }
-    ensures frame { V.frame view.new ≡ V.frame view.old }
-{
-    view.set(3, true);
-    view.set(4, false);
-}
-
-/// Two writes in words of one's own.
-#[tactic(auto, using(bit_slice_writes::proofs::FrameLemmas::frames, bit_slice_views::proofs::ViewLemmas::views))]
-pub fn four_set<T: BitRegister, O: BitOrder<T>>(words: &mut [T])
-    requires long { 8 < length words.old * T.BITS }
-    requires small { length words.old * T.BITS ≤ MAX_BITS }
-    ensures { memory (read_by T.BitRegister O.position) words.new
-        ≡ slice_set (slice_set (memory (read_by T.BitRegister O.position) words.old) 3 true) 4 false }
-{
-    let mut view = BitSliceMut::<T, O>::from_slice_mut(words);
-    view.set(3, true);
-    view.set(4, false);
-}
-
 /// A window of one's own words filled: its list is known, and every bit beside it is as it was, in a shared word too.
 #[tactic(auto, using(bit_slice_writes::proofs::FrameLemmas::frames))]
 pub fn fill_middle<T: BitRegister, O: BitOrder<T>>(words: &mut [T], place: usize, len: usize)
@@ -60,7 +37,12 @@ pub fn set_both<V: BitsMut>(view: &mut V, mid: usize, left: usize, right: usize)
 
 /// Both parts of all bits of one's own words.
 #[tactic(auto, using(bit_slice_writes::proofs::FrameLemmas::frames, bit_slice_views::proofs::ViewLemmas::views))]
-pub fn set_both_in<T: BitRegister, O: BitOrder<T>>(words: &mut [T], mid: usize, left: usize, right: usize)
+pub fn set_both_in<T: BitRegister, O: BitOrder<T>>(
+    words: &mut [T],
+    mid: usize,
+    left: usize,
+    right: usize,
+)
     requires small { length words.old * T.BITS ≤ MAX_BITS }
     requires within { mid ≤ length words.old * T.BITS }
     requires left { left < mid }

@@ -4,11 +4,11 @@
 -- `frame_beside`. The list: `window_now`.
 use Rattle.std.proofs.Common.{◌≡◌, ℕ, ◌+◌, ◌-◌, ◌*◌, ◌<◌, ◌≤◌, Bool, false, List, length, take, drop, get_or, sym, ap}
 use Rattle.std.proofs.Common.{◌∙◌, arith, refl, rules}
-use Rattle.std.proofs.lemmas.List.{ext_get_or, get_or-drop, get_or-take, length-take, length-drop, places}
-use Rattle.bit_addressing.specs.Memory.{Reading, entry, memory, piece, Overwrites}
+use Rattle.std.proofs.lemmas.List.{ext_get_or, get_or-drop, get_or-take, length-take, places}
+use Rattle.bit_addressing.specs.Memory.{Reading, memory, piece, Overwrites}
 use Rattle.bit_addressing_memory.proofs.MemoryLemmas.{length-memory, entry_memory}
 use Rattle.bit_addressing_memory.proofs.WindowLemmas.{length-window, window_written, window_is}
-use Rattle.bit_slice_writes.specs.Frame.{Frame, frame_of, KeepsBeside}
+use Rattle.bit_slice_writes.specs.Frame.{frame_of, KeepsBeside}
 
 -- equal elements before a place are equal beginnings, and from a place on equal ends
 front_same : (xs ys : List Bool) (p : ℕ) → length xs ≡ length ys

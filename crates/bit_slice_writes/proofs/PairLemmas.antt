@@ -1,12 +1,11 @@
 -- What two parts of a window that were written in turn make of the window.
 --
 -- A part is a piece of the list: `part_bits`. Both written, the first and then the other: `both_written`.
-use Rattle.std.proofs.Common.{◌≡◌, ℕ, ◌+◌, ◌-◌, ◌*◌, ◌<◌, ◌≤◌, Bool, List, ◌++◌, length, take, drop, sym, ap, ◌∙◌, refl, arith}
+use Rattle.std.proofs.Common.{◌≡◌, ℕ, ◌+◌, ◌-◌, ◌≤◌, Bool, List, ◌++◌, length, take, drop, sym, ap, ◌∙◌, refl, arith}
 use Rattle.std.proofs.lemmas.List.{drop-drop, drop-take, take-take, take_rest}
-use Rattle.std.proofs.Math.Seq.{take-add}
-use Rattle.bit_addressing.specs.Memory.{Reading, memory, piece}
+use Rattle.bit_addressing.specs.Memory.{memory, piece}
 use Rattle.bit_addressing_memory.proofs.MemoryLemmas.{piece_join, piece_piece}
-use Rattle.bit_slice_writes.specs.Frame.{Frame, frame_of}
+use Rattle.bit_slice_writes.specs.Frame.{frame_of}
 use Rattle.bit_slice_writes.specs.Parts.{IsPart, Windows}
 
 -- a part is a piece of the window's list
@@ -65,7 +64,7 @@ right_bits of v left first right mid inside is_left kept count is_right =
     let m0 = memory of.reading (of.words v) in
     let m1 = memory of.reading (of.words first) in
     let outer : frame_of of.reading (of.lender first) (of.words first) (of.place first) (length (of.bits first))
-        ≡ frame_of of.reading (of.lender left) (of.words left) (of.place left) (length (of.bits left)) =
+    ≡ frame_of of.reading (of.lender left) (of.words left) (of.place left) (length (of.bits left)) =
     sym (of.framed first) ∙ kept ∙ of.framed left in
     let at_first : of.place first ≡ at = ap (λ f. f.place) outer ∙ is_left.place in
     let behind_first : drop (at + mid) m1 ≡ drop (at + mid) m0 =
@@ -97,10 +96,10 @@ both_written of v left first right second last mid inside is_left kept count is_
     let rest : ℕ = n - mid in
     let ends : at + mid + rest ≡ at + n = omega arith in
     let outer : frame_of of.reading (of.lender first) (of.words first) (of.place first) (length (of.bits first))
-        ≡ frame_of of.reading (of.lender left) (of.words left) (of.place left) (length (of.bits left)) =
+    ≡ frame_of of.reading (of.lender left) (of.words left) (of.place left) (length (of.bits left)) =
     sym (of.framed first) ∙ kept ∙ of.framed left in
     let inner : frame_of of.reading (of.lender second) (of.words second) (of.place second) (length (of.bits second))
-        ≡ frame_of of.reading (of.lender right) (of.words right) (of.place right) (length (of.bits right)) =
+    ≡ frame_of of.reading (of.lender right) (of.words right) (of.place right) (length (of.bits right)) =
     sym (of.framed second) ∙ kept2 ∙ of.framed right in
     let at_first : of.place first ≡ at = ap (λ f. f.place) outer ∙ is_left.place in
     let at_second : of.place second ≡ at + mid = ap (λ f. f.place) inner ∙ is_right.place in
@@ -130,10 +129,9 @@ both_written of v left first right second last mid inside is_left kept count is_
     let before : take at m2 ≡ take at m0 = take_less m2 m1 at mid before_second ∙ before_first in
     let behind : drop (at + n) m2 ≡ drop (at + n) m0 =
     behind_second ∙ ap (λ p. drop p m1) (sym ends) ∙ drop_more m1 m0 (at + mid) rest behind_first
-    ∙ ap (λ p. drop p m0) ends in
-    (
+    ∙ ap (λ p. drop p m0) ends in (
       bits_last ∙ sym joined ∙ ap (λ xs. xs ++ piece m2 (at + mid) rest) (front ∙ sym bits_first)
-      ∙ ap (λ xs. of.bits first ++ xs) (sym bits_second),
+          ∙ ap (λ xs. of.bits first ++ xs) (sym bits_second),
       of.framed last ∙ rw (words, lender, place, size, lent_second, many_second, before, behind) refl
-      ∙ sym (of.framed v),
+          ∙ sym (of.framed v),
     )

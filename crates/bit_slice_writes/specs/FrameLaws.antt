@@ -1,5 +1,5 @@
 -- The laws of a writable window: it is a piece of its words' memory, and lies in it.
-use Rattle.std.proofs.Common.{◌≡◌, ℕ, ◌+◌, ◌*◌, ◌≤◌, Bool, List, length, sym, ap, arith}
+use Rattle.std.proofs.Common.{◌≡◌, ℕ, ◌+◌, ◌*◌, ◌≤◌, List, length, sym, ap, arith}
 use Rattle.bit_addressing.specs.Memory.{Reading, memory, piece}
 use Rattle.bit_addressing_memory.proofs.WindowLemmas.{length-window}
 

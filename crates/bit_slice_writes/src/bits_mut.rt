@@ -11,8 +11,8 @@ ghost use Rattle.bit_slice_writes.specs.Combined.{combined};
 ghost use Rattle.bit_slice_writes.specs.Frame.{Frame, frame_of, KeepsBeside};
 ghost use Rattle.bit_slice_writes.specs.Pair.{pair_len, pair_loan, pair_mid, pair_place, pair_view};
 
-use crate::pair::Pair;
 use crate::combine::{and_window, or_window, xor_window};
+use crate::pair::Pair;
 use crate::paths::copy_path;
 use crate::windows::{copy_window, fill_window, move_window};
 use bit_addressing::{BitRegister, write_entry};
@@ -267,13 +267,22 @@ pub trait BitsMut: Bits {
         let place = self.first_place();
         let (others, head, len) = other.as_bitslice().parts();
         self.write(|words| {
-            copy_window::<Self::Store, Self::Order, V::Store, V::Order>(words, place, others, head as usize, len)
+            copy_window::<Self::Store, Self::Order, V::Store, V::Order>(
+                words,
+                place,
+                others,
+                head as usize,
+                len,
+            )
         });
     }
 
     /// Makes the bits those of another list as long, of the same words and order, by their word path.
     #[tactic(auto, using(crate::proofs::FrameLemmas::frames))]
-    final fn copy_from_bitslice<V: Bits<Store = Self::Store, Order = Self::Order>>(&mut self, other: &V)
+    final fn copy_from_bitslice<V: Bits<Store = Self::Store, Order = Self::Order>>(
+        &mut self,
+        other: &V,
+    )
     where
         Self::Order: WordPaths<Self::Store>,
         requires { length (V.bits other.now) ≡ length (Self.bits self.old) }

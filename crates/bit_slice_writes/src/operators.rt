@@ -16,13 +16,14 @@ use bit_slice_views::{BitSlice, Bits};
 use std::ops::{BitAndAssign, BitOrAssign, BitXorAssign};
 
 /// Each bit becomes what it and the other's bit are both; those past the other's end are cleared.
-impl<'a, 'b, T: BitRegister, O: WordPaths<T>> BitAndAssign<BitSlice<'b, T, O>> for BitSliceMut<'a, T, O> {
+impl<'a, 'b, T: BitRegister, O: WordPaths<T>> BitAndAssign<BitSlice<'b, T, O>>
+    for BitSliceMut<'a, T, O> {
     ghost bitand_assign_gives = { λ before other after.
         (lent_bits (read_by T.BitRegister O.position) after
-            ≡ combined (λ a b. a && b) (lent_bits (read_by T.BitRegister O.position) before)
-            (view_bits (read_by T.BitRegister O.position) other))
+        ≡ combined (λ a b. a && b) (lent_bits (read_by T.BitRegister O.position) before)
+        (view_bits (read_by T.BitRegister O.position) other))
         × (lent_frame (read_by T.BitRegister O.position) after
-            ≡ lent_frame (read_by T.BitRegister O.position) before) };
+        ≡ lent_frame (read_by T.BitRegister O.position) before) };
 
     fn bitand_assign(&mut self, other: BitSlice<'b, T, O>) {
         and_view(self, other);
@@ -47,13 +48,14 @@ where
 }
 
 /// Each bit becomes what it or the other's bit is.
-impl<'a, 'b, T: BitRegister, O: WordPaths<T>> BitOrAssign<BitSlice<'b, T, O>> for BitSliceMut<'a, T, O> {
+impl<'a, 'b, T: BitRegister, O: WordPaths<T>> BitOrAssign<BitSlice<'b, T, O>>
+    for BitSliceMut<'a, T, O> {
     ghost bitor_assign_gives = { λ before other after.
         (lent_bits (read_by T.BitRegister O.position) after
-            ≡ combined (λ a b. a || b) (lent_bits (read_by T.BitRegister O.position) before)
-            (view_bits (read_by T.BitRegister O.position) other))
+        ≡ combined (λ a b. a || b) (lent_bits (read_by T.BitRegister O.position) before)
+        (view_bits (read_by T.BitRegister O.position) other))
         × (lent_frame (read_by T.BitRegister O.position) after
-            ≡ lent_frame (read_by T.BitRegister O.position) before) };
+        ≡ lent_frame (read_by T.BitRegister O.position) before) };
 
     fn bitor_assign(&mut self, other: BitSlice<'b, T, O>) {
         or_view(self, other);
@@ -78,13 +80,14 @@ where
 }
 
 /// Each bit becomes whether it and the other's bit differ.
-impl<'a, 'b, T: BitRegister, O: WordPaths<T>> BitXorAssign<BitSlice<'b, T, O>> for BitSliceMut<'a, T, O> {
+impl<'a, 'b, T: BitRegister, O: WordPaths<T>> BitXorAssign<BitSlice<'b, T, O>>
+    for BitSliceMut<'a, T, O> {
     ghost bitxor_assign_gives = { λ before other after.
         (lent_bits (read_by T.BitRegister O.position) after
-            ≡ combined xor (lent_bits (read_by T.BitRegister O.position) before)
-            (view_bits (read_by T.BitRegister O.position) other))
+        ≡ combined xor (lent_bits (read_by T.BitRegister O.position) before)
+        (view_bits (read_by T.BitRegister O.position) other))
         × (lent_frame (read_by T.BitRegister O.position) after
-            ≡ lent_frame (read_by T.BitRegister O.position) before) };
+        ≡ lent_frame (read_by T.BitRegister O.position) before) };
 
     fn bitxor_assign(&mut self, other: BitSlice<'b, T, O>) {
         xor_view(self, other);

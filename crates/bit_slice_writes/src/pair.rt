@@ -27,7 +27,12 @@ impl<V: BitsMut> Drop for Pair<'_, V> {
         ensures place { V.place self.exit.0.now ≡ self.entry.head }
         ensures len { length (V.bits self.exit.0.now) ≡ self.entry.len }
     {
-        let Pair { of, head, mid: _, len } = self;
+        let Pair {
+            of,
+            head,
+            mid: _,
+            len,
+        } = self;
         of.show(head, len);
     }
 }

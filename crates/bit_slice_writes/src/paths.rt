@@ -71,7 +71,14 @@ pub(crate) fn or_path<R: BitRegister, O: WordPaths<R>>(
         (piece (memory (read_by R.BitRegister O.position) others.now) source other_len) }
     ensures beside { KeepsBeside (read_by R.BitRegister O.position) words.old words.new place len }
 {
-    O::or(words, place, others, source, len.min(other_len), &mut Steps::new());
+    O::or(
+        words,
+        place,
+        others,
+        source,
+        len.min(other_len),
+        &mut Steps::new(),
+    );
 }
 
 // Makes each bit of a window whether it and the other's bit differ.
@@ -92,5 +99,12 @@ pub(crate) fn xor_path<R: BitRegister, O: WordPaths<R>>(
         (piece (memory (read_by R.BitRegister O.position) others.now) source other_len) }
     ensures beside { KeepsBeside (read_by R.BitRegister O.position) words.old words.new place len }
 {
-    O::xor(words, place, others, source, len.min(other_len), &mut Steps::new());
+    O::xor(
+        words,
+        place,
+        others,
+        source,
+        len.min(other_len),
+        &mut Steps::new(),
+    );
 }

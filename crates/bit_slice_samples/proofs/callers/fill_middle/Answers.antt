@@ -1,4 +1,4 @@
-use Rattle.std.proofs.Common.{◌≡◌, ◌+◌, ◌<◌, ◌≤◌, length, arith, rules}
+use Rattle.std.proofs.Common.{◌<◌, length, arith, rules}
 use Rattle.bit_addressing.specs.Memory.{read_by}
 use Rattle.bit_slice_writes.specs.Frame.{KeepsBeside}
 use Rattle.bit_slice_writes.specs.ViewMut.{lent_bits}

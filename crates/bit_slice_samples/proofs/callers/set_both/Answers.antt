@@ -1,6 +1,6 @@
 use Rattle.std.proofs.Common.{◌≡◌, ◌+◌, ◌-◌, ◌≤◌, ◌<◌, ℕ, Bool, true, List, ◌++◌, set, length, take, drop, length-set, arith, sym, ap, ◌∙◌, rules}
 use Rattle.std.proofs.lemmas.List.{set-append_left, set-append_right, take-append-drop, length-take-le}
-use Rattle.bit_addressing.specs.Memory.{read_by, piece}
+use Rattle.bit_addressing.specs.Memory.{read_by}
 use Rattle.bit_slice_writes.specs.Parts.{IsPart, Windows}
 use Rattle.bit_slice_writes.proofs.PairLemmas.{both_written, left_bits, right_bits}
 use Rattle.bit_slice_samples.proofs.callers.set_both.Goals as goal
@@ -13,10 +13,10 @@ set_in_turn xs mid i j inside low =
     let early : i < length (take mid xs) = omega arith in
     let count : length (set (take mid xs) i true) ≡ mid = length-set (take mid xs) i true ∙ size in
     sym (
-      ap (λ ys. set (set ys i true) (mid + j) true) (sym (take-append-drop mid xs))
-      ∙ ap (λ ys. set ys (mid + j) true) (set-append_left (take mid xs) (drop mid xs) i true early)
-      ∙ set-append_right (set (take mid xs) i true) (drop mid xs) mid (mid + j) true count (omega arith)
-      ∙ ap (λ k. set (take mid xs) i true ++ set (drop mid xs) k true) back)
+    ap (λ ys. set (set ys i true) (mid + j) true) (sym (take-append-drop mid xs))
+    ∙ ap (λ ys. set ys (mid + j) true) (set-append_left (take mid xs) (drop mid xs) i true early)
+    ∙ set-append_right (set (take mid xs) i true) (drop mid xs) mid (mid + j) true count (omega arith)
+    ∙ ap (λ k. set (take mid xs) i true ++ set (drop mid xs) k true) back)
 
 pub returns : goal.returns
 returns g c =
@@ -35,9 +35,9 @@ returns g c =
     let v = c.args.view.now in
     let mid = c.args.mid in
     let left : IsPart of v (of.place v) mid c.left_mut.result.now =
-    record { words = cc; lender = cc; place = cc; len = cc; } in
+    record { words = cc; lender = cc; place = cc; len = cc } in
     let right : IsPart of c.set.new.self (of.place v + mid) (length (of.bits v) - mid) c.right_mut.result.now =
-    record { words = cc; lender = cc; place = cc; len = cc; } in
+    record { words = cc; lender = cc; place = cc; len = cc } in
     let size : length (of.bits c.drop-pair.new.self.0) ≡ length (of.bits v) = omega arith in
     let place : of.place c.drop-pair.new.self.0 ≡ of.place v = cc in
     let both = both_written of v c.left_mut.result.now c.set.new.self c.right_mut.result.now c.set-2.new.self
@@ -53,4 +53,4 @@ returns g c =
     (c.set-2.ensures.bits ∙ ap (λ xs. set xs c.args.right true) was_right)
     ∙ set_in_turn (of.bits v) mid c.args.left c.args.right c.requires.within c.requires.left in
     let frame = both.1 in
-    record { bits = search (rules, bits); len = search (rules, size); frame = search (rules, frame); }
+    record { bits = search (rules, bits); len = search (rules, size); frame = search (rules, frame) }

@@ -1,4 +1,4 @@
-use Rattle.std.proofs.Common.{◌≡◌, ◌+◌, ◌<◌, ◌≤◌, Bool, sym, ap, ◌∙◌, arith}
+use Rattle.std.proofs.Common.{Bool, sym, ap, ◌∙◌, arith}
 use Rattle.std.specs.Prelude.{◌||◌}
 use Rattle.bit_addressing.specs.Memory.{memory, piece, read_by}
 use Rattle.bit_slice_writes.specs.Combined.{combined}

@@ -1,7 +1,6 @@
-use Rattle.std.proofs.Common.{◌≡◌, ◌+◌, ◌<◌, ◌≤◌, Bool, sym, ap, ◌∙◌, arith}
+use Rattle.std.proofs.Common.{Bool, arith}
 use Rattle.std.specs.Prelude.{◌&&◌}
-use Rattle.bit_addressing.specs.Memory.{memory, piece, read_by}
-use Rattle.bit_slice_writes.specs.Combined.{combined}
+use Rattle.bit_addressing.specs.Memory.{read_by}
 use Rattle.bit_slice_writes.proofs.CombinedLemmas.{and_zero, combined_cleared}
 use Rattle.bit_slice_writes.proofs.paths.and_path.Goals as goal
 

@@ -1,4 +1,4 @@
-use Rattle.std.proofs.Common.{◌≡◌, ◌+◌, ◌<◌, ◌≤◌, arith}
+use Rattle.std.proofs.Common.{◌<◌, arith}
 use Rattle.bit_addressing.specs.Memory.{read_by}
 use Rattle.bit_slice_changes.proofs.ListLemmas.{copied_list}
 use Rattle.bit_slice_writes.proofs.paths.copy_path.Goals as goal

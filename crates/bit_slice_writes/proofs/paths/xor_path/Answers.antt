@@ -1,7 +1,6 @@
-use Rattle.std.proofs.Common.{◌≡◌, ◌+◌, ◌<◌, ◌≤◌, Bool, sym, ap, ◌∙◌, arith}
+use Rattle.std.proofs.Common.{Bool, arith}
 use Rattle.std.specs.Bool.{xor}
-use Rattle.bit_addressing.specs.Memory.{memory, piece, read_by}
-use Rattle.bit_slice_writes.specs.Combined.{combined}
+use Rattle.bit_addressing.specs.Memory.{read_by}
 use Rattle.bit_slice_writes.proofs.CombinedLemmas.{xor_zero, combined_kept}
 use Rattle.bit_slice_writes.proofs.paths.xor_path.Goals as goal
 

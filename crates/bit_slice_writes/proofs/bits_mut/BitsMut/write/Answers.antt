@@ -1,4 +1,4 @@
-use Rattle.std.proofs.Common.{◌≡◌, ◌+◌, ◌≤◌, ◌<◌, length, arith, sym, ◌∙◌, rules}
+use Rattle.std.proofs.Common.{length, arith, sym, ◌∙◌}
 use Rattle.bit_addressing.specs.Memory.{read_by}
 use Rattle.bit_slice_writes.proofs.FrameLemmas.{frame_kept}
 use Rattle.bit_slice_writes.proofs.bits_mut.BitsMut.write.Goals as goal

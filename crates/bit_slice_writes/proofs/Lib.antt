@@ -1,3 +1,5 @@
 pub mod FrameLemmas
 pub mod PairLemmas
 pub mod CombinedLemmas
+pub mod MidLemmas
+pub mod SweepLemmas

@@ -6,6 +6,7 @@ mod combine;
 mod operators;
 mod pair;
 mod paths;
+mod sweeps;
 mod view_mut;
 mod windows;
 

@@ -14,9 +14,9 @@ use std::marker::PhantomData;
 /// A writable window of a slice of words.
 #[derive(Drop)]
 pub struct BitSliceMut<'a, T: BitRegister, O> {
-    words: &'a mut [T],
-    head: usize,
-    len: usize,
+    pub(crate) words: &'a mut [T],
+    pub(crate) head: usize,
+    pub(crate) len: usize,
     order: PhantomData<O>,
 
     ghost short: { len ≤ MAX_BITS },

@@ -54,6 +54,18 @@ pub fn set_both_in<T: BitRegister, O: BitOrder<T>>(
     set_both(&mut view, mid, left, right);
 }
 
+/// Whether bytes and wider words, their bits counted from other ends, are the same list.
+pub fn same_list(bytes: &[u8], others: &[u16]) -> bool
+    requires small { length bytes.now * 8 ≤ MAX_BITS }
+    requires others_small { length others.now * 16 ≤ MAX_BITS }
+    ensures { IsTrue result ↔ (memory (read_by ⟦<u8 as BitRegister>⟧ (⟦<Lsb0 as BitOrder<u8>>⟧.position)) bytes.now
+        ≡ memory (read_by ⟦<u16 as BitRegister>⟧ (⟦<Msb0 as BitOrder<u16>>⟧.position)) others.now) }
+{
+    let left = BitSlice::<u8, Lsb0>::from_slice(bytes);
+    let right = BitSlice::<u16, Msb0>::from_slice(others);
+    left.eq_bits(&right)
+}
+
 /// A move inside all bits of one's own words: what stands there then, and how many words were written.
 #[tactic(auto, using(bit_slice_writes::proofs::FrameLemmas::frames, bit_slice_views::proofs::ViewLemmas::views))]
 pub fn moved<T: BitRegister, O: BitOrder<T>>(words: &mut [T]) -> usize

@@ -1,13 +1,14 @@
 -- The bits of a window, as pieces of its memory.
 --
--- Its length and entries: `length-view`, `view_entry`. All words: `view_all`. From a place on: `view_place`, `word_of`; cut: `view_front`, `view_rest`.
-use Rattle.std.proofs.Common.{◌≡◌, ℕ, ◌+◌, ◌-◌, ◌*◌, ◌/◌, ◌%◌, ◌<◌, ◌≤◌, Bool, false, List, length, take, drop, get_or}
+-- All words, none, one: `view_all`, `view_none`, `view_one`. From a place on: `view_place`, `word_of`. Cut: `view_front`,
+-- `view_rest`. `views` has these and the window's length and entries, for a `tactic` line.
+use Rattle.std.proofs.Common.{◌≡◌, ℕ, ◌+◌, ◌*◌, ◌/◌, ◌%◌, ◌<◌, ◌≤◌, Bool, List, [], ◌∷◌, length, take, drop}
 use Rattle.std.proofs.Common.{sym, ap, ◌∙◌, inl, inr, arith, refl}
 use Rattle.std.proofs.lemmas.Nat.{div-add-mod'}
-use Rattle.std.proofs.lemmas.List.{drop-drop, take_all, length-drop}
+use Rattle.std.proofs.lemmas.List.{append-nil, drop-drop, take_all, length-drop}
 use Rattle.std.proofs.lemmas.Bool.{cases_lt}
 use Rattle.std.proofs.Math.Nat.{mul-le-mul_right}
-use Rattle.bit_addressing.specs.Memory.{Reading, entry, memory, piece}
+use Rattle.bit_addressing.specs.Memory.{Reading, digits, memory, piece}
 use Rattle.bit_addressing_memory.proofs.MemoryLemmas.{length-memory, memory-drop, piece_piece, piece_all}
 use Rattle.bit_addressing_memory.proofs.WindowLemmas.{length-window, window_bit}
 
@@ -15,6 +16,15 @@ use Rattle.bit_addressing_memory.proofs.WindowLemmas.{length-window, window_bit}
 pub view_all : {R : Type 0} (reading : Reading R) (words : List R) (n : ℕ) → n ≡ length words * reading.bits
     → piece (memory reading words) 0 n ≡ memory reading words
 view_all reading words n all = piece_all (memory reading words) n (length-memory reading words ∙ sym all)
+
+-- no words, and one
+pub view_none : {R : Type 0} (reading : Reading R) → memory reading [] ≡ []
+unfolding memory
+view_none reading = refl
+
+pub view_one : {R : Type 0} (reading : Reading R) (word : R) → memory reading (word ∷ []) ≡ digits reading word
+unfolding memory
+view_one reading word = append-nil (digits reading word)
 
 -- the word of a place of n words is one of them, or the end
 pub word_of : (b size p n : ℕ) → size ≡ b → 0 < b → p ≤ n * b → p / size ≤ n
@@ -24,7 +34,7 @@ word_of b size p n is some h =
       | inl more ↦ absurd (
           let past : (n + 1) * b ≤ p / b * b = mul-le-mul_right b (omega arith) in
           omega arith
-        )
+          )
       | inr enough ↦ enough
     ])
 
@@ -51,4 +61,4 @@ pub view_rest : (xs : List Bool) (i n : ℕ) → i + n ≡ length xs → piece x
 unfolding piece
 view_rest xs i n all = take_all n (drop i xs) (simp length-drop (omega arith))
 
-pub ruleset views = (length-window, window_bit, view_all, piece_piece)
+pub ruleset views = (length-window, window_bit, view_all, view_none, view_one, piece_piece)

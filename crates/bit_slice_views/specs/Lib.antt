@@ -1,4 +1,8 @@
 pub mod BitRef
+pub mod Compare
+pub mod Ends
+pub mod Parts
+pub mod Texts
 pub mod View
 -- the words of memories, orders and registers
 pub use Rattle.bit_addressing.specs.BitOrder

@@ -1,6 +1,7 @@
 //! Callers of windows, each with a contract that follows from those of its calls.
 
-ghost use Rattle.std.specs.Prelude.{◌≡◌, ◌+◌, ◌*◌, ◌^◌, ◌<◌, ◌≤◌, ◌↔◌, length, replicate, slice_set, true, false, IsTrue};
+ghost use Rattle.std.specs.Prelude.{◌≡◌, ◌+◌, ◌*◌, ◌^◌, ◌<◌, ◌≤◌, ◌↔◌, length, replicate, slice_set, true, false};
+ghost use Rattle.std.specs.Prelude.{IsTrue};
 ghost use Rattle.bit_addressing.specs.Memory.{memory, piece, read_by, touched, with_piece};
 ghost use Rattle.bit_slice_writes.specs.Frame.{KeepsBeside};
 

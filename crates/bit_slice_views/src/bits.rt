@@ -1,6 +1,7 @@
 //! What is read of a list of bits, whatever shows it.
 
-ghost use Rattle.std.specs.Prelude.{◌≡◌, ℕ, ◌+◌, ◌<◌, ◌≤◌, ◌↔◌, ◌&&◌, List, Bool, true, false, not, length, slice_index_or};
+ghost use Rattle.std.specs.Prelude.{◌≡◌, ℕ, ◌+◌, ◌<◌, ◌≤◌, ◌↔◌, ◌&&◌, List, Bool, true, false, not, length};
+ghost use Rattle.std.specs.Prelude.{slice_index_or};
 ghost use Rattle.std.specs.Prelude.{◌-◌, count_by, position, IfSome, IsSome, IsTrue};
 ghost use Rattle.std.specs.Prelude.{drop, take, fold};
 ghost use Rattle.std.specs.Cmp.Lexicographic.{slice_cmp};
@@ -17,7 +18,7 @@ ghost use Rattle.bit_slice_views.specs.View.{view_bits};
 use crate::compare::{compare_views, equal_views, view_contains, view_ends, view_starts};
 use crate::index::BitRef;
 use crate::view::BitSlice;
-use bit_addressing::{BitIdx, BitOrder, BitRegister, read_entry};
+use bit_addressing::{BitOrder, BitRegister, read_entry};
 use bit_slice_scans::{count_ones_in, count_zeros_in, first_in, last_in};
 use std::cmp::Ordering;
 use std::hash::{Hash, Hasher};
@@ -49,11 +50,6 @@ pub trait Bits {
         ensures { IsTrue result ↔ (length (bits self.now) ≡ 0) }
     {
         self.len() == 0
-    }
-
-    /// The index of the first bit in the word where it lies.
-    final fn head(&self) -> BitIdx<Self::Store> {
-        self.as_bitslice().head()
     }
 
     // ---- access

@@ -2,13 +2,15 @@
 --
 -- By its entries: `combined_window`. Where the list ends first: `combined_kept`, `combined_cleared`. Bits with a zero:
 -- `and_zero`, `or_zero`, `xor_zero`.
-use Rattle.std.proofs.Common.{◌≡◌, ℕ, ◌+◌, ◌-◌, ◌*◌, ◌<◌, ◌≤◌, Bool, true, false, List, ◌++◌, length, get_or, min, replicate}
+use Rattle.std.proofs.Common.{◌≡◌, ℕ, ◌+◌, ◌-◌, ◌*◌, ◌<◌, ◌≤◌, Bool, true, false, List, ◌++◌, length, get_or, min}
+use Rattle.std.proofs.Common.{replicate}
 use Rattle.std.proofs.Common.{refl, sym, ap, ap₂, ◌∙◌, inl, inr, arith, length-append}
 use Rattle.std.specs.Prelude.{◌&&◌, ◌||◌}
 use mathlib.Core.Bool.{xor}
 use Rattle.std.specs.Simd.Lanes.{zip2}
 use Rattle.std.proofs.lemmas.Bool.{cases_lt}
-use Rattle.std.proofs.lemmas.List.{length-take-le, length-replicate, get_or-take, get_or_append_left, get_or-append_right, get_or-replicate, get_or_past}
+use Rattle.std.proofs.lemmas.List.{length-take-le, length-replicate, get_or-take, get_or_append_left}
+use Rattle.std.proofs.lemmas.List.{get_or-append_right, get_or-replicate, get_or_past}
 use Rattle.std.proofs.lemmas.Simd.{length-zip2, get_or-zip2}
 use Rattle.bit_addressing.specs.Memory.{Reading, entry, memory, piece, Overwrites}
 use Rattle.bit_addressing_memory.proofs.WindowLemmas.{window_is, window_bit, length-window}
@@ -16,7 +18,8 @@ use Rattle.bit_slice_writes.specs.Combined.{combined, fitted}
 
 length-fitted : (n : ℕ) (bits : List Bool) → length (fitted n bits) ≡ n
 length-fitted n bits =
-    length-take-le n (bits ++ replicate n false) (omega (arith, length-append bits (replicate n false), length-replicate n false))
+    length-take-le n (bits ++ replicate n false)
+    (omega (arith, length-append bits (replicate n false), length-replicate n false))
 
 get_or-fitted : (n : ℕ) (bits : List Bool) (k : ℕ) → k < n → get_or (fitted n bits) k false ≡ get_or bits k false
 get_or-fitted n bits k low =

@@ -31,7 +31,8 @@ unfolding piece
 piece_back xs ys p n same = ap (take n) same
 
 take_less : (xs ys : List Bool) (p n : ℕ) → take (p + n) xs ≡ take (p + n) ys → take p xs ≡ take p ys
-take_less xs ys p n same = sym (take-take p (p + n) xs (omega arith)) ∙ ap (take p) same ∙ take-take p (p + n) ys (omega arith)
+take_less xs ys p n same =
+    sym (take-take p (p + n) xs (omega arith)) ∙ ap (take p) same ∙ take-take p (p + n) ys (omega arith)
 
 drop_more : (xs ys : List Bool) (p n : ℕ) → drop p xs ≡ drop p ys → drop (p + n) xs ≡ drop (p + n) ys
 drop_more xs ys p n same = sym (drop-drop n p xs) ∙ ap (drop n) same ∙ drop-drop n p ys
@@ -87,7 +88,8 @@ pub both_written : {V X R : Type 0} (of : Windows V X R) (v left first right sec
     → of.words last ≡ of.words second → of.lender last ≡ of.lender second → of.place last ≡ of.place v
     → length (of.bits last) ≡ length (of.bits v)
     → (of.bits last ≡ of.bits first ++ of.bits second) × (of.frame last ≡ of.frame v)
-both_written of v left first right second last mid inside is_left kept count is_right kept2 count2 words lender place size =
+both_written of v left first right second last mid inside is_left kept count is_right kept2 count2 words lender place
+    size =
     let n : ℕ = length (of.bits v) in
     let at : ℕ = of.place v in
     let m0 = memory of.reading (of.words v) in
@@ -105,7 +107,8 @@ both_written of v left first right second last mid inside is_left kept count is_
     let at_second : of.place second ≡ at + mid = ap (λ f. f.place) inner ∙ is_right.place in
     let lent_first : of.lender first ≡ of.lender v = ap (λ f. f.lender) outer ∙ is_left.lender in
     let lent_second : of.lender second ≡ of.lender v = ap (λ f. f.lender) inner ∙ is_right.lender ∙ lent_first in
-    let many_first : length (of.words first) ≡ length (of.words v) = ap (λ f. f.words) outer ∙ ap length is_left.words in
+    let many_first : length (of.words first) ≡ length (of.words v) =
+    ap (λ f. f.words) outer ∙ ap length is_left.words in
     let many_second : length (of.words second) ≡ length (of.words v) =
     ap (λ f. f.words) inner ∙ ap length is_right.words ∙ many_first in
     let before_first : take at m1 ≡ take at m0 =

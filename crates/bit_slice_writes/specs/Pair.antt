@@ -1,6 +1,7 @@
 -- A pair of parts of a writable window, as contracts see it.
 --
--- What it has: `pair_view` (the window, as its last borrower left it), `pair_loan`, `pair_place`, `pair_mid`, `pair_len`.
+-- What it has: `pair_view` (the window, as its last borrower left it), `pair_loan`, `pair_place`, `pair_mid`,
+-- `pair_len`.
 use Rattle.std.specs.Prelude.{ℕ}
 use Rattle.bit_slice_writes.specs.declared.pair.Pair.{Pair}
 

@@ -1,6 +1,7 @@
 //! What is written of a list of bits, whatever lends it.
 
-ghost use Rattle.std.specs.Prelude.{◌≡◌, ℕ, ◌+◌, ◌-◌, ◌*◌, ◌<◌, ◌≤◌, ◌^◌, ◌++◌, ◌&&◌, ◌||◌, List, Bool, false, not, length, map, min};
+ghost use Rattle.std.specs.Prelude.{◌≡◌, ℕ, ◌+◌, ◌-◌, ◌*◌, ◌<◌, ◌≤◌, ◌^◌, ◌++◌, ◌&&◌, ◌||◌, List, Bool, false, not};
+ghost use Rattle.std.specs.Prelude.{length, map, min};
 ghost use Rattle.std.specs.Prelude.{drop, replicate, reverse, slice_index_or, slice_set, take};
 ghost use Rattle.std.specs.Bool.{xor};
 ghost use Rattle.std.specs.Fn.{FnOnceReturnsAtMut};
@@ -64,18 +65,21 @@ pub trait BitsMut: Bits {
         ensures len { length (Self.bits self.new) ≡ count };
 
     ghost window: { (v : Self) → Self.bits v
-        ≡ piece (memory (read_by Self.Store.BitRegister Self.Order.position) (words v)) (place v) (length (Self.bits v)) };
+        ≡ piece (memory (read_by Self.Store.BitRegister Self.Order.position) (words v))
+        (place v) (length (Self.bits v)) };
 
     ghost fits: { (v : Self) → place v + length (Self.bits v) ≤ length (words v) * Self.Store.BITS };
 
     ghost framed: { (v : Self) → frame v
-        ≡ frame_of (read_by Self.Store.BitRegister Self.Order.position) (lender v) (words v) (place v) (length (Self.bits v)) };
+        ≡ frame_of (read_by Self.Store.BitRegister Self.Order.position)
+        (lender v) (words v) (place v) (length (Self.bits v)) };
 
     /// Lends the words to a function that keeps each bit outside the window.
     final fn write<A, F: FnOnce(&mut [Self::Store]) -> A>(&mut self, f: F) -> A
         requires callable { (w : _) → w.now ≡ words self.old → F.pre f w }
         requires beside { (w : _) (r : A) (a : _) → FnOnceReturnsAtMut F.FnOnce f w r a
-            → KeepsBeside (read_by Self.Store.BitRegister Self.Order.position) w a (place self.old) (length (Self.bits self.old)) }
+            → KeepsBeside (read_by Self.Store.BitRegister Self.Order.position) w a
+            (place self.old) (length (Self.bits self.old)) }
         ensures words { FnOnceReturnsAtMut F.FnOnce f (words self.old) result (words self.new) }
         ensures place { place self.new ≡ place self.old }
         ensures len { length (Self.bits self.new) ≡ length (Self.bits self.old) }
@@ -321,8 +325,8 @@ pub trait BitsMut: Bits {
 
     // ---- combine
 
-    /// Makes each bit what it and the bit at its index in another list are both. Where the other list is shorter, the bits
-    /// past its end are cleared; where it is longer, the rest is not looked at.
+    /// Makes each bit what it and the bit at its index in another list are both. Where the other list is shorter,
+    /// the bits past its end are cleared; where it is longer, the rest is not looked at.
     #[tactic(auto, using(crate::proofs::FrameLemmas::frames))]
     final fn and_bits<V: Bits>(&mut self, other: &V)
         ensures bits { Self.bits self.new ≡ combined (λ a b. a && b) (Self.bits self.old) (V.bits other.now) }
@@ -337,8 +341,8 @@ pub trait BitsMut: Bits {
         });
     }
 
-    /// Makes each bit what it or the bit at its index in another list is. Where the other list is shorter, the bits past
-    /// its end stay; where it is longer, the rest is not looked at.
+    /// Makes each bit what it or the bit at its index in another list is. Where the other list is shorter, the bits
+    /// past its end stay; where it is longer, the rest is not looked at.
     #[tactic(auto, using(crate::proofs::FrameLemmas::frames))]
     final fn or_bits<V: Bits>(&mut self, other: &V)
         ensures bits { Self.bits self.new ≡ combined (λ a b. a || b) (Self.bits self.old) (V.bits other.now) }

@@ -1,13 +1,13 @@
 //! A window of words, to write.
 
-ghost use Rattle.std.specs.Prelude.{◌≡◌, ◌+◌, ◌-◌, ◌*◌, ◌^◌, ◌<◌, ◌≤◌, ◌↔◌, [], length, min, IsOk, IfOk, IfErr};
+ghost use Rattle.std.specs.Prelude.{◌≡◌, ◌+◌, ◌-◌, ◌*◌, ◌%◌, ◌^◌, ◌<◌, ◌≤◌, ◌↔◌, [], length, min, IsOk, IfOk, IfErr};
 ghost use Rattle.std.specs.Fn.{FnOnceReturnsAtMut};
 ghost use Rattle.bit_addressing.specs.Memory.{memory, piece, read_by, reading_in};
 ghost use Rattle.bit_addressing_span.specs.declared.span.TheConstants.{MAX_BITS};
 ghost use Rattle.bit_addressing_span.specs.declared.span_error.BitSpanError.TheVariants.{TooLong};
 
 use crate::bits_mut::BitsMut;
-use bit_addressing::{BitOrder, BitRegister, BitSpanError, MAX_BITS};
+use bit_addressing::{BitIdx, BitOrder, BitRegister, BitSpanError, MAX_BITS, mem};
 use bit_slice_views::{BitSlice, Bits};
 use std::marker::PhantomData;
 
@@ -95,6 +95,15 @@ impl<'a, T: BitRegister, O: BitOrder<T>> BitSliceMut<'a, T, O> {
             return Err(BitSpanError::TooLong(bits));
         }
         Ok(BitSliceMut::from_slice_mut(words))
+    }
+
+    // ---- size
+
+    /// The index of the first bit in the word where it lies.
+    pub fn head(&self) -> BitIdx<T>
+        ensures { result ≡ lent_place self.now % T.BITS }
+    {
+        BitIdx::new_unchecked((self.head % mem::bits_of::<T>()) as u8)
     }
 }
 

@@ -1,4 +1,5 @@
-use Rattle.std.proofs.Common.{◌≡◌, ◌+◌, ◌-◌, ◌≤◌, ◌<◌, ℕ, Bool, true, List, ◌++◌, set, length, take, drop, length-set, arith, sym, ap, ◌∙◌, rules}
+use Rattle.std.proofs.Common.{◌≡◌, ◌+◌, ◌-◌, ◌≤◌, ◌<◌, ℕ, Bool, true, List, ◌++◌, set, length, take, drop}
+use Rattle.std.proofs.Common.{length-set, arith, sym, ap, ◌∙◌, rules}
 use Rattle.std.proofs.lemmas.List.{set-append_left, set-append_right, take-append-drop, length-take-le}
 use Rattle.bit_addressing.specs.Memory.{read_by}
 use Rattle.bit_slice_writes.specs.Parts.{IsPart, Windows}

@@ -3,4 +3,5 @@ use Rattle.bit_slice_writes.proofs.sweeps.sweep_all.Goals as goal
 
 pub returns-clause-ran : goal.returns-clause-ran
 returns-clause-ran g c =
-    (c.new-sweep.result, c.run.new.sweep, c.new-sweep.ensures.fresh, c.new-sweep.ensures.words, c.run.ensures.ran, search rules)
+    let fresh = c.new-sweep.ensures.fresh in
+    (c.new-sweep.result, c.run.new.sweep, fresh, c.new-sweep.ensures.words, c.run.ensures.ran, search rules)

@@ -14,7 +14,8 @@ returns-clause-ran g c =
       r.1,
       r.2,
       r.3
-          ∙ ap (λ n. piece v.words.now (v.head / g.T.BitRegister.BITS) (touched g.T.BitRegister.BITS v.head n)) (sym size),
+          ∙ ap (λ n. piece v.words.now (v.head / g.T.BitRegister.BITS) (touched g.T.BitRegister.BITS v.head n))
+          (sym size),
       r.4,
       r.5,
     )

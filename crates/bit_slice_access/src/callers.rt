@@ -1,0 +1,21 @@
+//! Callers, as another crate would write them.
+
+ghost use Rattle.std.specs.Prelude.{◌≡◌, ◌+◌, ◌*◌, ◌<◌, ◌≤◌, length, slice_set, true, false};
+
+use crate::bit_mut::BitMut;
+use bit_slice_views::Bits;
+use bit_slice_writes::BitsMut;
+
+/// Sets and commits bits, whatever the window.
+pub fn set_by_bits<V: BitsMut>(view: &mut V)
+    requires { 5 < length (V.bits view.old) }
+    ensures bits { V.bits view.new ≡ slice_set (slice_set (slice_set (V.bits view.old) 3 true) 3 false) 4 true }
+    ensures frame { V.frame view.new ≡ V.frame view.old }
+{
+    {
+        let mut third = BitMut::new(view, 3);
+        third.set(true);
+        third.replace(false);
+    }
+    BitMut::new(view, 4).commit(true);
+}

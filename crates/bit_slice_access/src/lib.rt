@@ -1,0 +1,8 @@
+//! Bits and parts of a window, to write, and what is built of single writes.
+#![tactic(auto)]
+
+mod bit_mut;
+mod callers;
+
+pub use bit_mut::BitMut;
+pub use callers::set_by_bits;

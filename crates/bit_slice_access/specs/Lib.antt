@@ -1,1 +1,2 @@
 pub mod BitMut
+pub mod Fills

@@ -3,6 +3,8 @@
 
 mod bit_mut;
 mod callers;
+mod fills;
 
 pub use bit_mut::BitMut;
 pub use callers::set_by_bits;
+pub use fills::BitsFill;

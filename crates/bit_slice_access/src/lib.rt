@@ -3,8 +3,10 @@
 
 mod bit_mut;
 mod callers;
+mod copies;
 mod fills;
 
 pub use bit_mut::BitMut;
 pub use callers::set_by_bits;
+pub use copies::BitsCopy;
 pub use fills::BitsFill;

@@ -1,0 +1,29 @@
+use Rattle.std.proofs.Common.{rules, ◌∙◌, arith}
+use Rattle.bit_slice_access.proofs.SwapLemmas.{changed_below, changed_above, changed_all}
+use Rattle.bit_slice_access.proofs.copies.BitsCopy.swap_with_bitslice.Goals as goal
+
+pub loop-i-preserved : goal.loop-i-preserved
+loop-i-preserved g c =
+    let so_far = c.loop-i.invariant in
+    record {
+      frame = search rules;
+      len = search rules;
+      below = rw c.set.ensures.bits (changed_below _ _ _ _ (search rules)
+          (c.replace-bit.ensures.was ∙ so_far.other_above _ (omega arith)) so_far.below);
+      above = rw c.set.ensures.bits (changed_above _ _ _ _ so_far.above);
+      other_frame = search rules;
+      other_len = search rules;
+      other_below = rw c.replace-bit.ensures.bits (changed_below _ _ _ _ (search rules)
+          (c.bit-was.ensures ∙ so_far.above _ (omega arith)) so_far.other_below);
+      other_above = rw c.replace-bit.ensures.bits (changed_above _ _ _ _ so_far.other_above);
+    }
+
+pub returns : goal.returns
+returns g c =
+    let all = c.loop-i.invariant in
+    record {
+      bits = changed_all _ _ _ (omega arith) (omega arith) all.below;
+      frame = search rules;
+      other_bits = changed_all _ _ _ (omega arith) (omega arith) all.other_below;
+      other_frame = search rules;
+    }

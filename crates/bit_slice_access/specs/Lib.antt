@@ -1,2 +1,4 @@
 pub mod BitMut
 pub mod Fills
+pub mod Part
+pub mod PartLender

@@ -5,8 +5,10 @@ mod bit_mut;
 mod callers;
 mod copies;
 mod fills;
+mod part;
 
 pub use bit_mut::BitMut;
-pub use callers::set_by_bits;
+pub use callers::{set_by_bits, set_in_part};
 pub use copies::BitsCopy;
 pub use fills::BitsFill;
+pub use part::Part;

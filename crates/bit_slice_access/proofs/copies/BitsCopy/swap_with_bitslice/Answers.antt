@@ -4,18 +4,17 @@ use Rattle.bit_slice_access.proofs.copies.BitsCopy.swap_with_bitslice.Goals as g
 
 pub loop-i-preserved : goal.loop-i-preserved
 loop-i-preserved g c =
-    let so_far = c.loop-i.invariant in
     record {
       frame = search rules;
       len = search rules;
       below = rw c.set.ensures.bits (changed_below _ _ _ _ (search rules)
-          (c.replace-bit.ensures.was ∙ so_far.other_above _ (omega arith)) so_far.below);
-      above = rw c.set.ensures.bits (changed_above _ _ _ _ so_far.above);
+          (c.replace-bit.ensures.was ∙ c.loop-i.invariant.other_above _ (omega arith)) c.loop-i.invariant.below);
+      above = rw c.set.ensures.bits (changed_above _ _ _ _ c.loop-i.invariant.above);
       other_frame = search rules;
       other_len = search rules;
       other_below = rw c.replace-bit.ensures.bits (changed_below _ _ _ _ (search rules)
-          (c.bit-was.ensures ∙ so_far.above _ (omega arith)) so_far.other_below);
-      other_above = rw c.replace-bit.ensures.bits (changed_above _ _ _ _ so_far.other_above);
+          (c.bit-was.ensures ∙ c.loop-i.invariant.above _ (omega arith)) c.loop-i.invariant.other_below);
+      other_above = rw c.replace-bit.ensures.bits (changed_above _ _ _ _ c.loop-i.invariant.other_above);
     }
 
 pub returns : goal.returns

@@ -5,10 +5,12 @@ mod bit_mut;
 mod callers;
 mod copies;
 mod fills;
+mod index_mut;
 mod part;
 
 pub use bit_mut::BitMut;
 pub use callers::{set_by_bits, set_in_part};
 pub use copies::BitsCopy;
 pub use fills::BitsFill;
+pub use index_mut::{BitRangeMut, BitSliceIndexMut};
 pub use part::Part;

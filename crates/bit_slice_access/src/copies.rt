@@ -26,6 +26,21 @@ pub trait BitsCopy: BitsMut {
         self.move_within(from, dest, count);
     }
 
+    /// What `copy_within` does.
+    final fn copy_within_unchecked<I: BitRange + Drop>(&mut self, range: I, dest: usize)
+        requires ordered { I.start range ≤ I.end range (length (Self.bits self.old)) }
+        requires source { I.end range (length (Self.bits self.old)) ≤ length (Self.bits self.old) }
+        requires target { dest + (I.end range (length (Self.bits self.old)) - I.start range)
+            ≤ length (Self.bits self.old) }
+        ensures bits { Self.bits self.new ≡ with_piece (Self.bits self.old) dest
+            (piece (Self.bits self.old) (I.start range)
+            (I.end range (length (Self.bits self.old)) - I.start range)) }
+        ensures len { length (Self.bits self.new) ≡ length (Self.bits self.old) }
+        ensures frame { Self.frame self.new ≡ Self.frame self.old }
+    {
+        self.copy_within(range, dest);
+    }
+
     /// Exchanges the bits with those of another window as long, whatever its words and their order.
     final fn swap_with_bitslice<W: BitsMut>(&mut self, other: &mut W)
         requires { length (W.bits other.old) ≡ length (Self.bits self.old) }

@@ -88,21 +88,15 @@ impl<V: BitsMut> BitsMut for Part<'_, V> {
 }
 
 impl<'s, V: BitsMut> Part<'s, V> {
-    ghost use Rattle.bit_slice_access.specs.Part.{part_view, part_loan, part_head, part_len, part_whole, part_around};
+    ghost use Rattle.bit_slice_access.specs.Part.{part_loan};
+    ghost use Rattle.bit_slice_access.specs.Shows.{IsPartOf};
 
     /// `count` bits of a window, from bit `from` on.
     pub fn new(of: &'s mut V, from: usize, count: usize) -> Part<'s, V>
         requires { from + count ≤ length (V.bits of.old) }
         ensures same_reference { part_loan result ≡ of.entry.ghost_name }
-        ensures bits { V.bits (part_view result) ≡ piece (V.bits of.old) from count }
-        ensures len { length (V.bits (part_view result)) ≡ count }
-
-        // Where it lies in the window, and the window that it is cut from.
-        ensures place { V.place (part_view result) ≡ part_head result + from }
-        ensures whole_len { part_len result ≡ length (V.bits of.old) }
-        ensures whole { part_whole (read_by V.Store.BitRegister V.Order.position) V.words result ≡ V.bits of.old }
-        ensures around { part_around (read_by V.Store.BitRegister V.Order.position) V.lender V.words result
-            ≡ V.frame of.old }
+        ensures shows { IsPartOf (read_by V.Store.BitRegister V.Order.position) V.lender V.words V.place V.bits V.frame
+            of.old from count result }
     {
         let head = of.first_place();
         let len = of.len();

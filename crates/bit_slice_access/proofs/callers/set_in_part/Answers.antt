@@ -1,5 +1,5 @@
 use Rattle.std.proofs.Common.{rules, ◌≡◌, ◌+◌, ◌<◌, ◌≤◌, Bool, true, false, List, length, set, length-set, arith, ap, ◌∙◌}
-use Rattle.bit_addressing.specs.Memory.{read_by, piece, with_piece}
+use Rattle.bit_addressing.specs.Memory.{piece, with_piece}
 use Rattle.bit_addressing_memory.proofs.MemoryLemmas.{length-piece}
 use Rattle.bit_slice_access.proofs.CallerLemmas.{part_kept}
 use Rattle.bit_slice_access.proofs.PartLemmas.{piece_set, piece_same}
@@ -21,10 +21,8 @@ returns g c =
     let v = c.args.view.now in
     let p = c.new-part.result in
     let q = c.set-2.new.self in
-    let kept = part_kept (read_by g.V.Store.BitRegister g.V.Order.Positions.position) g.V.BitsMut.lender
-        g.V.BitsMut.words g.V.BitsMut.place g.V.Bits.bits p q 2 (g.V.Bits.bits v) (g.V.BitsMut.frame v)
-        (c.set-2.ensures.frame ∙ c.set.ensures.frame) (omega arith) (g.met.V.BitsMut.window q.of.now)
-        c.new-part.ensures.place (omega arith) p.fits c.new-part.ensures.whole c.new-part.ensures.around in
+    let kept = part_kept c.new-part.ensures.shows q (c.set-2.ensures.frame ∙ c.set.ensures.frame) (omega arith)
+        (g.met.V.BitsMut.window q.of.now) c.requires p.fits in
     let loan = kept.0 in
     let now : g.V.Bits.bits q.of.now ≡ set (set (piece (g.V.Bits.bits v) 2 5) 1 true) 3 false = cc in
     let bits : g.V.Bits.bits c.drop-part.new.self.0 ≡ set (set (g.V.Bits.bits v) 3 true) 5 false =

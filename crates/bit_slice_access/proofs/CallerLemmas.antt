@@ -26,9 +26,8 @@ part_kept {reading = reading} {lender = lender} {words = words} {place = place} 
     let room : from + length (bits old.of.now) ≤ old.len = omega (arith, is.len, is.whole_len) in
     let size : length (bits new.of.now) ≡ length (bits old.of.now) = many ∙ sym is.len in
     let done = part_written reading (words old.of.now) (words new.of.now) (part_lender lender old)
-        (part_lender lender new) (place old.of.now) (place new.of.now) (length (bits old.of.now))
-        (length (bits new.of.now)) from same size is.place_is room fits in
-    (
+    (part_lender lender new) (place old.of.now) (place new.of.now) (length (bits old.of.now))
+    (length (bits new.of.now)) from same size is.place_is room fits in (
       ap (λ f. f.lender.loan) same,
       done.0 ∙ ap (with_piece (part_whole reading words old) from) (sym shown)
           ∙ ap (λ xs. with_piece xs from (bits new.of.now)) is.whole,

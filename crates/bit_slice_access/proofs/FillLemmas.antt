@@ -2,12 +2,13 @@
 --
 -- One more bit: `filled_step`. All of them: `filled_whole`. A closure that answers by the index alone: `filled_by`.
 use Rattle.std.proofs.Common.{◌≡◌, ℕ, zero, suc, ◌+◌, ◌<◌, ◌≤◌, Bool, false, List, [], ◌∷◌, ◌++◌, length, take, get_or}
-use Rattle.std.proofs.Common.{set, refl, sym, ap, ◌∙◌, arith, subst}
+use Rattle.std.proofs.Common.{set, refl, ap, arith, subst}
 use Rattle.std.proofs.lemmas.Fn.{FoldsTo-push}
 use Rattle.std.specs.List.{FoldsTo}
 use Rattle.bit_slice_access.specs.Fills.{Filled}
 
-take_set_suc : (xs : List Bool) (i : ℕ) (bit : Bool) → i < length xs → take (suc i) (set xs i bit) ≡ take i xs ++ bit ∷ []
+take_set_suc : (xs : List Bool) (i : ℕ) (bit : Bool) → i < length xs
+    → take (suc i) (set xs i bit) ≡ take i xs ++ bit ∷ []
 take_set_suc [] i bit low = absurd (omega arith)
 take_set_suc (x ∷ xs) zero bit low = refl
 take_set_suc (x ∷ xs) (suc i) bit low = ap (λ l. x ∷ l) (take_set_suc xs i bit (omega arith))
@@ -41,7 +42,8 @@ filled_push {F} step f bits i q bit u so_far size call =
 
 -- the bits below i are filled, and then the one at i
 pub filled_step : {F : Type 0} (step : F → ℕ → Bool → F → Type 0) (f : F) (xs : List Bool) (i : ℕ) (q : F) (bit : Bool)
-    (u : F) → Filled step f (take i xs) q → i < length xs → step q i bit u → Filled step f (take (i + 1) (set xs i bit)) u
+    (u : F) → Filled step f (take i xs) q → i < length xs → step q i bit u
+    → Filled step f (take (i + 1) (set xs i bit)) u
 filled_step step f xs i q bit u so_far low call =
     rw (take_set xs i bit low)
     (filled_push step f (take i xs) i q bit u so_far (length_taken xs i (omega arith)) call)

@@ -2,13 +2,15 @@
 --
 -- A window that shows all its bits again: `shows_all`, `framed_all`. What it showed: `part_shown`.
 -- For callers that wrote a part: `part_written`; a bit of a piece that was set: `piece_set`, and `piece_same`.
-use Rattle.std.proofs.Common.{◌≡◌, ℕ, ◌+◌, ◌-◌, ◌*◌, ◌<◌, ◌≤◌, ◌≢◌, Bool, false, List, ◌++◌, length, take, drop, get_or, set}
+use Rattle.std.proofs.Common.{◌≡◌, ℕ, ◌+◌, ◌-◌, ◌*◌, ◌<◌, ◌≤◌, ◌≢◌, Bool, false, List, ◌++◌, length}
+use Rattle.std.proofs.Common.{take, drop, get_or, set}
 use Rattle.std.proofs.Common.{arith, refl, sym, ap, ◌∙◌, inl, inr, rules, length-set, get_or-set_same, get_or-set_other}
 use Rattle.std.proofs.lemmas.Bool.{cases_lt, cases_eq}
 use Rattle.std.proofs.lemmas.List.{ext_get_or, get_or-take, get_or-drop, take-take, drop-drop, same_lists, places}
 use Rattle.bit_addressing.specs.Memory.{Reading, memory, piece, with_piece}
 use Rattle.bit_addressing_memory.proofs.MemoryLemmas.{piece_piece, length-piece, get_or-piece, length-memory}
-use Rattle.bit_addressing_memory.proofs.MemoryLemmas.{length-with_piece, with_piece_below, with_piece_inside, with_piece_above}
+use Rattle.bit_addressing_memory.proofs.MemoryLemmas.{length-with_piece, with_piece_below, with_piece_inside}
+use Rattle.bit_addressing_memory.proofs.MemoryLemmas.{with_piece_above}
 use Rattle.bit_slice_writes.specs.Frame.{Frame, frame_of}
 use Rattle.bit_slice_access.specs.PartLender.{PartLender}
 
@@ -71,23 +73,26 @@ whole_written old new place n head len from at inside fits size front back =
     ext_get_or false (piece new head len) (with_piece (piece old head len) from (piece new place n))
     (now ∙ sym was ∙ sym (length-with_piece (piece old head len) from (piece new place n) room))
     (λ k small.
-      let low : k < len = omega arith in
-      let here : get_or (piece new head len) k false ≡ get_or new (head + k) false = get_or-piece new head len k false low in
-      let there : get_or (piece old head len) k false ≡ get_or old (head + k) false = get_or-piece old head len k false low in
-      here ∙ sym (elim (cases_lt k from) [
-        | inl below ↦
-            with_piece_below (piece old head len) from (piece new place n) k false room below ∙ there
-            ∙ sym (same_front new old place (head + k) front (omega arith))
-        | inr above ↦ elim (cases_lt k (from + n)) [
-          | inl mid ↦
-              with_piece_inside (piece old head len) from (piece new place n) k (k - from) false room (omega arith) (omega arith)
-              ∙ get_or-piece new place n (k - from) false (omega arith)
-              ∙ ap (λ i. get_or new i false) (omega arith)
-          | inr past ↦
-              with_piece_above (piece old head len) from (piece new place n) k false room (omega arith) ∙ there
-              ∙ sym (same_back new old (place + n) (head + k) back (omega arith))
-        ]
-      ]))
+    let low : k < len = omega arith in
+    let here : get_or (piece new head len) k false ≡ get_or new (head + k) false =
+    get_or-piece new head len k false low in
+    let there : get_or (piece old head len) k false ≡ get_or old (head + k) false =
+    get_or-piece old head len k false low in
+    here ∙ sym (elim (cases_lt k from) [
+      | inl below ↦
+          with_piece_below (piece old head len) from (piece new place n) k false room below ∙ there
+          ∙ sym (same_front new old place (head + k) front (omega arith))
+      | inr above ↦ elim (cases_lt k (from + n)) [
+        | inl mid ↦
+            with_piece_inside (piece old head len) from (piece new place n) k (k - from) false room (omega arith)
+            (omega arith)
+            ∙ get_or-piece new place n (k - from) false (omega arith)
+            ∙ ap (λ i. get_or new i false) (omega arith)
+        | inr past ↦
+            with_piece_above (piece old head len) from (piece new place n) k false room (omega arith) ∙ there
+            ∙ sym (same_back new old (place + n) (head + k) back (omega arith))
+      ]
+    ]))
 
 -- a part whose frame stays: the whole window is as it was but for the part's bits, and so is its frame
 pub part_written : {X R : Type 0} (reading : Reading R) (old new : List R) (was is : PartLender X)

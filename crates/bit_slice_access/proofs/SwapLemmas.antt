@@ -1,7 +1,7 @@
 -- Two lists exchanged, element by element from the first on.
 --
 -- Those before the next one, and those from it on: `changed_below`, `changed_above`. All of them: `changed_all`.
-use Rattle.std.proofs.Common.{◌≡◌, ℕ, ◌+◌, ◌<◌, ◌≤◌, ◌≢◌, Bool, false, List, length, get_or, set, ◌∙◌, sym, arith, inl, inr}
+use Rattle.std.proofs.Common.{◌≡◌, ℕ, ◌+◌, ◌<◌, ◌≤◌, ◌≢◌, Bool, false, List, length, get_or, set, ◌∙◌, arith, inl, inr}
 use Rattle.std.proofs.Common.{get_or-set_same, get_or-set_other}
 use Rattle.std.proofs.lemmas.Bool.{cases_eq}
 use Rattle.std.proofs.lemmas.List.{ext_get_or}
@@ -11,9 +11,9 @@ pub changed_below : (xs ys : List Bool) (i : ℕ) (bit : Bool) → i < length xs
     → ((k : ℕ) → k < i → get_or xs k false ≡ get_or ys k false)
     → (k : ℕ) → k < i + 1 → get_or (set xs i bit) k false ≡ get_or ys k false
 changed_below xs ys i bit low is so_far k below = elim (cases_eq k i) [
-    | inl same ↦ rw same (get_or-set_same xs i bit false low ∙ is)
-    | inr other ↦ get_or-set_other xs i k bit false other ∙ so_far k (omega arith)
-  ]
+  | inl same ↦ rw same (get_or-set_same xs i bit false low ∙ is)
+  | inr other ↦ get_or-set_other xs i k bit false other ∙ so_far k (omega arith)
+]
 
 -- the elements from i on of xs are those of zs, and those past i still are
 pub changed_above : (xs zs : List Bool) (i : ℕ) (bit : Bool)

@@ -1,7 +1,7 @@
 -- A part of a window that is lent as a window.
 --
--- What it writes in: `part_view`, `part_loan`. The window that it is cut from: `part_head`, `part_len`, its bits as they
--- are now, `part_whole`, and its frame, `part_around`. Whose words they are: `part_lender`.
+-- What it writes in: `part_view`, `part_loan`. The window that it is cut from: `part_head`, `part_len`, its bits as
+-- they are now, `part_whole`, and its frame, `part_around`. Whose words they are: `part_lender`.
 use Rattle.std.specs.Prelude.{ℕ, Bool, List}
 use Rattle.bit_addressing.specs.Memory.{Reading, memory, piece}
 use Rattle.bit_slice_writes.specs.Frame.{Frame, frame_of}

@@ -1,6 +1,7 @@
 //! Bits and parts of a window by their indices, to write.
 
-ghost use Rattle.std.specs.Prelude.{◌≡◌, ◌+◌, ◌-◌, ◌<◌, ◌≤◌, ◌↔◌, IfSome, IsSome, length, slice_index_or, slice_set, false};
+ghost use Rattle.std.specs.Prelude.{◌≡◌, ◌+◌, ◌-◌, ◌<◌, ◌≤◌, ◌↔◌, IfSome, IsSome, length, false};
+ghost use Rattle.std.specs.Prelude.{slice_index_or, slice_set};
 ghost use Rattle.bit_slice_access.specs.BitMut.{bit_view, bit_loan, bit_index};
 ghost use Rattle.bit_slice_access.specs.Shows.{pair_loan, SplitsAt};
 
@@ -11,8 +12,8 @@ use bit_slice_writes::{BitsMut, Pair};
 
 /// The accesses of a window by an index: of every `BitsMut`.
 ///
-/// What is lent borrows the window. A caller that wants to know the window where an answer is `None` asks before the call
-/// whether the index lies in it.
+/// What is lent borrows the window. A caller that wants to know the window where an answer is `None` asks before the
+/// call whether the index lies in it.
 pub trait BitsAccess: BitsMut {
     // ---- by an index or a range
 
@@ -67,7 +68,8 @@ pub trait BitsAccess: BitsMut {
         Some(BitMut::new(self, len - 1))
     }
 
-    /// The first bit as a part of its own, and the others: one of them is lent at a time. `None` of a window without bits.
+    /// The first bit as a part of its own, and the others: one of them is lent at a time. `None` of a window without
+    /// bits.
     final fn split_first_mut(&mut self) -> Option<Pair<'_, Self>>
         ensures variant { IsSome result ↔ (0 < length (Self.bits self.old)) }
         ensures same_reference { IfSome result (λ pair. pair_loan pair ≡ self.entry.ghost_name) }
@@ -79,8 +81,8 @@ pub trait BitsAccess: BitsMut {
         Some(self.split_at_mut(1))
     }
 
-    /// All bits but the last, and the last as a part of its own: one of them is lent at a time. `None` of a window without
-    /// bits.
+    /// All bits but the last, and the last as a part of its own: one of them is lent at a time. `None` of a window
+    /// without bits.
     final fn split_last_mut(&mut self) -> Option<Pair<'_, Self>>
         ensures variant { IsSome result ↔ (0 < length (Self.bits self.old)) }
         ensures same_reference { IfSome result (λ pair. pair_loan pair ≡ self.entry.ghost_name) }

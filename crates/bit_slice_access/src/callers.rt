@@ -1,6 +1,7 @@
 //! Callers, as another crate would write them.
 
-ghost use Rattle.std.specs.Prelude.{◌≡◌, ℕ, ◌+◌, ◌-◌, ◌*◌, ◌<◌, ◌≤◌, ◌++◌, length, slice_set, slice_index_or, replicate, take, not, true, false};
+ghost use Rattle.std.specs.Prelude.{◌≡◌, ℕ, ◌+◌, ◌-◌, ◌*◌, ◌<◌, ◌≤◌, length, slice_set, slice_index_or, replicate};
+ghost use Rattle.std.specs.Prelude.{not, true, false};
 ghost use Rattle.bit_addressing.specs.Memory.{memory, read_by, with_piece};
 ghost use Rattle.bit_addressing_span.specs.declared.span.TheConstants.{MAX_BITS};
 
@@ -33,7 +34,8 @@ pub fn set_in_words<T: BitRegister, O: BitOrder<T>>(words: &mut [T])
     requires long { 5 < length words.old * T.BITS }
     requires small { length words.old * T.BITS ≤ MAX_BITS }
     ensures { memory (read_by T.BitRegister O.position) words.new
-        ≡ slice_set (slice_set (slice_set (memory (read_by T.BitRegister O.position) words.old) 3 true) 3 false) 4 true }
+        ≡ slice_set (slice_set (slice_set (memory (read_by T.BitRegister O.position) words.old) 3 true) 3 false)
+        4 true }
 {
     let mut view = BitSliceMut::<T, O>::from_slice_mut(words);
     set_by_bits(&mut view);
@@ -87,7 +89,8 @@ pub fn fill_range<V: BitsMut>(view: &mut V, from: usize, upto: usize)
 /// Makes the bits from an index on ones.
 pub fn fill_from<V: BitsMut>(view: &mut V, from: usize)
     requires { from ≤ length (V.bits view.old) }
-    ensures bits { V.bits view.new ≡ with_piece (V.bits view.old) from (replicate (length (V.bits view.old) - from) true) }
+    ensures bits { V.bits view.new
+        ≡ with_piece (V.bits view.old) from (replicate (length (V.bits view.old) - from) true) }
     ensures frame { V.frame view.new ≡ V.frame view.old }
 {
     let Some(mut part) = view.get_mut(from..) else {

@@ -8,8 +8,8 @@ use bit_slice_writes::BitsMut;
 
 /// The copies of a window that no single lower call makes: of every `BitsMut`.
 pub trait BitsCopy: BitsMut {
-    /// Copies the bits of a range to the places from `dest` on, overlap allowed. The range and the places have to lie in
-    /// the window.
+    /// Copies the bits of a range to the places from `dest` on, overlap allowed. The range and the places have to lie
+    /// in the window.
     final fn copy_within<I: BitRange + Drop>(&mut self, range: I, dest: usize)
         requires ordered { I.start range ≤ I.end range (length (Self.bits self.old)) }
         requires source { I.end range (length (Self.bits self.old)) ≤ length (Self.bits self.old) }
@@ -45,10 +45,12 @@ pub trait BitsCopy: BitsMut {
     final fn swap_with_bitslice<W: BitsMut>(&mut self, other: &mut W)
         requires { length (W.bits other.old) ≡ length (Self.bits self.old) }
         ensures bits { Self.bits self.new ≡ W.bits other.old }
+        ensures len { length (Self.bits self.new) ≡ length (Self.bits self.old) }
         ensures frame { Self.frame self.new ≡ Self.frame self.old }
 
         // And the other window's.
         ensures other_bits { W.bits other.new ≡ Self.bits self.old }
+        ensures other_len { length (W.bits other.new) ≡ length (W.bits other.old) }
         ensures other_frame { W.frame other.new ≡ W.frame other.old }
     {
         let len = self.len();

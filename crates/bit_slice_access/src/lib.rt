@@ -11,7 +11,10 @@ mod part;
 
 pub use access::BitsAccess;
 pub use bit_mut::BitMut;
-pub use callers::{fill_from, fill_range, flip_each, set_at_front, set_by_bits, set_in_part, set_in_words, set_last, set_where_inside};
+pub use callers::{
+    fill_from, fill_range, flip_each, set_at_front, set_by_bits, set_in_part, set_in_words,
+    set_last, set_where_inside,
+};
 pub use copies::BitsCopy;
 pub use fills::BitsFill;
 pub use index_mut::{BitRangeMut, BitSliceIndexMut};

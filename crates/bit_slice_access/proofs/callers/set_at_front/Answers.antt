@@ -29,24 +29,24 @@ returns g c =
     let split = c.in-Some.ensures.splits in
     let inside : 1 ≤ length (of.bits v) = omega arith in
     let left : IsPart of v (of.place v) 1 c.left_mut.result.now =
-        record { words = cc; lender = cc; place = cc; len = cc; } in
+    record { words = cc; lender = cc; place = cc; len = cc } in
     let right : IsPart of c.set.new.self (of.place v + 1) (length (of.bits v) - 1) c.right_mut.result.now =
-        record { words = cc; lender = cc; place = cc; len = cc; } in
+    record { words = cc; lender = cc; place = cc; len = cc } in
     let size : length (of.bits c.drop-pair.new.self.0) ≡ length (of.bits v) = cc in
     let place : of.place c.drop-pair.new.self.0 ≡ of.place v = cc in
     let both = both_written of v c.left_mut.result.now c.set.new.self c.right_mut.result.now c.set-2.new.self
-        c.drop-pair.new.self.0 1 inside left c.set.ensures.frame (omega (arith, c.left_mut.ensures.len, split.mid))
-        right c.set-2.ensures.frame (omega (arith, right.len)) c.drop-pair.ensures.words c.drop-pair.ensures.lender
-        place size in
+    c.drop-pair.new.self.0 1 inside left c.set.ensures.frame (omega (arith, c.left_mut.ensures.len, split.mid))
+    right c.set-2.ensures.frame (omega (arith, right.len)) c.drop-pair.ensures.words c.drop-pair.ensures.lender
+    place size in
     let was_left : of.bits c.left_mut.result.now ≡ take 1 (of.bits v) = left_bits of v _ 1 left inside in
     let was_right : of.bits c.right_mut.result.now ≡ drop 1 (of.bits v) =
-        right_bits of v _ c.set.new.self _ 1 inside left c.set.ensures.frame
-        (omega (arith, c.left_mut.ensures.len, split.mid)) right in
+    right_bits of v _ c.set.new.self _ 1 inside left c.set.ensures.frame
+    (omega (arith, c.left_mut.ensures.len, split.mid)) right in
     let bits : of.bits c.drop-pair.new.self.0 ≡ set (set (of.bits v) 0 true) 1 true =
-        both.0
-        ∙ ap (λ xs. xs ++ of.bits c.set-2.new.self) (c.set.ensures.bits ∙ ap (λ xs. set xs 0 true) was_left)
-        ∙ ap (λ xs. set (take 1 (of.bits v)) 0 true ++ xs)
-        (c.set-2.ensures.bits ∙ ap (λ xs. set xs 0 true) was_right)
-        ∙ set_two (of.bits v) (omega arith) in
+    both.0
+    ∙ ap (λ xs. xs ++ of.bits c.set-2.new.self) (c.set.ensures.bits ∙ ap (λ xs. set xs 0 true) was_left)
+    ∙ ap (λ xs. set (take 1 (of.bits v)) 0 true ++ xs)
+    (c.set-2.ensures.bits ∙ ap (λ xs. set xs 0 true) was_right)
+    ∙ set_two (of.bits v) (omega arith) in
     let frame = both.1 in
-    record { bits = search (rules, bits); frame = search (rules, frame); }
+    record { bits = search (rules, bits); frame = search (rules, frame) }

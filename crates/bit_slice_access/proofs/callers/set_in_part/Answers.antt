@@ -1,4 +1,4 @@
-use Rattle.std.proofs.Common.{rules, ◌≡◌, ◌+◌, ◌<◌, ◌≤◌, Bool, true, false, List, length, set, length-set, arith, ap, ◌∙◌}
+use Rattle.std.proofs.Common.{rules, ◌≡◌, ◌≤◌, Bool, true, false, List, length, set, length-set, arith, ap, ◌∙◌}
 use Rattle.bit_addressing.specs.Memory.{piece, with_piece}
 use Rattle.bit_addressing_memory.proofs.MemoryLemmas.{length-piece}
 use Rattle.bit_slice_access.proofs.CallerLemmas.{part_kept}
@@ -22,10 +22,11 @@ returns g c =
     let p = c.new-part.result in
     let q = c.set-2.new.self in
     let kept = part_kept c.new-part.ensures.shows q (c.set-2.ensures.frame ∙ c.set.ensures.frame) (omega arith)
-        (g.met.V.BitsMut.window q.of.now) c.requires p.fits in
+    (g.met.V.BitsMut.window q.of.now) c.requires p.fits in
     let loan = kept.0 in
     let now : g.V.Bits.bits q.of.now ≡ set (set (piece (g.V.Bits.bits v) 2 5) 1 true) 3 false = cc in
     let bits : g.V.Bits.bits c.drop-part.new.self.0 ≡ set (set (g.V.Bits.bits v) 3 true) 5 false =
-    c.drop-part.ensures.bits ∙ kept.1 ∙ ap (with_piece (g.V.Bits.bits v) 2) now ∙ both_set (g.V.Bits.bits v) c.requires in
+    c.drop-part.ensures.bits ∙ kept.1 ∙ ap (with_piece (g.V.Bits.bits v) 2) now
+    ∙ both_set (g.V.Bits.bits v) c.requires in
     let frame : g.V.BitsMut.frame c.drop-part.new.self.0 ≡ g.V.BitsMut.frame v = c.drop-part.ensures.frame ∙ kept.2 in
-    record { bits = search (rules, bits, loan); frame = search (rules, frame, loan); }
+    record { bits = search (rules, bits, loan); frame = search (rules, frame, loan) }

@@ -17,12 +17,8 @@ loop-i-preserved g c =
       other_above = rw c.replace-bit.ensures.bits (changed_above _ _ _ _ c.loop-i.invariant.other_above);
     }
 
-pub returns : goal.returns
-returns g c =
-    let all = c.loop-i.invariant in
-    record {
-      bits = changed_all _ _ _ (omega arith) (omega arith) all.below;
-      frame = search rules;
-      other_bits = changed_all _ _ _ (omega arith) (omega arith) all.other_below;
-      other_frame = search rules;
-    }
+pub returns-clause-bits : goal.returns-clause-bits
+returns-clause-bits g c = changed_all _ _ _ (omega arith) (omega arith) c.loop-i.invariant.below
+
+pub returns-clause-other_bits : goal.returns-clause-other_bits
+returns-clause-other_bits g c = changed_all _ _ _ (omega arith) (omega arith) c.loop-i.invariant.other_below

@@ -1,0 +1,4 @@
+pub mod CallerLemmas
+pub mod FillLemmas
+pub mod PartLemmas
+pub mod SwapLemmas

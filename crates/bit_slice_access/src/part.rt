@@ -1,0 +1,106 @@
+//! A part of a window, to write.
+
+ghost use Rattle.std.specs.Prelude.{◌≡◌, ◌+◌, ◌*◌, ◌<◌, ◌≤◌, ◌^◌, length};
+ghost use Rattle.std.specs.Fn.{FnOnceReturnsAtMut};
+ghost use Rattle.bit_addressing.specs.Memory.{memory, piece, read_by};
+ghost use Rattle.bit_addressing_span.specs.declared.span.TheConstants.{MAX_BITS};
+ghost use Rattle.bit_slice_writes.specs.Frame.{frame_of};
+
+use bit_addressing::BitRegister;
+use bit_slice_views::{BitSlice, Bits};
+use bit_slice_writes::BitsMut;
+
+/// Some bits of a window, as a window of its own: what a range lends.
+///
+/// When it ends, the window shows all its bits again.
+pub struct Part<'s, V: BitsMut> {
+    of: &'s mut V,
+    head: usize,
+    len: usize,
+
+    ghost short: { len ≤ MAX_BITS },
+    ghost small: { head + len < 2 ^ 63 },
+    ghost fits: { head + len ≤ length (V.words of.now) * V.Store.BITS },
+}
+
+#[tactic(auto, using(crate::proofs::PartLemmas::shows_all, crate::proofs::PartLemmas::framed_all))]
+impl<V: BitsMut> Drop for Part<'_, V> {
+    ghost use Rattle.bit_slice_access.specs.Part.{part_whole, part_around};
+
+    fn drop(self)
+        ensures bits { V.bits self.exit.0.now
+            ≡ part_whole (read_by V.Store.BitRegister V.Order.position) V.words self.entry }
+        ensures frame { V.frame self.exit.0.now
+            ≡ part_around (read_by V.Store.BitRegister V.Order.position) V.lender V.words self.entry }
+    {
+        let Part { of, head, len } = self;
+        of.show(head, len);
+    }
+}
+
+impl<V: BitsMut> Bits for Part<'_, V> {
+    ghost use Rattle.bit_slice_access.specs.Part.{part_view};
+
+    type Store = V::Store;
+
+    type Order = V::Order;
+
+    ghost bits = { λ part. V.bits (part_view part) };
+
+    fn as_bitslice(&self) -> BitSlice<'_, V::Store, V::Order> {
+        self.of.as_bitslice()
+    }
+}
+
+impl<V: BitsMut> BitsMut for Part<'_, V> {
+    ghost use Rattle.std.specs.Prelude.{refl};
+    ghost use Rattle.bit_slice_access.specs.Part.{part_lender, part_view};
+    ghost use Rattle.bit_slice_access.specs.PartLender.{PartLender};
+
+    ghost Lender = { PartLender V.Lender };
+
+    ghost lender = { part_lender V.lender };
+
+    ghost words = { λ part. V.words (part_view part) };
+
+    ghost place = { λ part. V.place (part_view part) };
+
+    ghost frame = { λ part. frame_of (read_by V.Store.BitRegister V.Order.position) (part_lender V.lender part)
+        (V.words (part_view part)) (V.place (part_view part)) (length (V.bits (part_view part))) };
+
+    fn first_place(&self) -> usize {
+        self.of.first_place()
+    }
+
+    fn with_words<A, F: FnOnce(&mut [V::Store]) -> A>(&mut self, f: F) -> A {
+        self.of.with_words(f)
+    }
+
+    fn show(&mut self, from: usize, count: usize) {
+        self.of.show(from, count);
+    }
+
+    ghost window = { λ part. V.window (part_view part) };
+
+    ghost fits = { λ part. V.fits (part_view part) };
+
+    ghost framed = { λ part. refl };
+}
+
+impl<'s, V: BitsMut> Part<'s, V> {
+    ghost use Rattle.bit_slice_access.specs.Part.{part_loan};
+    ghost use Rattle.bit_slice_access.specs.Shows.{IsPartOf};
+
+    /// `count` bits of a window, from bit `from` on.
+    pub fn new(of: &'s mut V, from: usize, count: usize) -> Part<'s, V>
+        requires { from + count ≤ length (V.bits of.old) }
+        ensures same_reference { part_loan result ≡ of.entry.ghost_name }
+        ensures shows { IsPartOf (read_by V.Store.BitRegister V.Order.position) V.lender V.words V.place V.bits V.frame
+            of.old from count result }
+    {
+        let head = of.first_place();
+        let len = of.len();
+        of.show(head + from, count);
+        Part { of, head, len }
+    }
+}

@@ -1,11 +1,12 @@
 -- What is lent of a window: a part of it, or both of its parts.
 --
--- A part: `IsPartOf`. Both parts of a split: `pair_loan`, `SplitsAt`.
+-- A part: `IsPartOf`. Both parts of a split: `SplitsAt`.
 use Rattle.std.specs.Prelude.{ℕ, ◌≡◌, ◌+◌, ◌<◌, ◌≤◌, ◌^◌, Bool, List, length}
 use Rattle.bit_addressing.specs.Memory.{Reading, piece}
 use Rattle.bit_addressing_span.specs.declared.span.TheConstants.{MAX_BITS}
 use Rattle.bit_slice_writes.specs.Frame.{Frame}
 use Rattle.bit_slice_writes.specs.declared.pair.Pair.{Pair}
+use Rattle.bit_slice_writes.specs.Pair.{pair_len, pair_mid, pair_place, pair_view}
 use Rattle.bit_slice_access.specs.Part.{part_view, part_head, part_len, part_whole, part_around}
 use Rattle.bit_slice_access.specs.declared.part.Part.{Part}
 
@@ -20,16 +21,12 @@ pub record IsPartOf {V S O X : Type 0} {m b r c p : _} (reading : Reading S) (le
   pub whole : part_whole reading words part ≡ bits v
   pub around : part_around reading lender words part ≡ frame v
 
--- the loan of the window that a pair splits
-abbrev pub pair_loan : {V S O : Type 0} → Pair V S O → ℕ
-pair_loan pair = pair.of.ghost_name
-
 -- the pair splits the window v before its bit i
 pub record SplitsAt {V S O : Type 0} (place : V → ℕ) (bits : V → List Bool) (v : V) (i : ℕ) (pair : Pair V S O)
     : Type 0 where
-  pub value : pair.of.now ≡ v
-  pub head : pair.head ≡ place v
-  pub mid : pair.mid ≡ i
-  pub len : pair.len ≡ length (bits v)
-  pub short : pair.len ≤ MAX_BITS
-  pub small : pair.head + pair.len < 2 ^ 63
+  pub value : pair_view pair ≡ v
+  pub head : pair_place pair ≡ place v
+  pub mid : pair_mid pair ≡ i
+  pub len : pair_len pair ≡ length (bits v)
+  pub short : pair_len pair ≤ MAX_BITS
+  pub small : pair_place pair + pair_len pair < 2 ^ 63

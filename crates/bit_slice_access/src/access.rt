@@ -3,7 +3,8 @@
 ghost use Rattle.std.specs.Prelude.{◌≡◌, ◌+◌, ◌-◌, ◌<◌, ◌≤◌, ◌↔◌, IfSome, IsSome, length, false};
 ghost use Rattle.std.specs.Prelude.{slice_index_or, slice_set};
 ghost use Rattle.bit_slice_access.specs.BitMut.{bit_view, bit_loan, bit_index};
-ghost use Rattle.bit_slice_access.specs.Shows.{pair_loan, SplitsAt};
+ghost use Rattle.bit_slice_access.specs.Shows.{SplitsAt};
+ghost use Rattle.bit_slice_writes.specs.Pair.{pair_loan};
 
 use crate::bit_mut::BitMut;
 use crate::index_mut::BitSliceIndexMut;

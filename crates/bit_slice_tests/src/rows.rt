@@ -6,8 +6,9 @@ use bit_addressing::{Lsb0, Msb0};
 use bit_slice_changes::{
     move_words, rotate_left_in, rotate_right_in, shift_left_in, shift_right_in,
 };
+use bit_slice_samples::callers::{fill_middle, moved, same_list, set_both, set_both_in};
 use bit_slice_views::{BitSlice, Bits};
-use bit_slice_writes::{BitSliceMut, BitsMut, four_set, set_both, set_twice};
+use bit_slice_writes::{BitSliceMut, BitsMut};
 use std::process::Abort;
 
 // The bits of a window as digits, the first one in front.
@@ -148,12 +149,14 @@ fn bits_are_moved_within_a_window(rt: HostRuntime) {
 
 #[test]
 fn callers_write(rt: HostRuntime) {
-    let mut words = [0x10u8, 0x34];
-    four_set::<u8, Lsb0>(&mut words);
-    assert!(rt; words == [0x08, 0x34]);
-    {
-        let mut view = BitSliceMut::<u8, Msb0>::from_slice_mut(&mut words);
-        set_twice(&mut view);
-    }
-    assert!(rt; words == [0x10, 0x34]);
+    let mut words = [0x10u8, 0x34, 0x00];
+    fill_middle::<u8, Lsb0>(&mut words, 6, 4);
+    assert!(rt; words == [0xd0, 0x37, 0x00]);
+    set_both_in::<u8, Msb0>(&mut words, 9, 0, 14);
+    assert!(rt; words == [0xd0, 0x37, 0x01]);
+    assert!(rt; same_list(&[0x01, 0x80], &[0x8001]));
+    assert!(rt; !same_list(&[0x02, 0x80], &[0x8001]));
+    let mut others = [0x00u8, 0x00, 0xf0, 0xff, 0x07];
+    let writes = moved::<u8, Lsb0>(&mut others);
+    assert!(rt; others == [0xf8, 0xff, 0xf3, 0xff, 0x07] && writes <= 3);
 }

@@ -16,6 +16,8 @@ mod rows;
 #[cfg(test)]
 mod scans;
 #[cfg(test)]
+mod shown;
+#[cfg(test)]
 mod views;
 #[cfg(test)]
 mod writes;

@@ -60,7 +60,7 @@ fn windows_are_written_out(rt: HostRuntime) -> Result<(), Fail> {
 fn windows_are_compared(rt: HostRuntime) {
     let bytes = [0b0000_0110u8, 0xff];
     let wider = [0b0110_0000_1111_1111u16];
-    let left = BitSlice::<u8, Lsb0>::from_slice(&bytes);
+    let left = BitSlice::<u8, Lsb0>::from_parts(&bytes, 0, 16);
     let right = BitSlice::<u16, Msb0>::from_slice(&wider);
     assert!(rt; left.eq_bits(&right) && left.cmp_bits(&right) == Ordering::Equal);
     let (front, back) = left.split_at(8);

@@ -1,13 +1,16 @@
 -- Lists of bits compared.
 --
 -- What `==` of std tells: `equal_own`, `equal_same`, `equal_decided`. A list that begins or ends with another:
--- `starts_decided`, `ends_decided`; it is then no shorter: `start_fits`, `end_fits`.
-use Rattle.std.proofs.Common.{◌≡◌, ◌⊎◌, ℕ, ◌-◌, ◌≤◌, Bool, true, false, List, [], ◌∷◌, length, take, drop}
+-- `starts_decided`, `ends_decided`; it is then no shorter: `start_fits`, `end_fits`. Bits of two memories:
+-- `windows_told`.
+use Rattle.std.proofs.Common.{◌≡◌, ◌⊎◌, ◌↔◌, ℕ, ◌+◌, ◌-◌, ◌*◌, ◌<◌, ◌≤◌, get_or, Bool, true, false, List, [], ◌∷◌, length, take, drop}
 use Rattle.std.proofs.Common.{IsTrue, refl, sym, ap, ◌∙◌, inl, inr, arith}
 use Rattle.std.proofs.lemmas.List.{length-take, length-drop}
 use Rattle.std.specs.Bool.{beq}
 use Rattle.std.specs.Cmp.Lexicographic.{pointwise}
-use Rattle.bit_addressing.specs.Memory.{piece}
+use Rattle.bit_addressing.specs.Memory.{Reading, entry, memory, piece}
+use Rattle.bit_addressing.proofs.WindowLemmas.{window_bit}
+use Rattle.bit_slice_scans.proofs.SameLemmas.{windows_equal}
 use Rattle.bit_slice_views.proofs.ViewLemmas.{view_front, view_rest}
 
 cases_bool : (b : Bool) → (b ≡ true) ⊎ (b ≡ false)
@@ -67,5 +70,17 @@ ends_decided r xs ys part m n size count fits is decided =
     let back : part ≡ drop (length xs - length ys) xs =
     is ∙ view_rest xs (m - n) n (omega arith) ∙ ap (λ k. drop k xs) at in
     (λ yes. sym back ∙ decided.0 yes, λ same. decided.1 (back ∙ same))
+
+-- as many bits of two memories are one list exactly where their entries are equal
+pub windows_told : {R : Type 0} (reading : Reading R) (words others : List R) (place other_place len : ℕ) (r : Bool)
+    → 0 < reading.bits → place + len ≤ length words * reading.bits → other_place + len ≤ length others * reading.bits
+    → IsTrue r ↔ ((k : ℕ) → k < len → entry reading words (place + k) ≡ entry reading others (other_place + k))
+    → IsTrue r ↔ (piece (memory reading words) place len ≡ piece (memory reading others) other_place len)
+windows_told reading words others place other_place len r some fits others_fit told =
+    let one = window_bit reading words place len in
+    let other = window_bit reading others other_place len in (
+      λ yes. windows_equal reading words reading others place other_place len some some fits others_fit (told.0 yes),
+      λ same. told.1 (λ k low. sym (one k some low) ∙ ap (λ xs. get_or xs k false) same ∙ other k some low),
+    )
 
 pub ruleset ends = (start_fits, end_fits)

@@ -1,9 +1,9 @@
 //! Windows compared as lists of bits, whatever their words and orders are.
 
-ghost use Rattle.std.specs.Prelude.{◌≡◌, ◌-◌, ◌↔◌, length, take, drop, IfSome, IsSome, IsTrue};
+ghost use Rattle.std.specs.Prelude.{◌≡◌, ◌+◌, ◌-◌, ◌*◌, ◌^◌, ◌<◌, ◌≤◌, ◌↔◌, length, take, drop, IfSome, IsSome, IsTrue};
 ghost use Rattle.std.specs.Cmp.Lexicographic.{slice_cmp};
 ghost use Rattle.std.specs.Ordering.{bool_cmp, as_partial_cmp};
-ghost use Rattle.bit_addressing.specs.Memory.{read_by, reading_in};
+ghost use Rattle.bit_addressing.specs.Memory.{memory, piece, read_by, reading_in};
 ghost use Rattle.bit_slice_scans.specs.Holds.{Holds};
 ghost use Rattle.bit_slice_views.specs.Compare.{bits_eq, bits_cmp, bits_fed, bits_equiv, bits_per, bits_total};
 ghost use Rattle.bit_slice_views.specs.Compare.{bits_ties, bits_po, bits_alike};
@@ -12,27 +12,28 @@ ghost use Rattle.bit_slice_views.specs.View.{view_bits};
 use crate::bits::Bits;
 use crate::view::BitSlice;
 use bit_addressing::{BitOrder, BitRegister};
+use bit_slice_paths::{Steps, WordPaths};
 use bit_slice_scans::{compare_in, contains_in, equal_in};
 use std::cmp::Ordering;
 use std::hash::{Hash, Hasher};
 
-/// Windows are equal where their lists are.
-impl<T: BitRegister, O: BitOrder<T>> PartialEq for BitSlice<'_, T, O> {
+/// Windows of one type are equal where their lists are: by the word path of their order.
+impl<T: BitRegister, O: WordPaths<T>> PartialEq for BitSlice<'_, T, O> {
     ghost eq = { bits_eq (view_bits (read_by T.BitRegister O.position)) };
 
     ghost laws = { bits_per (view_bits (reading_in T.BITS T.number O.position)) };
 
     fn eq(&self, other: &Self) -> bool {
-        self.eq_bits(other)
+        equal_by_path(*self, *other)
     }
 }
 
-impl<T: BitRegister, O: BitOrder<T>> Eq for BitSlice<'_, T, O> {
+impl<T: BitRegister, O: WordPaths<T>> Eq for BitSlice<'_, T, O> {
     ghost laws = { bits_equiv (view_bits (reading_in T.BITS T.number O.position)) };
 }
 
 /// The order of `cmp_bits`.
-impl<T: BitRegister, O: BitOrder<T>> PartialOrd for BitSlice<'_, T, O> {
+impl<T: BitRegister, O: WordPaths<T>> PartialOrd for BitSlice<'_, T, O> {
     ghost partial_cmp = { as_partial_cmp (bits_cmp (view_bits (read_by T.BitRegister O.position))) };
 
     ghost laws = { bits_po (view_bits (reading_in T.BITS T.number O.position)) };
@@ -42,7 +43,7 @@ impl<T: BitRegister, O: BitOrder<T>> PartialOrd for BitSlice<'_, T, O> {
     }
 }
 
-impl<T: BitRegister, O: BitOrder<T>> Ord for BitSlice<'_, T, O> {
+impl<T: BitRegister, O: WordPaths<T>> Ord for BitSlice<'_, T, O> {
     ghost use Rattle.std.specs.Prelude.{refl};
 
     ghost cmp = { bits_cmp (view_bits (read_by T.BitRegister O.position)) };
@@ -59,7 +60,7 @@ impl<T: BitRegister, O: BitOrder<T>> Ord for BitSlice<'_, T, O> {
 }
 
 /// The hash of `hash_bits`.
-impl<T: BitRegister, O: BitOrder<T>> Hash for BitSlice<'_, T, O> {
+impl<T: BitRegister, O: WordPaths<T>> Hash for BitSlice<'_, T, O> {
     ghost hash_input = { bits_fed (view_bits (read_by T.BitRegister O.position)) };
 
     ghost respects_eq = { bits_alike (view_bits (reading_in T.BITS T.number O.position)) };
@@ -115,6 +116,38 @@ pub(crate) fn equal_views<T: BitRegister, O: BitOrder<T>, Q: BitRegister, P: Bit
     let (others, other_head, other_len) = right.parts();
     len == other_len
         && equal_in::<T, O, Q, P>(words, head as usize, others, other_head as usize, len)
+}
+
+// Whether two windows of one type show the same list, by their word path.
+fn equal_by_path<T: BitRegister, O: WordPaths<T>>(
+    left: BitSlice<'_, T, O>,
+    right: BitSlice<'_, T, O>,
+) -> bool
+    ensures { IsTrue result ↔ (view_bits (read_by T.BitRegister O.position) left.entry
+        ≡ view_bits (read_by T.BitRegister O.position) right.entry) }
+{
+    let (words, head, len) = left.parts();
+    let (others, other_head, other_len) = right.parts();
+    len == other_len
+        && equal_path::<T, O>(words, head as usize, others, other_head as usize, len)
+}
+
+// Whether as many bits of two slices from a place on are the same, by their word path.
+fn equal_path<T: BitRegister, O: WordPaths<T>>(
+    words: &[T],
+    place: usize,
+    others: &[T],
+    other_place: usize,
+    len: usize,
+) -> bool
+    requires within { place + len ≤ length words.now * T.BITS }
+    requires ends { place + len < 2 ^ 64 }
+    requires other_within { other_place + len ≤ length others.now * T.BITS }
+    requires other_ends { other_place + len < 2 ^ 64 }
+    ensures { IsTrue result ↔ (piece (memory (read_by T.BitRegister O.position) words.now) place len
+        ≡ piece (memory (read_by T.BitRegister O.position) others.now) other_place len) }
+{
+    O::equal(words, place, others, other_place, len, &mut Steps::new())
 }
 
 // How the lists of two windows compare.

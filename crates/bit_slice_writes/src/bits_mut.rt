@@ -301,6 +301,31 @@ pub trait BitsMut: Bits {
         });
     }
 
+    /// Another name of `clone_from_bitslice`.
+    final fn clone_from_slice<V: Bits>(&mut self, other: &V)
+        requires { length (V.bits other.now) ≡ length (Self.bits self.old) }
+        ensures bits { Self.bits self.new ≡ V.bits other.now }
+        ensures len { length (Self.bits self.new) ≡ length (Self.bits self.old) }
+        ensures frame { frame self.new ≡ frame self.old }
+    {
+        self.clone_from_bitslice(other);
+    }
+
+    /// Another name of `copy_from_bitslice`.
+    final fn copy_from_slice<V: Bits<Store = Self::Store, Order = Self::Order>>(
+        &mut self,
+        other: &V,
+    )
+    where
+        Self::Order: WordPaths<Self::Store>,
+        requires { length (V.bits other.now) ≡ length (Self.bits self.old) }
+        ensures bits { Self.bits self.new ≡ V.bits other.now }
+        ensures len { length (Self.bits self.new) ≡ length (Self.bits self.old) }
+        ensures frame { frame self.new ≡ frame self.old }
+    {
+        self.copy_from_bitslice(other);
+    }
+
     /// Copies the `len` bits from `from` on to the places from `to` on, overlap allowed, and answers how many words it
     /// wrote.
     #[tactic(auto, using(crate::proofs::FrameLemmas::frames))]

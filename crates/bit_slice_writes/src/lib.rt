@@ -3,6 +3,8 @@
 
 mod bits_mut;
 mod combine;
+mod compare;
+mod make;
 mod operators;
 mod pair;
 mod paths;
@@ -11,5 +13,6 @@ mod view_mut;
 mod windows;
 
 pub use bits_mut::BitsMut;
+pub use make::from_mut;
 pub use pair::Pair;
 pub use view_mut::BitSliceMut;

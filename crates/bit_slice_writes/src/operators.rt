@@ -10,10 +10,10 @@ ghost use Rattle.bit_slice_writes.specs.ViewMut.{lent_bits, lent_frame};
 use crate::bits_mut::BitsMut;
 use crate::paths::{and_path, or_path, xor_path};
 use crate::view_mut::BitSliceMut;
-use bit_addressing::BitRegister;
+use bit_addressing::{BitOrder, BitRegister};
 use bit_slice_paths::WordPaths;
 use bit_slice_views::{BitSlice, Bits};
-use std::ops::{BitAndAssign, BitOrAssign, BitXorAssign};
+use std::ops::{BitAndAssign, BitOrAssign, BitXorAssign, Not};
 
 /// Each bit becomes what it and the other's bit are both; those past the other's end are cleared.
 impl<'a, 'b, T: BitRegister, O: WordPaths<T>> BitAndAssign<BitSlice<'b, T, O>>
@@ -109,4 +109,21 @@ where
     view.write(|words| {
         xor_path::<V::Store, V::Order>(words, place, len, others, head as usize, other_len)
     });
+}
+
+/// The same window, each bit flipped.
+impl<'a, T: BitRegister, O: BitOrder<T>> Not for BitSliceMut<'a, T, O> {
+    type Output = BitSliceMut<'a, T, O>;
+
+    ghost not_gives = { λ before after.
+        (lent_bits (read_by T.BitRegister O.position) after
+        ≡ map not (lent_bits (read_by T.BitRegister O.position) before))
+        × (lent_frame (read_by T.BitRegister O.position) after
+        ≡ lent_frame (read_by T.BitRegister O.position) before) };
+
+    fn not(self) -> BitSliceMut<'a, T, O> {
+        let mut view = self;
+        view.invert();
+        view
+    }
 }

@@ -60,6 +60,21 @@ pub trait BitsCopy: BitsMut {
             self.set(i, bit);
         }
     }
+
+    /// Another name of `swap_with_bitslice`.
+    final fn swap_with_slice<W: BitsMut>(&mut self, other: &mut W)
+        requires { length (W.bits other.old) ≡ length (Self.bits self.old) }
+        ensures bits { Self.bits self.new ≡ W.bits other.old }
+        ensures len { length (Self.bits self.new) ≡ length (Self.bits self.old) }
+        ensures frame { Self.frame self.new ≡ Self.frame self.old }
+
+        // And the other window's.
+        ensures other_bits { W.bits other.new ≡ Self.bits self.old }
+        ensures other_len { length (W.bits other.new) ≡ length (W.bits other.old) }
+        ensures other_frame { W.frame other.new ≡ W.frame other.old }
+    {
+        self.swap_with_bitslice(other);
+    }
 }
 
 impl<V: BitsMut> BitsCopy for V {}

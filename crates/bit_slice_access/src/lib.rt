@@ -8,6 +8,7 @@ mod copies;
 mod fills;
 mod index_mut;
 mod part;
+mod parts;
 
 pub use access::BitsAccess;
 pub use bit_mut::BitMut;
@@ -19,3 +20,4 @@ pub use copies::BitsCopy;
 pub use fills::BitsFill;
 pub use index_mut::{BitRangeMut, BitSliceIndexMut};
 pub use part::Part;
+pub use parts::BitsParts;

@@ -1,6 +1,6 @@
-//! Writable windows compared as lists of bits, and their texts: as those of shared windows.
+//! Writable windows compared as lists of bits, their bits by index, and their texts: as those of shared windows.
 
-ghost use Rattle.std.specs.Prelude.{◌≡◌, Some, true, false};
+ghost use Rattle.std.specs.Prelude.{◌≡◌, ◌<◌, Some, true, false, length, slice_index_or};
 ghost use Rattle.std.specs.Fmt.{WritesOnOk};
 ghost use Rattle.std.specs.Ordering.{as_partial_cmp};
 ghost use Rattle.bit_addressing.specs.Memory.{read_by, reading_in};
@@ -16,6 +16,7 @@ use bit_slice_views::{Bits, write_bits, write_groups};
 use std::cmp::Ordering;
 use std::fmt;
 use std::hash::{Hash, Hasher};
+use std::ops::Index;
 
 /// Windows of one type are equal where their lists are: by the word path of their order.
 impl<T: BitRegister, O: WordPaths<T>> PartialEq for BitSliceMut<'_, T, O> {
@@ -67,6 +68,19 @@ impl<T: BitRegister, O: WordPaths<T>> Hash for BitSliceMut<'_, T, O> {
 
     fn hash<H: Hasher>(&self, state: &mut H) {
         self.hash_bits(state);
+    }
+}
+
+impl<T: BitRegister, O: BitOrder<T>> Index<usize> for BitSliceMut<'_, T, O> {
+    type Output = bool;
+
+    ghost can_index = { λ view i. i < length (lent_bits (read_by T.BitRegister O.position) view) };
+
+    ghost index_gives = { λ view i bit.
+        bit ≡ slice_index_or (lent_bits (read_by T.BitRegister O.position) view) i false };
+
+    fn index(&self, i: usize) -> &bool {
+        if self.bit(i) { &true } else { &false }
     }
 }
 

@@ -1,0 +1,155 @@
+//! Bits and parts of what shows bits, by their indices, to read.
+
+ghost use Rattle.std.specs.Prelude.{◌≡◌, ◌+◌, ◌-◌, ◌<◌, ◌≤◌, ◌↔◌, IfSome, IsSome, false, length};
+ghost use Rattle.std.specs.Prelude.{drop, slice_index_or, take};
+ghost use Rattle.bit_addressing.specs.Memory.{piece, read_by};
+ghost use Rattle.bit_addressing_span.specs.Domain.{domain_bits, IsCut};
+ghost use Rattle.bit_slice_views.specs.BitRef.{bit_value};
+ghost use Rattle.bit_slice_views.specs.Parts.{parts_bits, IsBitCut};
+ghost use Rattle.bit_slice_views.specs.View.{view_bits};
+
+use bit_addressing::{BitOrder, BitRegister, Domain};
+use bit_slice_views::{BitDomain, BitRef, BitSlice, BitSliceIndex, Bits};
+
+/// The parts of a list of bits, as shared windows: of every `Bits`. A shared window has calls of the same names whose
+/// answers live as long as its words; here they live as long as the borrow.
+pub trait BitsParts: Bits {
+    // ---- by an index or a range
+
+    /// The bit at an index or the part of a range, or `None` where it does not lie in the list.
+    final fn get<'s, I: BitSliceIndex<'s, Self::Store, Self::Order>>(
+        &'s self,
+        index: I,
+    ) -> Option<I::Immut>
+        ensures variant { IsSome result ↔ I.within index (length (Self.bits self.now)) }
+        ensures value { IfSome result (I.shows index (Self.bits self.now)) }
+    {
+        self.as_bitslice().get(index)
+    }
+
+    /// The bit at an index or the part of a range, which lies in the list.
+    final fn index<'s, I: BitSliceIndex<'s, Self::Store, Self::Order>>(&'s self, index: I) -> I::Immut
+        requires { I.within index (length (Self.bits self.now)) }
+        ensures { I.shows index (Self.bits self.now) result }
+    {
+        self.as_bitslice().index(index)
+    }
+
+    /// What `index` does.
+    final fn get_unchecked<'s, I: BitSliceIndex<'s, Self::Store, Self::Order>>(
+        &'s self,
+        index: I,
+    ) -> I::Immut
+        requires { I.within index (length (Self.bits self.now)) }
+        ensures { I.shows index (Self.bits self.now) result }
+    {
+        self.as_bitslice().get_unchecked(index)
+    }
+
+    // ---- cut
+
+    /// `count` bits, from bit `from` on.
+    final fn part(&self, from: usize, count: usize) -> BitSlice<'_, Self::Store, Self::Order>
+        requires { from + count ≤ length (Self.bits self.now) }
+        ensures { view_bits (read_by Self.Store.BitRegister Self.Order.position) result
+            ≡ piece (Self.bits self.now) from count }
+    {
+        self.as_bitslice().part(from, count)
+    }
+
+    /// The first `i` bits, and the others.
+    final fn split_at(
+        &self,
+        i: usize,
+    ) -> (
+        BitSlice<'_, Self::Store, Self::Order>,
+        BitSlice<'_, Self::Store, Self::Order>,
+    )
+        requires { i ≤ length (Self.bits self.now) }
+        ensures left { view_bits (read_by Self.Store.BitRegister Self.Order.position) result.0
+            ≡ take i (Self.bits self.now) }
+        ensures right { view_bits (read_by Self.Store.BitRegister Self.Order.position) result.1
+            ≡ drop i (Self.bits self.now) }
+    {
+        self.as_bitslice().split_at(i)
+    }
+
+    /// What `split_at` does.
+    final fn split_at_unchecked(
+        &self,
+        i: usize,
+    ) -> (
+        BitSlice<'_, Self::Store, Self::Order>,
+        BitSlice<'_, Self::Store, Self::Order>,
+    )
+        requires { i ≤ length (Self.bits self.now) }
+        ensures left { view_bits (read_by Self.Store.BitRegister Self.Order.position) result.0
+            ≡ take i (Self.bits self.now) }
+        ensures right { view_bits (read_by Self.Store.BitRegister Self.Order.position) result.1
+            ≡ drop i (Self.bits self.now) }
+    {
+        self.as_bitslice().split_at_unchecked(i)
+    }
+
+    /// The first bit and those behind it, or `None` of no bits.
+    final fn split_first(&self) -> Option<(BitRef, BitSlice<'_, Self::Store, Self::Order>)>
+        ensures variant { IsSome result ↔ (0 < length (Self.bits self.now)) }
+        ensures bit { IfSome result (λ parts. bit_value parts.0 ≡ slice_index_or (Self.bits self.now) 0 false) }
+        ensures rest { IfSome result (λ parts. view_bits (read_by Self.Store.BitRegister Self.Order.position) parts.1
+            ≡ drop 1 (Self.bits self.now)) }
+    {
+        self.as_bitslice().split_first()
+    }
+
+    /// The last bit and those before it, or `None` of no bits.
+    final fn split_last(&self) -> Option<(BitRef, BitSlice<'_, Self::Store, Self::Order>)>
+        ensures variant { IsSome result ↔ (0 < length (Self.bits self.now)) }
+        ensures bit { IfSome result (λ parts. bit_value parts.0
+            ≡ slice_index_or (Self.bits self.now) (length (Self.bits self.now) - 1) false) }
+        ensures rest { IfSome result (λ parts. view_bits (read_by Self.Store.BitRegister Self.Order.position) parts.1
+            ≡ take (length (Self.bits self.now) - 1) (Self.bits self.now)) }
+    {
+        self.as_bitslice().split_last()
+    }
+
+    /// The bits behind a list with which they begin, or `None` where they begin with another.
+    final fn strip_prefix<V: Bits>(&self, prefix: &V) -> Option<BitSlice<'_, Self::Store, Self::Order>>
+        ensures variant { IsSome result
+            ↔ (take (length (V.bits prefix.now)) (Self.bits self.now) ≡ V.bits prefix.now) }
+        ensures rest { IfSome result (λ rest. view_bits (read_by Self.Store.BitRegister Self.Order.position) rest
+            ≡ drop (length (V.bits prefix.now)) (Self.bits self.now)) }
+    {
+        self.as_bitslice().strip_prefix(prefix)
+    }
+
+    /// The bits before a list with which they end, or `None` where they end with another.
+    final fn strip_suffix<V: Bits>(&self, suffix: &V) -> Option<BitSlice<'_, Self::Store, Self::Order>>
+        ensures variant { IsSome result
+            ↔ (drop (length (Self.bits self.now) - length (V.bits suffix.now)) (Self.bits self.now)
+            ≡ V.bits suffix.now) }
+        ensures rest { IfSome result (λ rest. view_bits (read_by Self.Store.BitRegister Self.Order.position) rest
+            ≡ take (length (Self.bits self.now) - length (V.bits suffix.now)) (Self.bits self.now)) }
+    {
+        self.as_bitslice().strip_suffix(suffix)
+    }
+
+    // ---- by words
+
+    /// The words that the bits stand in, cut at their borders: each bit once, in order, and no other.
+    final fn domain(&self) -> Domain<'_, Self::Store, Self::Order>
+        ensures bits { domain_bits (read_by Self.Store.BitRegister Self.Order.position) result ≡ Self.bits self.now }
+        ensures cut { IsCut Self.Store.BITS result }
+    {
+        self.as_bitslice().domain()
+    }
+
+    /// The same cut as windows.
+    final fn bit_domain(&self) -> BitDomain<'_, Self::Store, Self::Order>
+        ensures bits { parts_bits (read_by Self.Store.BitRegister Self.Order.position) result ≡ Self.bits self.now }
+        ensures cut { IsBitCut (read_by Self.Store.BitRegister Self.Order.position) result }
+    {
+        self.as_bitslice().bit_domain()
+    }
+}
+
+impl<V: Bits> BitsParts for V {}

@@ -1,0 +1,4 @@
+pub mod Halves
+pub mod Domain
+pub mod Cut
+pub mod Lending

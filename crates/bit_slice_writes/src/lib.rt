@@ -14,5 +14,6 @@ mod windows;
 
 pub use bits_mut::BitsMut;
 pub use make::from_mut;
+pub use operators::{and_view, or_view, xor_view};
 pub use pair::Pair;
 pub use view_mut::BitSliceMut;

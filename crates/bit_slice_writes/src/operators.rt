@@ -30,13 +30,14 @@ impl<'a, 'b, T: BitRegister, O: WordPaths<T>> BitAndAssign<BitSlice<'b, T, O>>
     }
 }
 
-// The same, a clause for each part.
+/// What `&=` does, of any window and a right side of its words and order.
 #[tactic(auto, using(crate::proofs::FrameLemmas::frames))]
-fn and_view<V: BitsMut>(view: &mut V, other: BitSlice<'_, V::Store, V::Order>)
+pub fn and_view<V: BitsMut>(view: &mut V, other: BitSlice<'_, V::Store, V::Order>)
 where
     V::Order: WordPaths<V::Store>,
     ensures bits { V.bits view.new ≡ combined (λ a b. a && b) (V.bits view.old)
         (view_bits (read_by V.Store.BitRegister V.Order.position) other.entry) }
+    ensures len { length (V.bits view.new) ≡ length (V.bits view.old) }
     ensures frame { V.frame view.new ≡ V.frame view.old }
 {
     let place = view.first_place();
@@ -62,13 +63,14 @@ impl<'a, 'b, T: BitRegister, O: WordPaths<T>> BitOrAssign<BitSlice<'b, T, O>>
     }
 }
 
-// The same, a clause for each part.
+/// What `|=` does, of any window and a right side of its words and order.
 #[tactic(auto, using(crate::proofs::FrameLemmas::frames))]
-fn or_view<V: BitsMut>(view: &mut V, other: BitSlice<'_, V::Store, V::Order>)
+pub fn or_view<V: BitsMut>(view: &mut V, other: BitSlice<'_, V::Store, V::Order>)
 where
     V::Order: WordPaths<V::Store>,
     ensures bits { V.bits view.new ≡ combined (λ a b. a || b) (V.bits view.old)
         (view_bits (read_by V.Store.BitRegister V.Order.position) other.entry) }
+    ensures len { length (V.bits view.new) ≡ length (V.bits view.old) }
     ensures frame { V.frame view.new ≡ V.frame view.old }
 {
     let place = view.first_place();
@@ -94,13 +96,14 @@ impl<'a, 'b, T: BitRegister, O: WordPaths<T>> BitXorAssign<BitSlice<'b, T, O>>
     }
 }
 
-// The same, a clause for each part.
+/// What `^=` does, of any window and a right side of its words and order.
 #[tactic(auto, using(crate::proofs::FrameLemmas::frames))]
-fn xor_view<V: BitsMut>(view: &mut V, other: BitSlice<'_, V::Store, V::Order>)
+pub fn xor_view<V: BitsMut>(view: &mut V, other: BitSlice<'_, V::Store, V::Order>)
 where
     V::Order: WordPaths<V::Store>,
     ensures bits { V.bits view.new ≡ combined xor (V.bits view.old)
         (view_bits (read_by V.Store.BitRegister V.Order.position) other.entry) }
+    ensures len { length (V.bits view.new) ≡ length (V.bits view.old) }
     ensures frame { V.frame view.new ≡ V.frame view.old }
 {
     let place = view.first_place();

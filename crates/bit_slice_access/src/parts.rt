@@ -28,7 +28,10 @@ pub trait BitsParts: Bits {
     }
 
     /// The bit at an index or the part of a range, which lies in the list.
-    final fn index<'s, I: BitSliceIndex<'s, Self::Store, Self::Order>>(&'s self, index: I) -> I::Immut
+    final fn index<'s, I: BitSliceIndex<'s, Self::Store, Self::Order>>(
+        &'s self,
+        index: I,
+    ) -> I::Immut
         requires { I.within index (length (Self.bits self.now)) }
         ensures { I.shows index (Self.bits self.now) result }
     {
@@ -113,7 +116,10 @@ pub trait BitsParts: Bits {
     }
 
     /// The bits behind a list with which they begin, or `None` where they begin with another.
-    final fn strip_prefix<V: Bits>(&self, prefix: &V) -> Option<BitSlice<'_, Self::Store, Self::Order>>
+    final fn strip_prefix<V: Bits>(
+        &self,
+        prefix: &V,
+    ) -> Option<BitSlice<'_, Self::Store, Self::Order>>
         ensures variant { IsSome result
             ↔ (take (length (V.bits prefix.now)) (Self.bits self.now) ≡ V.bits prefix.now) }
         ensures rest { IfSome result (λ rest. view_bits (read_by Self.Store.BitRegister Self.Order.position) rest
@@ -123,7 +129,10 @@ pub trait BitsParts: Bits {
     }
 
     /// The bits before a list with which they end, or `None` where they end with another.
-    final fn strip_suffix<V: Bits>(&self, suffix: &V) -> Option<BitSlice<'_, Self::Store, Self::Order>>
+    final fn strip_suffix<V: Bits>(
+        &self,
+        suffix: &V,
+    ) -> Option<BitSlice<'_, Self::Store, Self::Order>>
         ensures variant { IsSome result
             ↔ (drop (length (Self.bits self.now) - length (V.bits suffix.now)) (Self.bits self.now)
             ≡ V.bits suffix.now) }

@@ -42,10 +42,7 @@ where
 
 // Carries one command out, or refuses it.
 #[tactic(auto, unfolding(crate::specs::Commands::list_after, crate::specs::Commands::reply_to))]
-fn run_one<V: BitsMut>(
-    view: &mut V,
-    command: &WindowCommand<'_, V::Store, V::Order>,
-) -> WindowReply
+fn run_one<V: BitsMut>(view: &mut V, command: &WindowCommand<'_, V::Store, V::Order>) -> WindowReply
 where
     V::Order: WordPaths<V::Store>,
     ensures list { V.bits view.new

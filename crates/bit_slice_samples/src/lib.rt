@@ -2,4 +2,5 @@
 #![tactic(auto)]
 
 pub mod callers;
+pub mod store_callers;
 pub mod word_callers;

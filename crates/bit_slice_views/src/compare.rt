@@ -128,8 +128,7 @@ fn equal_by_path<T: BitRegister, O: WordPaths<T>>(
 {
     let (words, head, len) = left.parts();
     let (others, other_head, other_len) = right.parts();
-    len == other_len
-        && equal_path::<T, O>(words, head as usize, others, other_head as usize, len)
+    len == other_len && equal_path::<T, O>(words, head as usize, others, other_head as usize, len)
 }
 
 // Whether as many bits of two slices from a place on are the same, by their word path.

@@ -8,15 +8,14 @@ mod compare;
 mod index;
 mod make;
 mod range;
-mod store;
 mod text;
 mod view;
 
 pub use bit_domain::{BitDomain, into_bit_domain};
+pub use bit_slice_stores::BitStore;
 pub use bits::Bits;
 pub use index::{BitRef, BitSliceIndex};
 pub use make::{ViewLimits, from_ref};
 pub use range::BitRange;
-pub use store::BitStore;
 pub use text::{write_bits, write_groups};
 pub use view::BitSlice;

@@ -6,9 +6,9 @@ ghost use Rattle.bit_addressing_span.specs.declared.span.TheConstants.{MAX_BITS}
 ghost use Rattle.bit_addressing_span.specs.declared.span_error.BitSpanError.TheVariants.{TooLong};
 ghost use Rattle.bit_slice_views.specs.View.{view_bits, view_words, view_head};
 
-use crate::store::BitStore;
 use crate::view::BitSlice;
 use bit_addressing::{BitOrder, BitRegister, BitSpanError, MAX_BITS};
+use bit_slice_stores::BitStore;
 
 /// How long a window can be, at these words. A contract knows these constants.
 pub trait ViewLimits: BitRegister {

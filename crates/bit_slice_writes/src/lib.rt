@@ -1,6 +1,7 @@
 //! Windows of bits to write.
 #![tactic(auto)]
 
+mod bit_view;
 mod bits_mut;
 mod combine;
 mod compare;
@@ -12,6 +13,7 @@ mod sweeps;
 mod view_mut;
 mod windows;
 
+pub use bit_view::BitView;
 pub use bits_mut::BitsMut;
 pub use make::from_mut;
 pub use operators::{and_view, or_view, xor_view};

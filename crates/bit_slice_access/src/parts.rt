@@ -1,6 +1,6 @@
 //! Bits and parts of what shows bits, by their indices, to read.
 
-ghost use Rattle.std.specs.Prelude.{◌≡◌, ◌+◌, ◌-◌, ◌<◌, ◌≤◌, ◌↔◌, IfSome, IsSome, false, length};
+ghost use Rattle.std.specs.Prelude.{◌≡◌, ℕ, ◌+◌, ◌-◌, ◌<◌, ◌≤◌, ◌↔◌, IfSome, IsSome, false, length};
 ghost use Rattle.std.specs.Prelude.{drop, slice_index_or, take};
 ghost use Rattle.bit_addressing.specs.Memory.{piece, read_by};
 ghost use Rattle.bit_addressing_span.specs.Domain.{domain_bits, IsCut};
@@ -22,7 +22,7 @@ pub trait BitsParts: Bits {
         index: I,
     ) -> Option<I::Immut>
         ensures variant { IsSome result ↔ I.within index (length (Self.bits self.now)) }
-        ensures value { IfSome result (I.shows index (Self.bits self.now)) }
+        ensures value { IfSome result (λ shown. (head : ℕ) × I.shows index head (Self.bits self.now) shown) }
     {
         self.as_bitslice().get(index)
     }
@@ -33,7 +33,7 @@ pub trait BitsParts: Bits {
         index: I,
     ) -> I::Immut
         requires { I.within index (length (Self.bits self.now)) }
-        ensures { I.shows index (Self.bits self.now) result }
+        ensures { (head : ℕ) × I.shows index head (Self.bits self.now) result }
     {
         self.as_bitslice().index(index)
     }
@@ -44,7 +44,7 @@ pub trait BitsParts: Bits {
         index: I,
     ) -> I::Immut
         requires { I.within index (length (Self.bits self.now)) }
-        ensures { I.shows index (Self.bits self.now) result }
+        ensures { (head : ℕ) × I.shows index head (Self.bits self.now) result }
     {
         self.as_bitslice().get_unchecked(index)
     }

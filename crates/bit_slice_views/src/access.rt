@@ -3,7 +3,7 @@
 ghost use Rattle.std.specs.Prelude.{◌≡◌, ◌-◌, ◌<◌, ◌≤◌, ◌↔◌, false, length, take, drop, slice_index_or, IfSome, IsSome};
 ghost use Rattle.bit_addressing.specs.Memory.{read_by};
 ghost use Rattle.bit_slice_views.specs.BitRef.{bit_value};
-ghost use Rattle.bit_slice_views.specs.View.{view_bits};
+ghost use Rattle.bit_slice_views.specs.View.{view_bits, view_head};
 
 use crate::bits::Bits;
 use crate::index::{BitRef, BitSliceIndex};
@@ -17,7 +17,8 @@ impl<'a, T: BitRegister, O: BitOrder<T>> BitSlice<'a, T, O> {
     pub fn get<I: BitSliceIndex<'a, T, O>>(self, index: I) -> Option<I::Immut>
         ensures variant { IsSome result
             ↔ I.within index (length (view_bits (read_by T.BitRegister O.position) self.entry)) }
-        ensures value { IfSome result (I.shows index (view_bits (read_by T.BitRegister O.position) self.entry)) }
+        ensures value { IfSome result
+            (I.shows index (view_head self.entry) (view_bits (read_by T.BitRegister O.position) self.entry)) }
     {
         index.get_in(self)
     }
@@ -25,7 +26,8 @@ impl<'a, T: BitRegister, O: BitOrder<T>> BitSlice<'a, T, O> {
     /// The bit at an index or the part of a range, which lies in the window.
     pub fn index<I: BitSliceIndex<'a, T, O>>(self, index: I) -> I::Immut
         requires { I.within index (length (view_bits (read_by T.BitRegister O.position) self)) }
-        ensures { I.shows index (view_bits (read_by T.BitRegister O.position) self.entry) result }
+        ensures { I.shows index (view_head self.entry) (view_bits (read_by T.BitRegister O.position) self.entry)
+            result }
     {
         index.index_in(self)
     }
@@ -33,7 +35,8 @@ impl<'a, T: BitRegister, O: BitOrder<T>> BitSlice<'a, T, O> {
     /// What `index` does.
     pub fn get_unchecked<I: BitSliceIndex<'a, T, O>>(self, index: I) -> I::Immut
         requires { I.within index (length (view_bits (read_by T.BitRegister O.position) self)) }
-        ensures { I.shows index (view_bits (read_by T.BitRegister O.position) self.entry) result }
+        ensures { I.shows index (view_head self.entry) (view_bits (read_by T.BitRegister O.position) self.entry)
+            result }
     {
         self.index(index)
     }

@@ -1,11 +1,11 @@
 //! What an index shows of a window: one bit, or a part.
 
-ghost use Rattle.std.specs.Prelude.{◌≡◌, ℕ, ◌+◌, ◌-◌, ◌*◌, ◌<◌, ◌≤◌, Bool, List, false, length, slice_index_or};
+ghost use Rattle.std.specs.Prelude.{◌≡◌, ℕ, ◌+◌, ◌-◌, ◌*◌, ◌%◌, ◌<◌, ◌≤◌, Bool, List, false, length, slice_index_or};
 ghost use Rattle.std.specs.Prelude.{IfSome, IsSome, ◌↔◌, IsTrue};
 ghost use Rattle.bit_addressing.specs.Memory.{memory, piece, read_by};
 ghost use Rattle.bit_addressing_span.specs.declared.span.TheConstants.{MAX_BITS};
 ghost use Rattle.bit_slice_views.specs.BitRef.{bit_value};
-ghost use Rattle.bit_slice_views.specs.View.{view_bits};
+ghost use Rattle.bit_slice_views.specs.View.{view_bits, view_head};
 
 use crate::bits::Bits;
 use crate::range::BitRange;
@@ -46,8 +46,8 @@ pub trait BitSliceIndex<'a, T: BitRegister, O: BitOrder<T>>: Sized + Drop {
     // Whether it lies in a list of so many bits.
     ghost within: { Self → ℕ → Type 0 };
 
-    // What it shows of a list.
-    ghost shows: { Self → List Bool → Self.Immut → Type 0 };
+    // What it shows of a list whose first bit lies at an index of its word.
+    ghost shows: { Self → ℕ → List Bool → Self.Immut → Type 0 };
 
     /// Whether it lies in a list of so many bits.
     fn is_within(&self, len: usize) -> bool
@@ -59,13 +59,14 @@ pub trait BitSliceIndex<'a, T: BitRegister, O: BitOrder<T>>: Sized + Drop {
         requires short { len ≤ MAX_BITS }
         requires fits { head + len ≤ length words.now * T.BITS }
         requires inside { within self len }
-        ensures { shows self (piece (memory (read_by T.BitRegister O.position) words.now) head len) result };
+        ensures { shows self head (piece (memory (read_by T.BitRegister O.position) words.now) head len) result };
 
     /// What it shows of a window, or `None` where it does not lie in it.
     final fn get_in(self, view: BitSlice<'a, T, O>) -> Option<Self::Immut>
         ensures variant { IsSome result
             ↔ within self (length (view_bits (read_by T.BitRegister O.position) view.entry)) }
-        ensures value { IfSome result (shows self (view_bits (read_by T.BitRegister O.position) view.entry)) }
+        ensures value { IfSome result
+            (shows self (view_head view.entry) (view_bits (read_by T.BitRegister O.position) view.entry)) }
     {
         if self.is_within(view.len()) {
             Some(self.index_in(view))
@@ -77,7 +78,7 @@ pub trait BitSliceIndex<'a, T: BitRegister, O: BitOrder<T>>: Sized + Drop {
     /// What it shows of a window in which it lies.
     final fn index_in(self, view: BitSlice<'a, T, O>) -> Self::Immut
         requires { within self (length (view_bits (read_by T.BitRegister O.position) view)) }
-        ensures { shows self (view_bits (read_by T.BitRegister O.position) view.entry) result }
+        ensures { shows self (view_head view.entry) (view_bits (read_by T.BitRegister O.position) view.entry) result }
     {
         let (words, head, len) = view.parts();
         self.show(words, head, len)
@@ -90,7 +91,7 @@ impl<'a, T: BitRegister, O: BitOrder<T>> BitSliceIndex<'a, T, O> for usize {
 
     ghost within = { λ i n. i < n };
 
-    ghost shows = { λ i bits bit. bit_value bit ≡ slice_index_or bits i false };
+    ghost shows = { λ i _ bits bit. bit_value bit ≡ slice_index_or bits i false };
 
     fn is_within(&self, len: usize) -> bool {
         *self < len
@@ -107,8 +108,9 @@ impl<'a, T: BitRegister + 'a, O: BitOrder<T>, I: BitRange + Drop> BitSliceIndex<
 
     ghost within = { λ range n. (I.start range ≤ I.end range n) × (I.end range n ≤ n) };
 
-    ghost shows = { λ range bits part. view_bits (read_by T.BitRegister O.position) part
-        ≡ piece bits (I.start range) (I.end range (length bits) - I.start range) };
+    ghost shows = { λ range head bits part. (view_bits (read_by T.BitRegister O.position) part
+        ≡ piece bits (I.start range) (I.end range (length bits) - I.start range))
+        × (view_head part ≡ (head + I.start range) % T.BITS) };
 
     fn is_within(&self, len: usize) -> bool {
         self.ends_in(len).is_some()

@@ -96,6 +96,7 @@ impl<'a, T: BitRegister, O: BitOrder<T>> BitSlice<'a, T, O> {
         ensures bits { view_bits (read_by T.BitRegister O.position) result
             ≡ piece (memory (read_by T.BitRegister O.position) words.now) place len }
         ensures len { length (view_bits (read_by T.BitRegister O.position) result) ≡ len }
+        ensures head { view_head result ≡ place % T.BITS }
     {
         let bits = mem::bits_of::<T>();
         BitSlice {
@@ -137,6 +138,7 @@ impl<'a, T: BitRegister, O: BitOrder<T>> BitSlice<'a, T, O> {
         ensures bits { view_bits (read_by T.BitRegister O.position) result
             ≡ piece (view_bits (read_by T.BitRegister O.position) self.entry) from count }
         ensures len { length (view_bits (read_by T.BitRegister O.position) result) ≡ count }
+        ensures head { view_head result ≡ (view_head self.entry + from) % T.BITS }
     {
         BitSlice::from_place(self.words, self.head as usize + from, count)
     }
@@ -148,6 +150,8 @@ impl<'a, T: BitRegister, O: BitOrder<T>> BitSlice<'a, T, O> {
             ≡ take i (view_bits (read_by T.BitRegister O.position) self.entry) }
         ensures right { view_bits (read_by T.BitRegister O.position) result.1
             ≡ drop i (view_bits (read_by T.BitRegister O.position) self.entry) }
+        ensures left_head { view_head result.0 ≡ view_head self.entry }
+        ensures right_head { view_head result.1 ≡ (view_head self.entry + i) % T.BITS }
     {
         (self.part(0, i), self.part(i, self.len - i))
     }

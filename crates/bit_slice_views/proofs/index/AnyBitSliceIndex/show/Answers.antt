@@ -7,4 +7,4 @@ returns-in-Some g c =
     let reading = read_by g.T.BitRegister g.O.Positions.position in
     let size = length-window reading c.args.words.now c.args.head c.args.len c.requires.fits in
     let v = c.in-Some.ensures.value in
-    cc (c.part.ensures.bits, c.from_parts-view.ensures.bits)
+    (cc (c.part.ensures.bits, c.from_parts-view.ensures.bits), cc (c.part.ensures.head, c.from_parts-view.ensures.head))

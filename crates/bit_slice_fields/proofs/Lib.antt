@@ -1,0 +1,4 @@
+pub mod WeightLemmas
+pub mod WholeLemmas
+pub mod DigitsLemmas
+pub mod CallerLemmas

@@ -2,7 +2,7 @@
 --
 -- What a window tells of its number: `held_number` (a load after a store), `straight_up`, `straight_down` (the pairs
 -- that lie in window order).
-use Rattle.std.proofs.Common.{◌≡◌, ℕ, ◌-◌, ◌<◌, Bool, true, false, List, sym, ◌∙◌}
+use Rattle.std.proofs.Common.{◌≡◌, ℕ, ◌<◌, Bool, List, sym, ◌∙◌}
 use Rattle.std.specs.Prelude.{ℤ}
 use Rattle.bit_slice_fields.specs.Number.{field_bits}
 use Rattle.bit_slice_fields.specs.Whole.{FitsIn, wrapped}

@@ -2,11 +2,10 @@
 --
 -- Gathered bit by bit: `gathered_none`, `gathered_more`, `gathered_all`. What the gathered number is: `held_bits`.
 -- What the digits that were written are: `stored_bits`. One list of bits tells one number: `same_digits`.
-use Rattle.std.proofs.Common.{◌≡◌, ◌≢◌, ℕ, suc, ◌+◌, ◌/◌, ◌%◌, ◌^◌, ◌<◌, ◌≤◌, Bool, true, false, List, get_or, length}
-use Rattle.std.proofs.Common.{cond, bit_or, arith, refl, sym, ap, ◌∙◌, inl, inr, subst, pow-suc, ◌==◌}
+use Rattle.std.proofs.Common.{◌≡◌, ◌≢◌, ℕ, ◌+◌, ◌/◌, ◌%◌, ◌^◌, ◌<◌, ◌≤◌, Bool, true, false, List, get_or, length}
+use Rattle.std.proofs.Common.{cond, bit_or, arith, sym, ap, ◌∙◌, inl, inr, subst, ◌==◌}
 use Rattle.std.specs.Prelude.{ℤ}
 use Rattle.std.specs.Int.{bit_at}
-use Rattle.std.proofs.Math.Nat.{mod-lt}
 use Rattle.std.proofs.Math.Pow.{pow_pos, pow-lt}
 use Rattle.std.proofs.lemmas.Bool.{cases_lt, cases_eq, eqb-true, eqb-false, eq-eqb, ne_eqb}
 use Rattle.std.proofs.lemmas.List.{ext_get_or}
@@ -78,8 +77,12 @@ gathered_one weighs bits i d low within apart bit h =
       ];
       above = λ k more lt.
           let other : weighs k ≢ weighs i = λ e. absurd (omega (arith, apart k i lt low e)) in
-          omega (arith, bit_at_or d (2 ^ weighs i) (weighs k), bit_at-pow_other (weighs i) (weighs k) other,
-          h.above k (omega arith) lt);
+          omega (
+            arith,
+            bit_at_or d (2 ^ weighs i) (weighs k),
+            bit_at-pow_other (weighs i) (weighs k) other,
+            h.above k (omega arith) lt,
+          );
       small = or_lt n d (2 ^ weighs i) h.small fits;
     }
 

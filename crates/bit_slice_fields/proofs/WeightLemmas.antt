@@ -120,12 +120,11 @@ weight_onto false true b h n p some inside =
 weight_onto true false b h n p some inside =
     let q : ℕ = n - 1 - p in
     let low : q < n = omega arith in
-    let there = mirror_within b h n q some low in
-    (
+    let there = mirror_within b h n q some low in (
       mirror b h n q,
       there,
       weight_mirrored b h n (mirror b h n q) some there
-      ∙ omega (arith, mirror_back b h n q some low),
+          ∙ omega (arith, mirror_back b h n q some low),
     )
 weight_onto false false b h n p some inside =
     let low : n - 1 - p < n = omega arith in

@@ -2,9 +2,8 @@
 --
 -- What half the numbers of so many digits is: `halves`. Fewer digits of more: `low_mod`. A number tells its digits and
 -- its digits tell it: `low_pos`, `low_neg`, `fits_wrapped`, `same_wrapped`.
-use Rattle.std.proofs.Common.{◌≡◌, ℕ, suc, ◌+◌, ◌-◌, ◌*◌, ◌%◌, ◌^◌, ◌<◌, ◌≤◌, Bool, true, false, arith, refl, pow-suc, lit<, sym, ap, ◌∙◌}
+use Rattle.std.proofs.Common.{◌≡◌, ℕ, suc, ◌+◌, ◌-◌, ◌*◌, ◌%◌, ◌^◌, ◌<◌, ◌≤◌, Bool, true, false, arith, pow-suc, lit<, sym, ap, ◌∙◌}
 use Rattle.std.specs.Prelude.{ℤ, pos, negsuc}
-use Rattle.std.specs.Int.{cast_unsigned, w128}
 use Rattle.std.proofs.Math.Nat.{mod-eq_of_lt}
 use Rattle.std.proofs.Math.Pow.{pow_mono}
 use Rattle.std.proofs.Common.{inl, inr, ◌/◌}
@@ -13,7 +12,7 @@ use Rattle.std.proofs.Math.Pow.{pow_pos}
 use Rattle.std.proofs.Math.Nat.{mul_assoc, mul_comm, mul-sub, mul-le-mul_right, suc-mul, mod-lt, mul-add-mod_self_right}
 use Rattle.std.proofs.lemmas.Nat.{pow-add, div-add-mod', mod-mul-add}
 use Rattle.std.proofs.lemmas.Bool.{lt-ltb, le-ltb}
-use Rattle.std.specs.Prelude.{if◌then◌else◌, nat_lt}
+use Rattle.std.specs.Prelude.{if◌then◌else◌}
 use Rattle.bit_slice_fields.specs.Whole.{low_digits, FitsIn, with_digits, wrapped}
 
 pub low_pos : (n d : ℕ) → d < 2 ^ n → low_digits n (pos d) ≡ d

@@ -10,5 +10,5 @@ returns-clause-bits g c =
     let shown = view_bits (read_by g.T.BitRegister g.O.Positions.position) c.args.view in
     let cut = c.args.cut in
     held_bits cut.low cut.le g.T.BitRegister.BITS cut.head c.gathered-digits.result shown
-    (g.M.Integral.whole c.from_digits.result) c.gathered-digits.ensures 
+    (g.M.Integral.whole c.from_digits.result) c.gathered-digits.ensures
     (ap (λ n. low_digits n (g.M.Integral.whole c.from_digits.result)) (sym c.len.ensures) ∙ c.from_digits.ensures.digits)

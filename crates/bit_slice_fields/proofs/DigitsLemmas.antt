@@ -1,7 +1,8 @@
 -- The digits of a number and the bits of a window.
 --
 -- Gathered bit by bit: `gathered_none`, `gathered_more`, `gathered_all`. What the gathered number is: `held_bits`.
--- What the digits that were written are: `stored_bits`. One list of bits tells one number: `same_digits`.
+-- What the digits that were written are: `stored_bits`. One list of bits tells one number: `same_digits`. A digit of a
+-- part of a number: `low_digit`; told by its truth value: `same_digit`.
 use Rattle.std.proofs.Common.{◌≡◌, ◌≢◌, ℕ, ◌+◌, ◌/◌, ◌%◌, ◌^◌, ◌<◌, ◌≤◌, Bool, true, false, List, get_or, length}
 use Rattle.std.proofs.Common.{cond, bit_or, arith, sym, ap, ◌∙◌, inl, inr, subst, ◌==◌}
 use Rattle.std.specs.Prelude.{ℤ}
@@ -116,7 +117,7 @@ held_bits low le b head d bits z is same =
 -- ---- written
 
 -- the lowest n digits of a number have its digits
-low_digit : (n p x : ℕ) → p < n → bit_at (x % 2 ^ n) p ≡ bit_at x p
+pub low_digit : (n p x : ℕ) → p < n → bit_at (x % 2 ^ n) p ≡ bit_at x p
 low_digit n p x lt =
     sym (ap (λ y. bit_at y p) (sym (div-add-mod' x (2 ^ n))) ∙ bit_at_cat_low (x / 2 ^ n) n (x % 2 ^ n) p lt)
 
@@ -139,7 +140,7 @@ stored_bits low le b head n z some few =
 
 -- ---- one list, one number
 
-same_digit : (a b : ℕ) → a < 2 → b < 2 → (a == 1) ≡ (b == 1) → a ≡ b
+pub same_digit : (a b : ℕ) → a < 2 → b < 2 → (a == 1) ≡ (b == 1) → a ≡ b
 same_digit a b small_a small_b same = elim (cases_eq a 1) [
   | inl one ↦ one ∙ sym (eqb-true b 1 (sym same ∙ eq-eqb a 1 one))
   | inr other ↦

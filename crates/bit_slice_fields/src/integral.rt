@@ -29,6 +29,8 @@ pub trait Integral: Copy {
         ensures digits { low_digits len (whole result) ≡ digits }
         ensures within { FitsIn signed len (whole result) };
 
+    ghost least_bits: { 8 ≤ BITS };
+
     ghost most_bits: { BITS ≤ 128 };
 }
 

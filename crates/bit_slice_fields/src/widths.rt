@@ -23,6 +23,8 @@ impl Integral for u8 {
         digits as u8
     }
 
+    ghost least_bits = { lit≤ tt };
+
     ghost most_bits = { lit≤ tt };
 }
 
@@ -44,6 +46,8 @@ impl Integral for u16 {
     fn from_digits(digits: u128, _len: u8) -> u16 {
         digits as u16
     }
+
+    ghost least_bits = { lit≤ tt };
 
     ghost most_bits = { lit≤ tt };
 }
@@ -67,6 +71,8 @@ impl Integral for u32 {
         digits as u32
     }
 
+    ghost least_bits = { lit≤ tt };
+
     ghost most_bits = { lit≤ tt };
 }
 
@@ -88,6 +94,8 @@ impl Integral for u64 {
     fn from_digits(digits: u128, _len: u8) -> u64 {
         digits as u64
     }
+
+    ghost least_bits = { lit≤ tt };
 
     ghost most_bits = { lit≤ tt };
 }
@@ -111,6 +119,8 @@ impl Integral for u128 {
         digits
     }
 
+    ghost least_bits = { lit≤ tt };
+
     ghost most_bits = { lit≤ tt };
 }
 
@@ -132,6 +142,8 @@ impl Integral for usize {
     fn from_digits(digits: u128, _len: u8) -> usize {
         digits as usize
     }
+
+    ghost least_bits = { lit≤ tt };
 
     ghost most_bits = { lit≤ tt };
 }
@@ -155,6 +167,8 @@ impl Integral for i8 {
         signed_number(digits, len, 8) as i8
     }
 
+    ghost least_bits = { lit≤ tt };
+
     ghost most_bits = { lit≤ tt };
 }
 
@@ -176,6 +190,8 @@ impl Integral for i16 {
     fn from_digits(digits: u128, len: u8) -> i16 {
         signed_number(digits, len, 16) as i16
     }
+
+    ghost least_bits = { lit≤ tt };
 
     ghost most_bits = { lit≤ tt };
 }
@@ -199,6 +215,8 @@ impl Integral for i32 {
         signed_number(digits, len, 32) as i32
     }
 
+    ghost least_bits = { lit≤ tt };
+
     ghost most_bits = { lit≤ tt };
 }
 
@@ -220,6 +238,8 @@ impl Integral for i64 {
     fn from_digits(digits: u128, len: u8) -> i64 {
         signed_number(digits, len, 64) as i64
     }
+
+    ghost least_bits = { lit≤ tt };
 
     ghost most_bits = { lit≤ tt };
 }
@@ -243,6 +263,8 @@ impl Integral for i128 {
         signed_number(digits, len, 128)
     }
 
+    ghost least_bits = { lit≤ tt };
+
     ghost most_bits = { lit≤ tt };
 }
 
@@ -264,6 +286,8 @@ impl Integral for isize {
     fn from_digits(digits: u128, len: u8) -> isize {
         signed_number(digits, len, 64) as isize
     }
+
+    ghost least_bits = { lit≤ tt };
 
     ghost most_bits = { lit≤ tt };
 }

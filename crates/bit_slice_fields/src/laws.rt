@@ -16,6 +16,7 @@ pub fn store_load_le<V: BitFieldMut, M: Integral>(view: &mut V, value: M) -> M
     ensures value { M.whole result ≡ wrapped M.signed (length (V.bits view.old)) (M.whole value) }
     ensures bits { V.bits view.new ≡ field_bits V.low_first true V.Store.BITS (V.head view.old)
         (length (V.bits view.old)) (M.whole value) }
+    ensures len { length (V.bits view.new) ≡ length (V.bits view.old) }
     ensures frame { V.frame view.new ≡ V.frame view.old }
 {
     view.store_le(value);
@@ -30,6 +31,7 @@ pub fn store_load_be<V: BitFieldMut, M: Integral>(view: &mut V, value: M) -> M
     ensures value { M.whole result ≡ wrapped M.signed (length (V.bits view.old)) (M.whole value) }
     ensures bits { V.bits view.new ≡ field_bits V.low_first false V.Store.BITS (V.head view.old)
         (length (V.bits view.old)) (M.whole value) }
+    ensures len { length (V.bits view.new) ≡ length (V.bits view.old) }
     ensures frame { V.frame view.new ≡ V.frame view.old }
 {
     view.store_be(value);

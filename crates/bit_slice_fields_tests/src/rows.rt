@@ -12,6 +12,9 @@ fn sixteen_bits_of_three_bytes_are_loaded(rt: HostRuntime) {
     let view = BitSlice::<u8, Lsb0>::from_place(&words, 4, 16);
     assert!(rt; view.load_le::<u16>() == 0x6341);
     assert!(rt; view.load_be::<u16>() == 0x1346);
+    let view = BitSlice::<u8, Msb0>::from_place(&words, 4, 16);
+    assert!(rt; view.load_le::<u16>() == 0x5342);
+    assert!(rt; view.load_be::<u16>() == 0x2345);
 }
 
 #[test]

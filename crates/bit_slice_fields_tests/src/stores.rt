@@ -1,13 +1,11 @@
 //! Stores against a plain list of bits, neighbours in shared words too.
 
-ghost use Rattle.std.specs.Prelude.{◌≤◌, ◌<◌, ◌≡◌, length};
+ghost use Rattle.std.specs.Prelude.{◌+◌, ◌≤◌, ◌<◌, length};
 
 use crate::plain::{Plain, beside, fill, listed, lowest, number};
 use bit_addressing::{BitRegister, Lsb0, Msb0};
 use bit_slice_access::Part;
-use bit_slice_fields::{
-    BitField, BitFieldMut, FieldOrder, store_load_be, store_load_le,
-};
+use bit_slice_fields::{BitField, BitFieldMut, FieldOrder, store_load_be, store_load_le};
 use bit_slice_views::Bits;
 use bit_slice_writes::BitSliceMut;
 
@@ -68,7 +66,10 @@ fn comes_back<R: BitRegister, O: FieldOrder<R> + Plain>(
     let before = listed::<R, O>(words);
     let (low, high) = {
         let mut view = BitSliceMut::<R, O>::from_place_mut(words, place, len);
-        (store_load_le(&mut view, value), store_load_be(&mut view, value))
+        (
+            store_load_le(&mut view, value),
+            store_load_be(&mut view, value),
+        )
     };
     let after = listed::<R, O>(words);
     low == wanted && high == wanted && beside(&before, &after, place, len)

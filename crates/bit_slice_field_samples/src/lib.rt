@@ -7,4 +7,4 @@ mod parts;
 
 pub use fields::{put, take};
 pub use header::{Header, passed, read, write};
-pub use parts::put_in_part;
+pub use parts::{network_number, put_in_part};

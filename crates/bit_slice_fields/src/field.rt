@@ -15,7 +15,7 @@ use bit_slice_views::Bits;
 /// window has 1 bit up to as many as the type has (`Integral::BITS`); into a type with a sign it is extended by its
 /// highest bit.
 ///
-/// What shows bits writes one short method.
+/// What shows bits writes two short methods.
 pub trait BitField: Bits {
     ghost low_first: { Bool };
 
@@ -33,7 +33,7 @@ pub trait BitField: Bits {
 
     ghost counts: { CountsFrom low_first Self.Store.BITS Self.Order.position };
 
-    /// The number that the bits hold, the first segment lowest: what `load_le` does.
+    /// The number that the bits hold, the first segment lowest: what `load_le` does. They are 1 up to `M::BITS` bits.
     final fn load<M: Integral>(&self) -> M
         requires some { 0 < length (Self.bits self.now) }
         requires room { length (Self.bits self.now) ≤ M.BITS }
@@ -44,7 +44,7 @@ pub trait BitField: Bits {
         self.load_le()
     }
 
-    /// The number that the bits hold, the first segment lowest.
+    /// The number that the bits hold, the first segment lowest. They are 1 up to `M::BITS` bits.
     final fn load_le<M: Integral>(&self) -> M
         requires some { 0 < length (Self.bits self.now) }
         requires room { length (Self.bits self.now) ≤ M.BITS }
@@ -60,7 +60,7 @@ pub trait BitField: Bits {
         load_window(self.as_bitslice(), cut)
     }
 
-    /// The number that the bits hold, the first segment highest.
+    /// The number that the bits hold, the first segment highest. They are 1 up to `M::BITS` bits.
     final fn load_be<M: Integral>(&self) -> M
         requires some { 0 < length (Self.bits self.now) }
         requires room { length (Self.bits self.now) ≤ M.BITS }

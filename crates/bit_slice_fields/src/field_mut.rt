@@ -12,11 +12,12 @@ use bit_slice_writes::BitsMut;
 /// A window of bits that a whole number is stored in.
 ///
 /// A store writes as many of the number's lowest digits as the window has bits, and leaves every bit beside the
-/// window. How they lie says `BitField`; so do the bounds on the length.
+/// window. How they lie says `BitField`.
 pub trait BitFieldMut: BitField + BitsMut {
     ghost headed: { (v : Self) → Self.head v ≡ Self.place v % Self.Store.BITS };
 
-    /// Stores a number, the first segment lowest: what `store_le` does.
+    /// Stores a number's lowest digits, the first segment lowest: what `store_le` does. The window has 1 up to
+    /// `M::BITS` bits.
     final fn store<M: Integral>(&mut self, value: M)
         requires some { 0 < length (Self.bits self.old) }
         requires room { length (Self.bits self.old) ≤ M.BITS }
@@ -29,7 +30,7 @@ pub trait BitFieldMut: BitField + BitsMut {
         self.store_le(value);
     }
 
-    /// Stores a number, the first segment lowest.
+    /// Stores a number's lowest digits, the first segment lowest. The window has 1 up to `M::BITS` bits.
     final fn store_le<M: Integral>(&mut self, value: M)
         requires some { 0 < length (Self.bits self.old) }
         requires room { length (Self.bits self.old) ≤ M.BITS }
@@ -51,7 +52,7 @@ pub trait BitFieldMut: BitField + BitsMut {
         });
     }
 
-    /// Stores a number, the first segment highest.
+    /// Stores a number's lowest digits, the first segment highest. The window has 1 up to `M::BITS` bits.
     final fn store_be<M: Integral>(&mut self, value: M)
         requires some { 0 < length (Self.bits self.old) }
         requires room { length (Self.bits self.old) ≤ M.BITS }

@@ -1,0 +1,11 @@
+use Rattle.std.proofs.Common.{length}
+use Rattle.bit_addressing.specs.Memory.{read_by}
+use Rattle.bit_slice_views.specs.View.{view_bits}
+use Rattle.bit_slice_fields.specs.Digits.{cut_weight}
+use Rattle.bit_slice_fields.proofs.DigitsLemmas.{Gathered}
+use Rattle.bit_slice_fields.proofs.digits.gathered.Given as goal
+
+abbrev pub invariant-loop-i : goal.invariant-loop-i
+invariant-loop-i g l =
+    let shown = view_bits (read_by g.T.BitRegister g.O.Positions.position) l.view in
+    Gathered (cut_weight l.cut g.T.BitRegister.BITS (length shown)) shown l.i l.digits

@@ -2,7 +2,7 @@
 
 ghost use Rattle.std.specs.Prelude.{◌≡◌, ◌≤◌, length};
 ghost use Rattle.bit_addressing.specs.Sweep.{IsFresh, sweep_lender, sweep_words};
-ghost use Rattle.bit_addressing.specs.declared.sweep.Way as Way;
+ghost use Rattle.bit_addressing.specs.declared.sweep.Way.TheVariants.{Up};
 
 use bit_addressing::{Lsb0, Msb0, Sweep, Way};
 use bit_slice_domains::BitsDomains;
@@ -50,8 +50,8 @@ fn halves_are_exchanged(rt: HostRuntime) {
 
 // Puts one word of a sweep.
 fn put_first(sweep: &mut Sweep<'_, u8>)
-    requires { 1 ≤ length (sweep_words sweep.old) }
-    requires fresh { IsFresh sweep.old Way.Up }
+    requires some { 1 ≤ length (sweep_words sweep.old) }
+    requires fresh { IsFresh sweep.old Up }
     ensures lender { sweep_lender sweep.new ≡ sweep_lender sweep.old }
     ensures len { length (sweep_words sweep.new) ≡ length (sweep_words sweep.old) }
 {

@@ -3,10 +3,11 @@
 use bit_slice_views::*;
 use bit_slice_writes::*;
 use bit_addressing::Lsb0;
+use std::alloc::AllocError;
 use std::process::Abort;
 
 #[test]
-fn four_nibbles_are_packed(rt: HostRuntime) {
+fn four_nibbles_are_packed(rt: HostRuntime) -> Result<(), AllocError> {
     let nibbles = [0x1u8, 0x2, 0x4, 0x8];
     let mut bytes = [0u8; 2];
     let mut bits = BitSliceMut::<u8, Lsb0>::from_slice_mut(&mut bytes);
@@ -15,7 +16,8 @@ fn four_nibbles_are_packed(rt: HostRuntime) {
             bits.set(4 * k + i, nibbles[k] >> i & 1 == 1);
         }
     }
-    let text = format!(rt.alloc(), "{bits}");
-    assert!(rt; text.unwrap_or_default() == "[1, 0, 0, 0, 0, 1, 0, 0, 0, 0, 1, 0, 0, 0, 0, 1]");
+    let text = format!(in rt.alloc(); "{bits}")?;
+    assert!(rt; text.as_str() == "[1, 0, 0, 0, 0, 1, 0, 0, 0, 0, 1, 0, 0, 0, 0, 1]");
     assert!(rt; bytes == [0x21, 0x84]);
+    Ok(())
 }

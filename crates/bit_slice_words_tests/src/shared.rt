@@ -1,9 +1,10 @@
 //! What writable windows share with shared ones: comparison, hash, texts, accesses and cuts; and their own traits.
 
-use bit_addressing::{BitSpanError, Lsb0, Msb0};
+use bit_addressing::{Lsb0, Msb0};
 use bit_slice_access::{BitsCopy, BitsParts};
 use bit_slice_views::{BitSlice, Bits};
 use bit_slice_writes::{BitSliceMut, BitsMut};
+use std::alloc::AllocError;
 use std::cmp::Ordering;
 use std::hash::{DefaultHasher, Hash, Hasher};
 use std::process::Abort;
@@ -38,13 +39,14 @@ fn writable_windows_are_compared(rt: HostRuntime) {
 }
 
 #[test]
-fn writable_windows_have_the_same_texts(rt: HostRuntime) {
+fn writable_windows_have_the_same_texts(rt: HostRuntime) -> Result<(), AllocError> {
     let mut words = [0b0010_1101u8];
     let bits = BitSliceMut::<u8, Lsb0>::from_place_mut(&mut words, 0, 6);
-    let plain = format!(rt.alloc(), "{bits}").unwrap_or_default();
-    assert!(rt; plain == "[1, 0, 1, 1, 0, 1]");
-    let shown = format!(rt.alloc(), "{bits:?}").unwrap_or_default();
-    assert!(rt; shown == "[1, 0, 1, 1, 0, 1]");
+    let plain = format!(in rt.alloc(); "{bits}")?;
+    assert!(rt; plain.as_str() == "[1, 0, 1, 1, 0, 1]");
+    let shown = format!(in rt.alloc(); "{bits:?}")?;
+    assert!(rt; shown.as_str() == "[1, 0, 1, 1, 0, 1]");
+    Ok(())
 }
 
 #[test]

@@ -3,6 +3,7 @@ pub mod WordCommandLemmas
 pub mod Changes
 pub mod Gathers
 pub mod RunLemmas
+pub mod ShiftedWords
 pub mod CommandLemmas
 pub mod Sweeps
 pub mod WayLemmas

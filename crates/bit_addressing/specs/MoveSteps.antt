@@ -27,3 +27,8 @@ pub record Swept {R : Type 0} (reading : Reading R) (before now : List R) (sourc
   pub below : (p : ℕ) → p < low * reading.bits → entry reading now p ≡ entry reading before p
   pub above : (p : ℕ) → high * reading.bits ≤ p → entry reading now p ≡ entry reading before p
   pub words : length now ≡ length before
+
+-- the word begins with the n entries from a place on
+abbrev pub BeginsWith : {R : Type 0} → Reading R → List R → ℕ → ℕ → R → Type 0
+BeginsWith reading words place n word =
+    (i : ℕ) → i < n → reading.digit word i ≡ entry reading words (place + i)

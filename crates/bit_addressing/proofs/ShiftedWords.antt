@@ -1,38 +1,37 @@
 -- One word of a move, by shifts.
 --
 -- `begins_aligned`, `begins_inside`, `begins_across`: a word that begins with the bits from a place on, of one word or
--- of two. `whole_word`, `edge_word`: with such a word the word of the move is gathered. `counted_one`: a read counted.
-use Rattle.std.proofs.Common.{◌≡◌, ℕ, ◌+◌, ◌-◌, ◌*◌, ◌/◌, ◌%◌, ◌<◌, ◌≤◌, min, Bool, List, length, get_or}
-use Rattle.std.proofs.Common.{sym, ap, ◌∙◌, inl, inr, arith}
+-- of two. `whole_word`, `edge_word`: with such a word the word of the move is gathered.
+-- `word_within`, `next_within`, `edge_some`: what is read is there.
+use Rattle.std.proofs.Common.{◌≡◌, ℕ, ◌+◌, ◌-◌, ◌*◌, ◌/◌, ◌%◌, ◌<◌, ◌≤◌, min, List, length, get_or}
+use Rattle.std.proofs.Common.{refl, sym, ap, ◌∙◌, inl, inr, arith}
+use Rattle.std.proofs.Math.Nat.{mul-le-mul_right}
 use Rattle.std.proofs.lemmas.Bool.{cases_lt}
-use Rattle.std.proofs.lemmas.Bool.Decides.{nat_tests}
-use Rattle.std.proofs.lemmas.Nat.{div-add-mod', div_below, le-div}
+use Rattle.std.proofs.lemmas.Nat.{div-add-mod', div_below}
 use Rattle.bit_addressing_memory.specs.Memory.{Reading, entry}
 use Rattle.bit_addressing_memory.proofs.EntryLemmas.{entry_read}
 use Rattle.bit_addressing_shifts.specs.Straight.{IsJoined}
 use Rattle.bit_addressing_span.specs.Partial.{IsStored}
 use Rattle.bit_addressing.specs.MoveSteps.{BeginsWith, IsGathered, moved_bit}
-use Rattle.bit_addressing.specs.Sweep.{counted_up}
 use Rattle.bit_addressing.proofs.Gathers.{moved_bit_inside, moved_bit_below, moved_bit_above}
 
--- a read counted is one more at most
-pub counted_one : (n m : ℕ) → m ≡ counted_up n → m ≤ n + 1
-counted_one n m e = grind (arith, nat_tests)
-
 -- the word of a place is one of the words
-pub word_within : (b p n words : ℕ) → 0 < b → 0 < n → p + n ≤ words * b → p / b < words
-word_within b p n words some any within = div_below p b words some (omega arith)
+pub word_within : (w b p n words : ℕ) → b ≡ w → 0 < w → 0 < n → p + n ≤ words * w → p / b < words
+word_within w b p n words is some any within = rw is (div_below p w words some (omega arith))
 
 -- and so is the next, where the bits go on in it
-pub next_within : (b p n words : ℕ) → 0 < b → b < p % b + n → p + n ≤ words * b → p / b + 1 < words
-next_within b p n words some on within =
-    let place : p / b * b + p % b ≡ p = div-add-mod' p b in
-    let more : (p / b + 1) * b ≡ p / b * b + b = omega arith in
-    let past : (p / b + 1) * b < words * b = omega arith in
-    mul_lt (p / b + 1) words b past
+pub next_within : (w b p n words : ℕ) → b ≡ w → 0 < w → b < p % b + n → p + n ≤ words * w → p / b + 1 < words
+next_within w b p n words is some on within =
+    let row : p / w * w + p % w ≡ p = div-add-mod' p w in
+    let past : w < p % w + n = rw is at on in
+    let before : (p / w + 1) * w < words * w = omega arith in
+    rw is (mul-lt_cancel (p / w + 1) words w before)
   where
-    mul_lt : (x y b : ℕ) → x * b < y * b → x < y
-    mul_lt x y b less = grind arith
+    mul-lt_cancel : (x y z : ℕ) → x * z < y * z → x < y
+    mul-lt_cancel x y z less = elim (cases_lt x y) [
+      | inl low ↦ low
+      | inr high ↦ absurd (omega (arith, mul-le-mul_right z high))
+    ]
 
 -- a word read at the edge of the memory's words
 pub begins_aligned : {R : Type 0} (reading : Reading R) (words : List R) (b p n j : ℕ) (first : R)
@@ -78,6 +77,13 @@ begins_across reading words b p n j q first next word is row column most within 
           ∙ entry_read reading words (j + 1) index next (omega arith) within read_next
           ∙ ap (entry reading words) place
     ]
+
+-- a word of the move has bits of the target
+pub edge_some : (w k target len b from upto : ℕ) → b ≡ w → 0 < w → 0 < len → k * w < target + len → target < k * w + w
+    → from ≡ target - k * b → upto ≡ min b (target + len - k * b) → 0 < upto - from
+edge_some w k target len b from upto is some any begins ends lower higher =
+    let start : k * b ≡ k * w = rw is refl in
+    omega arith
 
 -- a word of the move that has no bits but the target's
 pub whole_word : {R : Type 0} (reading : Reading R) (before : List R) (k source target len start place b : ℕ)

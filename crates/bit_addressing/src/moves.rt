@@ -86,6 +86,7 @@ fn moved_word<R: BitRegister, O: BitOrder<R>>(
     len: usize,
 ) -> R
     requires goes { IfSome direction (Goes R.BITS O.position) }
+    requires some { 0 < len }
     requires within { k < length (sweep_words sweep.old) }
     requires source_within { source + len ≤ length (sweep_words sweep.old) * R.BITS }
     requires source_ends { source + len < 2 ^ 64 }

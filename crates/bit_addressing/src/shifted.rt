@@ -23,6 +23,7 @@ pub(crate) fn shifted<R: BitRegister, O: BitOrder<R>>(
     len: usize,
 ) -> R
     requires goes { Goes R.BITS O.position direction }
+    requires some { 0 < len }
     requires within { k < length (sweep_words sweep.old) }
     requires source_within { source + len ≤ length (sweep_words sweep.old) * R.BITS }
     requires source_ends { source + len < 2 ^ 64 }
@@ -54,6 +55,7 @@ fn at_edge<R: BitRegister, O: BitOrder<R>>(
     len: usize,
 ) -> R
     requires goes { Goes R.BITS O.position direction }
+    requires some { 0 < len }
     requires within { k < length (sweep_words sweep.old) }
     requires source_within { source + len ≤ length (sweep_words sweep.old) * R.BITS }
     requires source_ends { source + len < 2 ^ 64 }

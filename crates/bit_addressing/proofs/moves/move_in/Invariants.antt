@@ -1,8 +1,8 @@
-use Rattle.std.proofs.Common.{◌≡◌, ◌+◌, ◌≤◌}
+use Rattle.std.proofs.Common.{◌≡◌, ◌+◌, ◌*◌, ◌≤◌, IfSome}
 use Rattle.bit_addressing_memory.specs.Memory.{read_by}
 use Rattle.bit_addressing.specs.Moves.{changed}
 use Rattle.bit_addressing.specs.MoveSteps.{Swept}
-use Rattle.bit_addressing.specs.Sweep.{edge_of, sweep_lender, way_of, sweep_words, writes_of}
+use Rattle.bit_addressing.specs.Sweep.{edge_of, reads_of, sweep_lender, way_of, sweep_words, writes_of}
 use Rattle.bit_addressing.proofs.moves.move_in.Given as goal
 
 abbrev pub invariant-up : goal.invariant-up
@@ -15,6 +15,7 @@ invariant-up g l =
       way : way_of l.sweep ≡ way_of l.fn.sweep;
       edge : edge_of l.sweep ≤ l.k;
       writes : writes_of l.sweep + l.first ≡ l.k;
+      reads : IfSome l.direction (λ _. reads_of l.sweep ≤ 3 * writes_of l.sweep);
       few_changed : changed g.R.BitRegister.number (sweep_words l.fn.sweep) (sweep_words l.sweep) ≤ writes_of l.sweep;
     }
 
@@ -29,5 +30,6 @@ invariant-down g l =
       edge : l.k ≤ edge_of l.sweep;
       writes : writes_of l.sweep + l.k ≡ l.last + 1;
       low : l.first ≤ l.k;
+      reads : IfSome l.direction (λ _. reads_of l.sweep ≤ 3 * writes_of l.sweep);
       few_changed : changed g.R.BitRegister.number (sweep_words l.fn.sweep) (sweep_words l.sweep) ≤ writes_of l.sweep;
     }

@@ -2,6 +2,7 @@ pub mod BitCommandLemmas
 pub mod WordCommandLemmas
 pub mod Changes
 pub mod Gathers
+pub mod Puts
 pub mod ReadCounts
 pub mod RunLemmas
 pub mod ShiftedWords

@@ -2,7 +2,8 @@
 --
 -- `begins_aligned`, `begins_inside`, `begins_across`: a word that begins with the bits from a place on, of one word or
 -- of two. `whole_word`, `edge_word`: with such a word the word of the move is gathered.
--- `word_within`, `next_within`, `edge_some`: what is read is there.
+-- `place_at`, `cut_place`: which place a word begins at. `word_within`, `next_within`, `cut_first`, `cut_next`,
+-- `filled_within`, `edge_some`: what is read is there.
 use Rattle.std.proofs.Common.{◌≡◌, ℕ, ◌+◌, ◌-◌, ◌*◌, ◌/◌, ◌%◌, ◌<◌, ◌≤◌, min, List, length, get_or}
 use Rattle.std.proofs.Common.{refl, sym, ap, ◌∙◌, inl, inr, arith}
 use Rattle.std.proofs.Math.Nat.{mul-le-mul_right}
@@ -15,63 +16,94 @@ use Rattle.bit_addressing_span.specs.Partial.{IsStored}
 use Rattle.bit_addressing.specs.MoveSteps.{BeginsWith, IsGathered, moved_bit}
 use Rattle.bit_addressing.proofs.Gathers.{moved_bit_inside, moved_bit_below, moved_bit_above}
 
+less_words : (x y w : ℕ) → x * w < y * w → x < y
+less_words x y w less = elim (cases_lt x y) [
+  | inl low ↦ low
+  | inr high ↦ absurd (omega (arith, mul-le-mul_right w high))
+]
+
+-- where a place lies in its word
+pub place_at : (w b p : ℕ) → b ≡ w → p / b * w + p % b ≡ p
+place_at w b p is = rw is (div-add-mod' p w)
+
 -- the word of a place is one of the words
 pub word_within : (w b p n words : ℕ) → b ≡ w → 0 < w → 0 < n → p + n ≤ words * w → p / b < words
 word_within w b p n words is some any within = rw is (div_below p w words some (omega arith))
 
 -- and so is the next, where the bits go on in it
-pub next_within : (w b p n words : ℕ) → b ≡ w → 0 < w → b < p % b + n → p + n ≤ words * w → p / b + 1 < words
-next_within w b p n words is some on within =
-    let row : p / w * w + p % w ≡ p = div-add-mod' p w in
-    let past : w < p % w + n = rw is at on in
-    let before : (p / w + 1) * w < words * w = omega arith in
-    rw is (mul-lt_cancel (p / w + 1) words w before)
-  where
-    mul-lt_cancel : (x y z : ℕ) → x * z < y * z → x < y
-    mul-lt_cancel x y z less = elim (cases_lt x y) [
-      | inl low ↦ low
-      | inr high ↦ absurd (omega (arith, mul-le-mul_right z high))
-    ]
+pub next_within : (w b p n words : ℕ) → b ≡ w → b < p % b + n → p + n ≤ words * w → p / b + 1 < words
+next_within w b p n words is on within =
+    less_words (p / b + 1) words w (omega (arith, place_at w b p is))
 
--- a word read at the edge of the memory's words
-pub begins_aligned : {R : Type 0} (reading : Reading R) (words : List R) (b p n j : ℕ) (first : R)
-    → b ≡ reading.bits → j ≡ p / b → p % b ≡ 0 → n ≤ reading.bits → j < length words → first ≡ get_or words j first
+-- the place that goes to the word m words behind `low`
+pub cut_place : (w b source target low m : ℕ) → b ≡ w → target ≤ low * w
+    → ((source + (low * b - target)) / b + m) * w + (source + (low * b - target)) % b
+    ≡ source + ((low + m) * w - target)
+cut_place w b source target low m is begins =
+    let place : ℕ = source + (low * b - target) in
+    let same : low * b ≡ low * w = ap (λ v. low * v) is in
+    omega (arith, place_at w b place is)
+
+-- the word that it lies in is one of the words
+pub cut_first : (w b source target len low high m words : ℕ) → b ≡ w → 0 < w → target ≤ low * w → low + m < high
+    → high * w ≤ target + len → source + len ≤ words * w → (source + (low * b - target)) / b + m < words
+cut_first w b source target len low high m words is some begins inside ends within =
+    let place : ℕ = source + (low * b - target) in
+    let more : (low + m + 1) * w ≤ high * w = mul-le-mul_right w (omega arith) in
+    less_words (place / b + m) words w (omega (arith, cut_place w b source target low m is begins))
+
+-- and so is the next, unless it begins there
+pub cut_next : (w b source target len low high m words : ℕ) → b ≡ w → target ≤ low * w → low + m < high
+    → high * w ≤ target + len → source + len ≤ words * w → 0 < (source + (low * b - target)) % b
+    → (source + (low * b - target)) / b + m + 1 < words
+cut_next w b source target len low high m words is begins inside ends within some =
+    let place : ℕ = source + (low * b - target) in
+    let more : (low + m + 1) * w ≤ high * w = mul-le-mul_right w (omega arith) in
+    less_words (place / b + m + 1) words w (omega (arith, cut_place w b source target low m is begins))
+
+-- a word that the target fills is one of the words
+pub filled_within : (w target len high k words : ℕ) → k < high → high * w ≤ target + len → 0 < w
+    → target + len ≤ words * w → k < words
+filled_within w target len high k words inside ends some within =
+    let more : (k + 1) * w ≤ high * w = mul-le-mul_right w (omega arith) in
+    less_words k words w (omega arith)
+
+-- a word read that begins at the place
+pub begins_aligned : {R : Type 0} (reading : Reading R) (words : List R) (p n j : ℕ) (first : R)
+    → j * reading.bits ≡ p → n ≤ reading.bits → j < length words → first ≡ get_or words j first
     → BeginsWith reading words p n first
-begins_aligned reading words b p n j first is row column most within read i low =
-    let place : j * reading.bits + i ≡ p + i = rw (← is, row) (omega (arith, div-add-mod' p b)) in
+begins_aligned reading words p n j first at most within read i low =
+    let place : j * reading.bits + i ≡ p + i = omega arith in
     entry_read reading words j i first (omega arith) within read ∙ ap (entry reading words) place
 
 -- the first digits of two words joined
-from_one : {R : Type 0} (reading : Reading R) (words : List R) (b p j q i : ℕ) (first next word : R)
-    → b ≡ reading.bits → j ≡ p / b → q ≡ p % b → q + i < reading.bits → j < length words
+from_one : {R : Type 0} (reading : Reading R) (words : List R) (p j q i : ℕ) (first next word : R)
+    → j * reading.bits + q ≡ p → q + i < reading.bits → j < length words
     → first ≡ get_or words j first → IsJoined reading first next word q
     → reading.digit word i ≡ entry reading words (p + i)
-from_one reading words b p j q i first next word is row column low within read joined =
-    let place : j * reading.bits + (q + i) ≡ p + i = rw (← is, row, column) (omega (arith, div-add-mod' p b)) in
+from_one reading words p j q i first next word at low within read joined =
+    let place : j * reading.bits + (q + i) ≡ p + i = omega arith in
     joined.from_first i low
     ∙ entry_read reading words j (q + i) first low within read
     ∙ ap (entry reading words) place
 
 -- bits that lie in one word
-pub begins_inside : {R : Type 0} (reading : Reading R) (words : List R) (b p n j q : ℕ) (first next word : R)
-    → b ≡ reading.bits → j ≡ p / b → q ≡ p % b → q + n ≤ reading.bits → j < length words
+pub begins_inside : {R : Type 0} (reading : Reading R) (words : List R) (p n j q : ℕ) (first next word : R)
+    → j * reading.bits + q ≡ p → q + n ≤ reading.bits → j < length words
     → first ≡ get_or words j first → IsJoined reading first next word q → BeginsWith reading words p n word
-begins_inside reading words b p n j q first next word is row column most within read joined i low =
-    from_one reading words b p j q i first next word is row column (omega arith) within read joined
+begins_inside reading words p n j q first next word at most within read joined i low =
+    from_one reading words p j q i first next word at (omega arith) within read joined
 
 -- bits that go on in the next word
-pub begins_across : {R : Type 0} (reading : Reading R) (words : List R) (b p n j q : ℕ) (first next word : R)
-    → b ≡ reading.bits → j ≡ p / b → q ≡ p % b → n ≤ reading.bits → j + 1 < length words
+pub begins_across : {R : Type 0} (reading : Reading R) (words : List R) (p n j q : ℕ) (first next word : R)
+    → j * reading.bits + q ≡ p → q < reading.bits → n ≤ reading.bits → j + 1 < length words
     → first ≡ get_or words j first → next ≡ get_or words (j + 1) next → IsJoined reading first next word q
     → BeginsWith reading words p n word
-begins_across reading words b p n j q first next word is row column most within read read_next joined i low =
+begins_across reading words p n j q first next word at index_low most within read read_next joined i low =
     elim (cases_lt (q + i) reading.bits) [
-      | inl one ↦
-          from_one reading words b p j q i first next word is row column one (omega arith) read joined
+      | inl one ↦ from_one reading words p j q i first next word at one (omega arith) read joined
       | inr other ↦
           let index : ℕ = q + i - reading.bits in
-          let whole : j * b + q ≡ p = rw (row, column) (div-add-mod' p b) in
-          let rows : j * reading.bits + q ≡ p = rw (← is) whole in
           let place : (j + 1) * reading.bits + index ≡ p + i = omega arith in
           joined.from_next i other (omega arith)
           ∙ entry_read reading words (j + 1) index next (omega arith) within read_next
@@ -86,17 +118,15 @@ edge_some w k target len b from upto is some any begins ends lower higher =
     omega arith
 
 -- a word of the move that has no bits but the target's
-pub whole_word : {R : Type 0} (reading : Reading R) (before : List R) (k source target len start place b : ℕ)
-    (word : R) → b ≡ reading.bits → start ≡ k * b → target ≤ start → b ≤ target + len - start
-    → place ≡ source + (start - target) → BeginsWith reading before place b word
+pub whole_word : {R : Type 0} (reading : Reading R) (before : List R) (k source target len place : ℕ) (word : R)
+    → target ≤ k * reading.bits → k * reading.bits + reading.bits ≤ target + len
+    → place ≡ source + (k * reading.bits - target) → BeginsWith reading before place reading.bits word
     → IsGathered reading before k source target len word reading.bits
-whole_word reading before k source target len start place b word is at low high from begins i small =
-    let here : k * reading.bits + i ≡ start + i = rw (at, ← is) (omega arith) in
-    let there : place + i ≡ source + (start + i - target) = omega arith in
-    begins i (omega arith)
+whole_word reading before k source target len place word low high from begins i small =
+    let there : place + i ≡ source + (k * reading.bits + i - target) = omega arith in
+    begins i small
     ∙ ap (entry reading before) there
-    ∙ sym (ap (moved_bit reading before source target len) here
-    ∙ moved_bit_inside reading before source target len (start + i) (omega arith) (omega arith))
+    ∙ sym (moved_bit_inside reading before source target len (k * reading.bits + i) (omega arith) (omega arith))
 
 -- a word of the move with others beside them
 pub edge_word : {R : Type 0} (reading : Reading R) (before : List R)

@@ -1,21 +1,21 @@
 //! Bits that move inside one memory: each word of the target is gathered and then written once.
 
-ghost use Rattle.std.specs.Prelude.{◌≡◌, ◌+◌, ◌*◌, ◌^◌, ◌<◌, ◌≤◌, IfSome, length};
+ghost use Rattle.std.specs.Prelude.{◌≡◌, ◌+◌, ◌-◌, ◌*◌, ◌/◌, ◌^◌, ◌<◌, ◌≤◌, length};
 ghost use Rattle.bit_addressing_memory.specs.Memory.{read_by, entry, touched};
 ghost use Rattle.bit_addressing_shifts.specs.declared.direction.Direction.{Direction};
 ghost use Rattle.bit_addressing_shifts.specs.Straight.{Goes};
 ghost use Rattle.bit_addressing.specs.Moves.{Moves, changed};
-ghost use Rattle.bit_addressing.specs.MoveSteps.{IsGathered};
+ghost use Rattle.bit_addressing.specs.MoveSteps.{IsGathered, PutsWords};
 ghost use Rattle.bit_addressing.specs.Sweep.{IsFresh, SameButReads, sweep_lender, way_of, sweep_words, writes_of};
 ghost use Rattle.bit_addressing.specs.Sweep.{reads_of};
 ghost use Rattle.bit_addressing.specs.Ways.{way_for};
 
-use crate::shifted::shifted;
+use crate::shifted::put_shifted;
 use crate::sweep::{Sweep, Way};
 use bit_addressing_memory::{read_bit, write_bit};
 use bit_addressing_order::mem::bits_of;
 use bit_addressing_order::{BitIdx, BitOrder, BitRegister};
-use bit_addressing_shifts::{Direction, direction_of};
+use bit_addressing_shifts::direction_of;
 
 /// Moves `len` bits of the words of a fresh sweep from the place `source` on to the place `target` on,
 /// in the order `O`; the two may overlap. A place is a number: word times `BITS`, plus the index there.
@@ -24,8 +24,9 @@ use bit_addressing_shifts::{Direction, direction_of};
 /// word is written once at most, and no more words than the target touches. `way_for` has the way of
 /// the sweep.
 ///
-/// Where the positions go straight with the indices, up or down, the words are made by shifts, and at
-/// most three are read for each word that the target touches.
+/// Where the positions go straight with the indices, up or down over the whole word, each word is made
+/// by shifts, and at most three words are read for each that the target touches.
+#[inline(always)]
 #[tactic(auto, using(crate::proofs::Changes::unchanged))]
 pub fn move_in<R: BitRegister, O: BitOrder<R>>(
     sweep: &mut Sweep<'_, R>,
@@ -56,52 +57,45 @@ pub fn move_in<R: BitRegister, O: BitOrder<R>>(
     if len == 0 {
         return;
     }
+    match direction_of::<R, O>() {
+        Some(direction) => put_shifted::<R, O>(sweep, direction, source, target, len),
+        None => put_gathered::<R, O>(sweep, source, target, len),
+    }
+}
+
+// Puts each word that the target touches, gathered bit by bit.
+#[inline(never)]
+fn put_gathered<R: BitRegister, O: BitOrder<R>>(
+    sweep: &mut Sweep<'_, R>,
+    source: usize,
+    target: usize,
+    len: usize,
+)
+    requires fresh { IsFresh sweep.old (way_for source target) }
+    requires some { 0 < len }
+    requires source_within { source + len ≤ length (sweep_words sweep.old) * R.BITS }
+    requires target_within { target + len ≤ length (sweep_words sweep.old) * R.BITS }
+    requires source_ends { source + len < 2 ^ 64 }
+    requires target_ends { target + len < 2 ^ 64 }
+    ensures { PutsWords (read_by R.BitRegister O.position) sweep.old sweep.new source target len
+        (target / R.BITS) ((target + len - 1) / R.BITS + 1) }
+{
     let bits = bits_of::<R>();
     let first = target / bits;
     let last = (target + len - 1) / bits;
-    let direction = direction_of::<R, O>();
     match sweep.way() {
         Way::Up => {
             'up: for k in first..last + 1 {
-                let word = moved_word::<R, O>(sweep, direction, k, source, target, len);
+                let word = gathered::<R, O>(sweep, k, source, target, len);
                 sweep.put(k, word);
             }
         }
         Way::Down => {
             'down: for k in (first..last + 1).rev() {
-                let word = moved_word::<R, O>(sweep, direction, k, source, target, len);
+                let word = gathered::<R, O>(sweep, k, source, target, len);
                 sweep.put(k, word);
             }
         }
-    }
-}
-
-// The word `k` as the move leaves it, by shifts where there is a direction, and else bit by bit.
-fn moved_word<R: BitRegister, O: BitOrder<R>>(
-    sweep: &mut Sweep<'_, R>,
-    direction: Option<Direction>,
-    k: usize,
-    source: usize,
-    target: usize,
-    len: usize,
-) -> R
-    requires goes { IfSome direction (Goes R.BITS O.position) }
-    requires some { 0 < len }
-    requires within { k < length (sweep_words sweep.old) }
-    requires source_within { source + len ≤ length (sweep_words sweep.old) * R.BITS }
-    requires source_ends { source + len < 2 ^ 64 }
-    requires target_ends { target + len < 2 ^ 64 }
-    requires begins { k * R.BITS < target + len }
-    requires ends { target < k * R.BITS + R.BITS }
-    ensures digits { IsGathered (read_by R.BitRegister O.position) (sweep_words sweep.old)
-        k source target len result R.BITS }
-    ensures reads { IfSome direction (λ _. reads_of sweep.new ≤ reads_of sweep.old + 3) }
-    ensures same { SameButReads sweep.old sweep.new }
-    ensures lender { sweep_lender sweep.new ≡ sweep_lender sweep.old }
-{
-    match direction {
-        Some(direction) => shifted::<R, O>(sweep, direction, k, source, target, len),
-        None => gathered::<R, O>(sweep, k, source, target, len),
     }
 }
 

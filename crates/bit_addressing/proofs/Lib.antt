@@ -3,7 +3,6 @@ pub mod WordCommandLemmas
 pub mod Changes
 pub mod Gathers
 pub mod Puts
-pub mod ReadCounts
 pub mod RunLemmas
 pub mod ShiftedWords
 pub mod CommandLemmas

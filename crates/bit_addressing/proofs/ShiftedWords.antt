@@ -2,7 +2,7 @@
 --
 -- `begins_aligned`, `begins_inside`, `begins_across`: a word that begins with the bits from a place on, of one word or
 -- of two. `whole_word`, `edge_word`: with such a word the word of the move is gathered.
--- `place_at`, `cut_place`: which place a word begins at. `word_within`, `next_within`, `cut_first`, `cut_next`,
+-- `place_at`, `cut_place`: which place a word begins at. `word_within`, `cut_first`, `cut_next`,
 -- `filled_within`, `edge_some`: what is read is there.
 use Rattle.std.proofs.Common.{◌≡◌, ℕ, ◌+◌, ◌-◌, ◌*◌, ◌/◌, ◌%◌, ◌<◌, ◌≤◌, min, List, length, get_or}
 use Rattle.std.proofs.Common.{refl, sym, ap, ◌∙◌, inl, inr, arith}
@@ -29,11 +29,6 @@ place_at w b p is = rw is (div-add-mod' p w)
 -- the word of a place is one of the words
 pub word_within : (w b p n words : ℕ) → b ≡ w → 0 < w → 0 < n → p + n ≤ words * w → p / b < words
 word_within w b p n words is some any within = rw is (div_below p w words some (omega arith))
-
--- and so is the next, where the bits go on in it
-pub next_within : (w b p n words : ℕ) → b ≡ w → b < p % b + n → p + n ≤ words * w → p / b + 1 < words
-next_within w b p n words is on within =
-    less_words (p / b + 1) words w (omega (arith, place_at w b p is))
 
 -- the place that goes to the word m words behind `low`
 pub cut_place : (w b source target low m : ℕ) → b ≡ w → target ≤ low * w

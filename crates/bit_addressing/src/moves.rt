@@ -2,8 +2,7 @@
 
 ghost use Rattle.std.specs.Prelude.{◌≡◌, ◌+◌, ◌-◌, ◌*◌, ◌/◌, ◌^◌, ◌<◌, ◌≤◌, length};
 ghost use Rattle.bit_addressing_memory.specs.Memory.{read_by, entry, touched};
-ghost use Rattle.bit_addressing_shifts.specs.declared.direction.Direction.{Direction};
-ghost use Rattle.bit_addressing_shifts.specs.Straight.{Goes};
+ghost use Rattle.bit_addressing_shifts.specs.Straight.{IsStraight};
 ghost use Rattle.bit_addressing.specs.Moves.{Moves, changed};
 ghost use Rattle.bit_addressing.specs.MoveSteps.{IsGathered, PutsWords};
 ghost use Rattle.bit_addressing.specs.Sweep.{IsFresh, SameButReads, sweep_lender, way_of, sweep_words, writes_of};
@@ -47,8 +46,7 @@ pub fn move_in<R: BitRegister, O: BitOrder<R>>(
     ensures changed { changed R.number (sweep_words sweep.old) (sweep_words sweep.new) ≤ writes_of sweep.new }
 
     // Its reads, where the positions go straight with the indices.
-    ensures reads { (direction : Direction) → Goes R.BITS O.position direction
-        → reads_of sweep.new ≤ 3 * touched R.BITS target len }
+    ensures reads { IsStraight R.BITS O.position → reads_of sweep.new ≤ 3 * touched R.BITS target len }
 
     // What stays.
     ensures way { way_of sweep.new ≡ way_of sweep.old }

@@ -10,12 +10,7 @@ use bit_addressing_order::{BitRegister, Positions};
 
 /// The word whose digits are those of `first` from the index `by` on, and then those of `next`. The
 /// positions go in `direction`, as `direction_of` tells, and `by` is an index other than 0.
-pub fn joined<R: BitRegister, P: Positions<R>>(
-    direction: Direction,
-    first: R,
-    next: R,
-    by: u8,
-) -> R
+pub fn joined<R: BitRegister, P: Positions<R>>(direction: Direction, first: R, next: R, by: u8) -> R
     requires goes { Goes R.BITS P.position direction }
     requires some { 0 < by }
     requires within { by < R.BITS }

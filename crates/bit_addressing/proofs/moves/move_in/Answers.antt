@@ -1,5 +1,6 @@
-use Rattle.std.proofs.Common.{arith, ◌+◌, ◌-◌, ◌/◌, ◌<◌, refl}
+use Rattle.std.proofs.Common.{arith, ◌+◌, ◌-◌, ◌/◌, ◌<◌, refl, inl, inr}
 use Rattle.bit_addressing_memory.specs.Memory.{read_by}
+use Rattle.bit_addressing_shifts.specs.declared.direction.Direction.TheVariants.{Ascending, Descending}
 use Rattle.bit_addressing.proofs.Changes.{unchanged}
 use Rattle.bit_addressing.proofs.Sweeps.{moved_all}
 use Rattle.bit_addressing.proofs.moves.move_in.Goals as goal
@@ -37,7 +38,11 @@ returns-in-None-clause-changed g c =
     let put = c.put_gathered.ensures in
     omega (arith, put.few_changed number words, put.writes, unchanged number words, c.requires.fresh.writes)
 
+-- no direction was found, so there is none
 pub returns-in-None-clause-reads : goal.returns-in-None-clause-reads
-returns-in-None-clause-reads g c direction goes =
-    let told = (c.direction_of.ensures direction).1 goes in
+returns-in-None-clause-reads g c (inl up) =
+    let told = (c.direction_of.ensures Ascending).1 up in
+    absurd (cc)
+returns-in-None-clause-reads g c (inr down) =
+    let told = (c.direction_of.ensures Descending).1 down in
     absurd (cc)

@@ -47,8 +47,11 @@ fn moves_under_other_orders(rt: HostRuntime) {
     assert!(rt; writes <= 2);
 }
 
+// How many bits a plain list has: those of four words of 64.
+const LISTED: usize = 256;
+
 // The bits of so many words as a plain list, the places past them false.
-fn plain_bits<R: BitRegister, O: BitOrder<R>, const LISTED: usize>(words: &[R]) -> [bool; LISTED] {
+fn plain_bits<R: BitRegister, O: BitOrder<R>>(words: &[R]) -> [bool; LISTED] {
     let bits = bits_of::<R>();
     let mut list = [false; LISTED];
     for k in 0..LISTED {
@@ -61,7 +64,7 @@ fn plain_bits<R: BitRegister, O: BitOrder<R>, const LISTED: usize>(words: &[R]) 
 }
 
 // Whether a move of these words leaves what a plain copy of their bits leaves.
-fn agrees<R: BitRegister, O: BitOrder<R>, const N: usize, const LISTED: usize>(
+fn agrees<R: BitRegister, O: BitOrder<R>, const N: usize>(
     before: [R; N],
     source: usize,
     target: usize,
@@ -72,14 +75,14 @@ fn agrees<R: BitRegister, O: BitOrder<R>, const N: usize, const LISTED: usize>(
     requires source_listed { source + len ≤ LISTED }
     requires target_listed { target + len ≤ LISTED }
 {
-    let own = plain_bits::<R, O, LISTED>(&before);
+    let own = plain_bits::<R, O>(&before);
     let mut copied = own;
     for i in 0..len {
         copied[target + i] = own[source + i];
     }
     let mut words = before;
     let _ = move_within::<R, O>(&mut words, source, target, len);
-    plain_bits::<R, O, LISTED>(&words) == copied
+    plain_bits::<R, O>(&words) == copied
 }
 
 // The first source, target and length up to 24, 24 and 40 whose move over nine bytes is another than
@@ -88,7 +91,7 @@ fn first_fault<O: BitOrder<u8>>(before: [u8; 9]) -> Option<(usize, usize, usize)
     for source in 0..25 {
         for target in 0..25 {
             for len in 0..41 {
-                if !agrees::<u8, O, 9, 72>(before, source, target, len) {
+                if !agrees::<u8, O, 9>(before, source, target, len) {
                     return Some((source, target, len));
                 }
             }
@@ -125,9 +128,9 @@ fn some_moves_of_wide_words_are_plain_copies(rt: HostRuntime) {
         let (source, target, len) = (source as usize, target as usize, len as usize);
         assert!(rt; source + len <= 96 && target + len <= 96);
         let agreed = (
-            agrees::<u32, Lsb0, 3, 96>(before, source, target, len),
-            agrees::<u32, Msb0, 3, 96>(before, source, target, len),
-            agrees::<u32, Flipped, 3, 96>(before, source, target, len),
+            agrees::<u32, Lsb0, 3>(before, source, target, len),
+            agrees::<u32, Msb0, 3>(before, source, target, len),
+            agrees::<u32, Flipped, 3>(before, source, target, len),
         );
         assert!(rt;
             agreed == (true, true, true),
@@ -167,10 +170,10 @@ fn first_wide_fault<R: BitRegister, O: BitOrder<R>>(
         (3, b + 3, 2 * b + 2),
     ];
     for (source, target, len) in rows {
-        if source + len > 4 * b || target + len > 4 * b {
+        if source + len > LISTED.min(4 * b) || target + len > LISTED.min(4 * b) {
             return Some((source, target, len));
         }
-        if !agrees::<R, O, 4, 512>(before, source, target, len) {
+        if !agrees::<R, O, 4>(before, source, target, len) {
             return Some((source, target, len));
         }
     }

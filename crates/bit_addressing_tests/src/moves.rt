@@ -170,7 +170,8 @@ fn first_wide_fault<R: BitRegister, O: BitOrder<R>>(
         (3, b + 3, 2 * b + 2),
     ];
     for (source, target, len) in rows {
-        if source + len > LISTED.min(4 * b) || target + len > LISTED.min(4 * b) {
+        let most = LISTED.min(4 * b);
+        if source > most || target > most || len > most - source || len > most - target {
             return Some((source, target, len));
         }
         if !agrees::<R, O, 4>(before, source, target, len) {

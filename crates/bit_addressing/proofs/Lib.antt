@@ -2,7 +2,9 @@ pub mod BitCommandLemmas
 pub mod WordCommandLemmas
 pub mod Changes
 pub mod Gathers
+pub mod Puts
 pub mod RunLemmas
+pub mod ShiftedWords
 pub mod CommandLemmas
 pub mod Sweeps
 pub mod WayLemmas

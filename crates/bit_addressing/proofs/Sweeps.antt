@@ -1,8 +1,9 @@
 -- The words of a move, one after another.
 --
--- `swept_up`, `swept_down`: one more word, either way. `moved_all`: all of them. `first_le_last`: there is one.
+-- `swept_none`, `swept_one`: no word, and one. `swept_up`, `swept_down`: more words, either way. `moved_all`: all of
+-- them. `first_le_last`: there is one.
 use Rattle.std.proofs.Common.{◌≡◌, ◌≢◌, ℕ, ◌+◌, ◌-◌, ◌*◌, ◌/◌, ◌%◌, ◌<◌, ◌≤◌, List, length, set}
-use Rattle.std.proofs.Common.{sym, ap, ◌∙◌, inl, inr, arith}
+use Rattle.std.proofs.Common.{refl, sym, ap, ◌∙◌, inl, inr, arith}
 use Rattle.std.proofs.lemmas.Bool.{cases_lt}
 use Rattle.std.proofs.lemmas.List.{length-set}
 use Rattle.std.proofs.Math.Nat.{mul-le-mul_right}
@@ -67,47 +68,65 @@ moved_bit_same reading before now source target len p own other = elim (cases_lt
   ]
 ]
 
--- the next word upwards
-pub swept_up : {R : Type 0} (reading : Reading R) (before now : List R) (source target len low high : ℕ)
-    (word : R) → 0 < reading.bits → target ≤ source → high < length now → low ≤ high
-    → Swept reading before now source target len low high
-    → IsGathered reading now high source target len word reading.bits
-    → Swept reading before (set now high word) source target len low (high + 1)
-swept_up reading before now source target len low high word some way h order had made = record {
-  written = λ p lo hi. elim (cases_lt p (high * reading.bits)) [
-    | inl g ↦ put_below reading now high word some p g ∙ had.written p lo g
-    | inr g ↦
-        put_word reading now high source target len word h made p g (omega arith)
-        ∙ moved_bit_same reading before now source target len p (had.above p g)
-        (λ t. had.above (source + (p - target)) (omega arith))
-  ];
-  below = λ p g.
-      put_below reading now high word some p (omega (arith, mul-le-mul_right reading.bits order)) ∙ had.below p g;
-  above = λ p g. put_above reading now high word some p (omega arith) ∙ had.above p (omega arith);
-  words = length-set now high word ∙ had.words;
+-- one word
+pub swept_one : {R : Type 0} (reading : Reading R) (before : List R) (source target len k : ℕ) (word : R)
+    → 0 < reading.bits → k < length before → IsGathered reading before k source target len word reading.bits
+    → Swept reading before (set before k word) source target len k (k + 1)
+swept_one reading before source target len k word some h made = record {
+  written = λ p lo hi. put_word reading before k source target len word h made p lo (omega arith);
+  below = λ p g. put_below reading before k word some p g;
+  above = λ p g. put_above reading before k word some p (omega arith);
+  words = length-set before k word;
 }
 
--- the next word downwards
-pub swept_down : {R : Type 0} (reading : Reading R) (before now : List R)
-    (source target len low next high : ℕ) (word : R) → 0 < reading.bits → source ≤ target → low < length now
-    → low + 1 ≡ next
-    → next ≤ high → Swept reading before now source target len next high
-    → IsGathered reading now low source target len word reading.bits
-    → Swept reading before (set now low word) source target len low high
-swept_down reading before now source target len low next high word some way h is order had made =
-    let edge : next * reading.bits ≡ low * reading.bits + reading.bits = rw (← is) (omega arith) in
+-- no word
+pub swept_none : {R : Type 0} (reading : Reading R) (before : List R) (source target len k : ℕ)
+    → Swept reading before before source target len k k
+swept_none reading before source target len k = record {
+  written = λ p lo hi. absurd (omega arith);
+  below = λ p g. refl;
+  above = λ p g. refl;
+  words = refl;
+}
+
+-- upwards: the words from mid on after those below
+pub swept_up : {R : Type 0} (reading : Reading R) (before now after : List R) (source target len low mid high : ℕ)
+    → target ≤ source → low ≤ mid → mid ≤ high → Swept reading before now source target len low mid
+    → Swept reading now after source target len mid high → Swept reading before after source target len low high
+swept_up reading before now after source target len low mid high way order more had next =
+    let under = mul-le-mul_right reading.bits order in
+    let over = mul-le-mul_right reading.bits more in
     record {
-      written = λ p lo hi. elim (cases_lt p (next * reading.bits)) [
+      written = λ p lo hi. elim (cases_lt p (mid * reading.bits)) [
+        | inl g ↦ next.below p g ∙ had.written p lo g
+        | inr g ↦
+            next.written p g hi
+            ∙ moved_bit_same reading before now source target len p (had.above p g)
+            (λ t. had.above (source + (p - target)) (omega arith))
+      ];
+      below = λ p g. next.below p (omega (arith, under)) ∙ had.below p g;
+      above = λ p g. next.above p g ∙ had.above p (omega (arith, over));
+      words = next.words ∙ had.words;
+    }
+
+-- downwards: the words below mid after those from it on
+pub swept_down : {R : Type 0} (reading : Reading R) (before now after : List R) (source target len low mid high : ℕ)
+    → source ≤ target → low ≤ mid → mid ≤ high → Swept reading before now source target len mid high
+    → Swept reading now after source target len low mid → Swept reading before after source target len low high
+swept_down reading before now after source target len low mid high way order more had next =
+    let under = mul-le-mul_right reading.bits order in
+    let over = mul-le-mul_right reading.bits more in
+    record {
+      written = λ p lo hi. elim (cases_lt p (mid * reading.bits)) [
         | inl g ↦
-            put_word reading now low source target len word h made p lo (omega arith)
+            next.written p lo g
             ∙ moved_bit_same reading before now source target len p (had.below p g)
             (λ t. had.below (source + (p - target)) (omega arith))
-        | inr g ↦ put_above reading now low word some p (omega arith) ∙ had.written p g hi
+        | inr g ↦ next.above p g ∙ had.written p g hi
       ];
-      below = λ p g. put_below reading now low word some p g ∙ had.below p (omega arith);
-      above = λ p g.
-          put_above reading now low word some p (omega (arith, mul-le-mul_right reading.bits order)) ∙ had.above p g;
-      words = length-set now low word ∙ had.words;
+      below = λ p g. next.below p g ∙ had.below p (omega (arith, under));
+      above = λ p g. next.above p (omega (arith, over)) ∙ had.above p g;
+      words = next.words ∙ had.words;
     }
 
 -- all words of the target

@@ -28,3 +28,4 @@ pub use Rattle.bit_addressing_verify.specs.Text
 pub use Rattle.bit_addressing_verify.specs.OrderFault
 pub use Rattle.bit_addressing_verify.specs.WordFault
 pub use Rattle.bit_addressing_order.specs.StepLaws
+pub use Rattle.bit_addressing_shifts.specs.Straight

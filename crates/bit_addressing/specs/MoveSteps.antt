@@ -1,6 +1,9 @@
 -- The steps of a move, word by word and bit by bit. No public clause cites this module.
 use Rattle.std.specs.Prelude.{ℕ, ◌+◌, ◌-◌, ◌*◌, ◌<◌, ◌≤◌, ◌≡◌, Bool, List, length, if◌then◌else◌, ◌&&◌, nat_le, nat_lt}
 use Rattle.bit_addressing_memory.specs.Memory.{Reading, entry}
+use Rattle.bit_addressing.specs.declared.sweep.Sweep.{Sweep}
+use Rattle.bit_addressing.specs.Moves.{changed}
+use Rattle.bit_addressing.specs.Sweep.{sweep_lender, sweep_words, way_of, writes_of}
 
 -- what a move of len bits from source to target leaves at place p: the source's bit inside the target, else its own
 unfoldable pub moved_bit : {R : Type 0} → Reading R → List R → ℕ → ℕ → ℕ → ℕ → Bool
@@ -27,3 +30,18 @@ pub record Swept {R : Type 0} (reading : Reading R) (before now : List R) (sourc
   pub below : (p : ℕ) → p < low * reading.bits → entry reading now p ≡ entry reading before p
   pub above : (p : ℕ) → high * reading.bits ≤ p → entry reading now p ≡ entry reading before p
   pub words : length now ≡ length before
+
+-- the word begins with the n entries from a place on
+abbrev pub BeginsWith : {R : Type 0} → Reading R → List R → ℕ → ℕ → R → Type 0
+BeginsWith reading words place n word =
+    (i : ℕ) → i < n → reading.digit word i ≡ entry reading words (place + i)
+
+-- the sweep t is s with the words from low up to high put as the move leaves them, once each
+pub record PutsWords {R : Type 0} (reading : Reading R) (s t : Sweep R) (source target len low high : ℕ)
+    : Type 0 where
+  pub swept : Swept reading (sweep_words s) (sweep_words t) source target len low high
+  pub writes : writes_of t + low ≡ writes_of s + high
+  pub few_changed : (number : R → ℕ) (others : List R)
+      → changed number others (sweep_words t) + low ≤ changed number others (sweep_words s) + high
+  pub way : way_of t ≡ way_of s
+  pub lender : sweep_lender t ≡ sweep_lender s

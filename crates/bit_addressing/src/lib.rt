@@ -6,6 +6,7 @@ mod command;
 mod moves;
 mod one_command;
 mod runner;
+mod shifted;
 mod sweep;
 
 pub use bit_addressing_memory::{
@@ -17,6 +18,7 @@ pub use bit_addressing_order::{
     EndRange, IndexRange, Limits, LocalBits, Lsb0, Msb0, OrderCandidate, Place, PlaceRange,
     Positions, SelectorRange, disjoint_masks, mask_from_at, mem, select_from_at,
 };
+pub use bit_addressing_shifts::{Direction, direction_of, goes, joined, raised};
 pub use bit_addressing_span::{
     BitSpan, BitSpanError, Domain, DomainMut, DomainWords, MAX_BITS, PartialElement,
     PartialElementMut, each_digit, flipped, load_in, masked, no_digits, store_in, stored,

@@ -1,16 +1,20 @@
 //! Bits that move inside one memory: each word of the target is gathered and then written once.
 
-ghost use Rattle.std.specs.Prelude.{◌≡◌, ◌+◌, ◌*◌, ◌^◌, ◌<◌, ◌≤◌, length};
+ghost use Rattle.std.specs.Prelude.{◌≡◌, ◌+◌, ◌-◌, ◌*◌, ◌/◌, ◌^◌, ◌<◌, ◌≤◌, length};
 ghost use Rattle.bit_addressing_memory.specs.Memory.{read_by, entry, touched};
+ghost use Rattle.bit_addressing_shifts.specs.Straight.{IsStraight};
 ghost use Rattle.bit_addressing.specs.Moves.{Moves, changed};
-ghost use Rattle.bit_addressing.specs.MoveSteps.{IsGathered};
+ghost use Rattle.bit_addressing.specs.MoveSteps.{IsGathered, PutsWords};
 ghost use Rattle.bit_addressing.specs.Sweep.{IsFresh, SameButReads, sweep_lender, way_of, sweep_words, writes_of};
+ghost use Rattle.bit_addressing.specs.Sweep.{reads_of};
 ghost use Rattle.bit_addressing.specs.Ways.{way_for};
 
+use crate::shifted::put_shifted;
 use crate::sweep::{Sweep, Way};
 use bit_addressing_memory::{read_bit, write_bit};
 use bit_addressing_order::mem::bits_of;
 use bit_addressing_order::{BitIdx, BitOrder, BitRegister};
+use bit_addressing_shifts::direction_of;
 
 /// Moves `len` bits of the words of a fresh sweep from the place `source` on to the place `target` on,
 /// in the order `O`; the two may overlap. A place is a number: word times `BITS`, plus the index there.
@@ -18,6 +22,10 @@ use bit_addressing_order::{BitIdx, BitOrder, BitRegister};
 /// Afterwards the target's bits are what the source's were, and each other bit is as before. Every
 /// word is written once at most, and no more words than the target touches. `way_for` has the way of
 /// the sweep.
+///
+/// Where the positions go straight with the indices, up or down over the whole word, each word is made
+/// by shifts, and at most three words are read for each that the target touches.
+#[inline(always)]
 #[tactic(auto, using(crate::proofs::Changes::unchanged))]
 pub fn move_in<R: BitRegister, O: BitOrder<R>>(
     sweep: &mut Sweep<'_, R>,
@@ -37,6 +45,9 @@ pub fn move_in<R: BitRegister, O: BitOrder<R>>(
     ensures writes { writes_of sweep.new ≤ touched R.BITS target len }
     ensures changed { changed R.number (sweep_words sweep.old) (sweep_words sweep.new) ≤ writes_of sweep.new }
 
+    // Its reads, where the positions go straight with the indices.
+    ensures reads { IsStraight R.BITS O.position → reads_of sweep.new ≤ 3 * touched R.BITS target len }
+
     // What stays.
     ensures way { way_of sweep.new ≡ way_of sweep.old }
     ensures lender { sweep_lender sweep.new ≡ sweep_lender sweep.old }
@@ -44,6 +55,29 @@ pub fn move_in<R: BitRegister, O: BitOrder<R>>(
     if len == 0 {
         return;
     }
+    match direction_of::<R, O>() {
+        Some(direction) => put_shifted::<R, O>(sweep, direction, source, target, len),
+        None => put_gathered::<R, O>(sweep, source, target, len),
+    }
+}
+
+// Puts each word that the target touches, gathered bit by bit.
+#[inline(never)]
+fn put_gathered<R: BitRegister, O: BitOrder<R>>(
+    sweep: &mut Sweep<'_, R>,
+    source: usize,
+    target: usize,
+    len: usize,
+)
+    requires fresh { IsFresh sweep.old (way_for source target) }
+    requires some { 0 < len }
+    requires source_within { source + len ≤ length (sweep_words sweep.old) * R.BITS }
+    requires target_within { target + len ≤ length (sweep_words sweep.old) * R.BITS }
+    requires source_ends { source + len < 2 ^ 64 }
+    requires target_ends { target + len < 2 ^ 64 }
+    ensures { PutsWords (read_by R.BitRegister O.position) sweep.old sweep.new source target len
+        (target / R.BITS) ((target + len - 1) / R.BITS + 1) }
+{
     let bits = bits_of::<R>();
     let first = target / bits;
     let last = (target + len - 1) / bits;

@@ -5,10 +5,12 @@ ghost use Rattle.std.specs.Prelude.{◌≡◌, ◌+◌, ◌*◌, ◌^◌, ◌<�
 ghost use Rattle.bit_addressing.specs.Memory.{entry, read_by, memory, piece, touched, with_piece};
 ghost use Rattle.bit_addressing.specs.Moves.{Moves, changed};
 ghost use Rattle.bit_addressing.specs.Span.{span_place};
+ghost use Rattle.bit_addressing.specs.Straight.{IsStraight};
 ghost use Rattle.bit_addressing.specs.Runs.{AllFit, AreDisjoint, span_at};
 
 use bit_addressing::{
-    BitOrder, BitRegister, BitSpan, SpanCommand, SpanReply, Sweep, Way, move_in, run, way_for,
+    BitOrder, BitRegister, BitSpan, Lsb0, Msb0, SpanCommand, SpanReply, Sweep, Way, move_in, run,
+    way_for,
 };
 
 /// Moves bits inside a slice and tells the writes. The sweep is made, used and gone in here, and the
@@ -32,7 +34,40 @@ pub fn move_within<R: BitRegister, O: BitOrder<R>>(
     sweep.writes()
 }
 
-/// The same, said of the memory as a list: what was read is written over the target.
+/// Moves bits inside a slice and tells the reads and the writes. Where the positions go straight with the
+/// indices, the reads are few.
+pub fn move_counted<R: BitRegister, O: BitOrder<R>>(
+    words: &mut [R],
+    source: usize,
+    target: usize,
+    len: usize,
+) -> (u64, usize)
+    requires source_within { source + len ≤ length words.old * R.BITS }
+    requires target_within { target + len ≤ length words.old * R.BITS }
+    requires source_ends { source + len < 2 ^ 64 }
+    requires target_ends { target + len < 2 ^ 64 }
+    ensures moved { Moves (read_by R.BitRegister O.position) words.old words.new source target len }
+    ensures reads { IsStraight R.BITS O.position → result.0 ≤ 3 * touched R.BITS target len }
+    ensures writes { result.1 ≤ touched R.BITS target len }
+{
+    let mut counted = Sweep::new(words, way_for(source, target));
+    move_in::<R, O>(&mut counted, source, target, len);
+    (counted.reads(), counted.writes())
+}
+
+/// Moves 16 bits of three bytes to their start under either order of the crate, and knows how many words are
+/// read at most.
+pub fn byte_reads(a: u8, b: u8, c: u8) -> (u64, u64)
+    ensures lowest_first { result.0 ≤ 6 }
+    ensures highest_first { result.1 ≤ 6 }
+{
+    let mut words = [a, b, c];
+    let (lowest_first, _) = move_counted::<u8, Lsb0>(&mut words, 4, 0, 16);
+    let (highest_first, _) = move_counted::<u8, Msb0>(&mut words, 4, 0, 16);
+    (lowest_first, highest_first)
+}
+
+/// Moves bits inside a slice, said of the memory as a list: what was read is written over the target.
 pub fn move_list<R: BitRegister, O: BitOrder<R>>(
     words: &mut [R],
     source: usize,

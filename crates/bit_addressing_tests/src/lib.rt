@@ -6,4 +6,6 @@ mod moves;
 #[cfg(test)]
 mod runs;
 #[cfg(test)]
+mod shifts;
+#[cfg(test)]
 mod sweeps;

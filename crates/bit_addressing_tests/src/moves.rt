@@ -4,23 +4,33 @@ ghost use Rattle.std.specs.Prelude.{◌+◌, ◌*◌, ◌<◌, ◌≤◌};
 
 use bit_addressing::mem::bits_of;
 use bit_addressing::{BitIdx, BitOrder, BitRegister, Lsb0, Msb0, read_bit};
-use bit_addressing_samples::callers::{move_list, move_within, own_array};
+use bit_addressing_samples::callers::{
+    byte_reads, move_counted, move_list, move_within, own_array,
+};
 use bit_addressing_samples::{FifthStep, Flipped};
 
 #[test]
 fn moves_of_sixteen_bits(rt: HostRuntime) {
-    // target, memory after, writes at most
+    // target, memory after, the same with each byte's digits turned round, reads and writes at most
     let rows = [
-        (0, [0x41u8, 0x63, 0x56], 2),
-        (8, [0x12, 0x41, 0x63], 2),
-        (5, [0x32, 0x68, 0x4c], 3),
+        (0, [0x41u8, 0x63, 0x56], [0x82u8, 0xc6, 0x6a], 6, 2),
+        (8, [0x12, 0x41, 0x63], [0x48, 0x82, 0xc6], 6, 2),
+        (5, [0x32, 0x68, 0x4c], [0x4c, 0x16, 0x32], 9, 3),
     ];
-    for (target, after, most) in rows {
+    for (target, after, turned, most_read, most_written) in rows {
         let mut words = [0x12u8, 0x34, 0x56];
-        let writes = move_within::<u8, Lsb0>(&mut words, 4, target, 16);
+        let (reads, writes) = move_counted::<u8, Lsb0>(&mut words, 4, target, 16);
         assert!(rt; words == after, "to {target}");
-        assert!(rt; writes <= most, "to {target}: {writes}");
+        assert!(rt; reads <= most_read, "to {target}: {reads}");
+        assert!(rt; writes <= most_written, "to {target}: {writes}");
+        let mut words = [0x48u8, 0x2c, 0x6a];
+        let (reads, writes) = move_counted::<u8, Msb0>(&mut words, 4, target, 16);
+        assert!(rt; words == turned, "to {target}");
+        assert!(rt; reads <= most_read, "to {target}: {reads}");
+        assert!(rt; writes <= most_written, "to {target}: {writes}");
     }
+    let (lowest_first, highest_first) = byte_reads(0x12, 0x34, 0x56);
+    assert!(rt; lowest_first <= 6 && highest_first <= 6);
 }
 
 #[test]
@@ -37,11 +47,14 @@ fn moves_under_other_orders(rt: HostRuntime) {
     assert!(rt; writes <= 2);
 }
 
+// How many bits a plain list has: those of four words of 64.
+const LISTED: usize = 256;
+
 // The bits of so many words as a plain list, the places past them false.
-fn plain_bits<R: BitRegister, O: BitOrder<R>>(words: &[R]) -> [bool; 96] {
+fn plain_bits<R: BitRegister, O: BitOrder<R>>(words: &[R]) -> [bool; LISTED] {
     let bits = bits_of::<R>();
-    let mut list = [false; 96];
-    for k in 0..96 {
+    let mut list = [false; LISTED];
+    for k in 0..LISTED {
         if k / bits < words.len() {
             let index = BitIdx::new_unchecked((k % bits) as u8);
             list[k] = read_bit::<R, O>(words[k / bits], index);
@@ -59,8 +72,8 @@ fn agrees<R: BitRegister, O: BitOrder<R>, const N: usize>(
 ) -> bool
     requires source_within { source + len ≤ N * R.BITS }
     requires target_within { target + len ≤ N * R.BITS }
-    requires source_listed { source + len ≤ 96 }
-    requires target_listed { target + len ≤ 96 }
+    requires source_listed { source + len ≤ LISTED }
+    requires target_listed { target + len ≤ LISTED }
 {
     let own = plain_bits::<R, O>(&before);
     let mut copied = own;
@@ -124,4 +137,81 @@ fn some_moves_of_wide_words_are_plain_copies(rt: HostRuntime) {
             "{source} to {target}, {len} bits"
         );
     }
+}
+
+// The first source, target and length whose move over four words is another than a plain copy, of those that
+// begin and end at edges of words, inside one, and over one, two, three and four of them, either way.
+fn first_wide_fault<R: BitRegister, O: BitOrder<R>>(
+    before: [R; 4],
+) -> Option<(usize, usize, usize)> {
+    let b = bits_of::<R>();
+    // source, target, length
+    let rows = [
+        (3, b, b),
+        (2 * b, b, b),
+        (b + 5, 0, 2 * b),
+        (5, b, 2 * b),
+        (1, 0, 3 * b),
+        (0, b, 3 * b),
+        (b - 1, b, 3 * b),
+        (0, 0, 4 * b),
+        (2 * b + 3, b + 1, b - 2),
+        (1, 2 * b + 2, 3),
+        (3 * b + 7, 7, 1),
+        (7, b + 5, b - 5),
+        (b + 1, 0, b + 1),
+        (3, b - 1, 2),
+        (3 * b - 2, b - 1, 2),
+        (b, 3, 2 * b),
+        (3, b, 2 * b + 1),
+        (5, 3, 3 * b),
+        (3, 5, 3 * b),
+        (b + 3, 3, 2 * b + 2),
+        (3, b + 3, 2 * b + 2),
+    ];
+    for (source, target, len) in rows {
+        let most = LISTED.min(4 * b);
+        if source > most || target > most || len > most - source || len > most - target {
+            return Some((source, target, len));
+        }
+        if !agrees::<R, O, 4>(before, source, target, len) {
+            return Some((source, target, len));
+        }
+    }
+    None
+}
+
+// The same under three orders.
+fn first_wide_faults<R>(before: [R; 4]) -> [Option<(usize, usize, usize)>; 3]
+where
+    R: BitRegister,
+{
+    [
+        first_wide_fault::<R, Lsb0>(before),
+        first_wide_fault::<R, Msb0>(before),
+        first_wide_fault::<R, Flipped>(before),
+    ]
+}
+
+#[test]
+fn moves_at_edges_of_words_are_plain_copies(rt: HostRuntime) {
+    assert!(rt; first_wide_faults([0x12u8, 0xb4, 0x56, 0xf8]) == [None; 3]);
+    assert!(rt; first_wide_faults([0x1234u16, 0xb678, 0x9abc, 0xdef1]) == [None; 3]);
+    assert!(rt;
+        first_wide_faults([0x1234_5678u32, 0x9abc_def0, 0x5bad_c0de, 0xf00d_1ee7]) == [None; 3]
+    );
+    let before = [
+        0x1234_5678_9abc_def0u64,
+        0x0fed_cba9_8765_4321,
+        0x5bad_c0de_1337_beef,
+        0xa5f0_0d1e_e7c0_ffee,
+    ];
+    assert!(rt; first_wide_faults(before) == [None; 3]);
+    let before = [
+        0x1234_5678_9abc_def0usize,
+        0x0fed_cba9_8765_4321,
+        0x5bad_c0de_1337_beef,
+        0xa5f0_0d1e_e7c0_ffee,
+    ];
+    assert!(rt; first_wide_faults(before) == [None; 3]);
 }

@@ -1,85 +1,48 @@
-use Rattle.std.proofs.Common.{arith, rules, refl, ◌≡◌, ◌+◌, ◌-◌, ◌/◌, ◌<◌, ◌≤◌, set, length}
-use Rattle.std.proofs.lemmas.Grind.{common_steps}
+use Rattle.std.proofs.Common.{arith, ◌+◌, ◌-◌, ◌/◌, ◌<◌, refl, inl, inr}
 use Rattle.bit_addressing_memory.specs.Memory.{read_by}
-use Rattle.bit_addressing.proofs.Changes.{changed-set}
-use Rattle.bit_addressing.proofs.Sweeps.{swept_up, swept_down, moved_all, first_le_last}
-use Rattle.bit_addressing.proofs.WayLemmas.{way_up, way_down}
+use Rattle.bit_addressing_shifts.specs.declared.direction.Direction.TheVariants.{Ascending, Descending}
+use Rattle.bit_addressing.proofs.Changes.{unchanged}
+use Rattle.bit_addressing.proofs.Sweeps.{moved_all}
 use Rattle.bit_addressing.proofs.moves.move_in.Goals as goal
 
-pub up-preserved : goal.up-preserved
-up-preserved g c =
-    let b = g.R.BitRegister.BITS in
-    let reading = read_by g.R.BitRegister g.O.Positions.position in
-    let before = c.args.sweep.now.words.now in
-    let now = c.up.sweep.words.now in
-    let word = c.gathered-word.result in
-    let first = c.args.target / c.bits_of-bits.result in
-    let k = c.up.k in
-    let way = way_up c.way.result c.args.source c.args.target (cc) c.in-Up.is in
-    let is : c.put.new.self.words.now ≡ set now k word = cc in
-    let some : 0 < b = omega (arith, g.met.R.BitRegister.least_bits) in
-    let within : k < length now = grind (arith, common_steps) in
-    let order : first ≤ k = omega arith in
-    let swept =
-    swept_up reading before now c.args.source c.args.target c.args.len first k word some way within order
-    c.up.invariant.swept c.gathered-word.ensures.digits in
-    record {
-      swept = rw is swept;
-      loan = search rules;
-      way = search rules;
-      edge = grind (arith, common_steps);
-      writes = grind (arith, common_steps);
-      few_changed = grind (arith, changed-set);
-    }
+pub put_shifted-requires-clause-goes : goal.put_shifted-requires-clause-goes
+put_shifted-requires-clause-goes g c = (c.direction_of.ensures c.in-Some.direction).0 c.in-Some.is
 
-pub down-preserved : goal.down-preserved
-down-preserved g c =
+pub returns-in-Some-clause-moved : goal.returns-in-Some-clause-moved
+returns-in-Some-clause-moved g c =
     let b = g.R.BitRegister.BITS in
-    let reading = read_by g.R.BitRegister g.O.Positions.position in
-    let before = c.args.sweep.now.words.now in
-    let now = c.down.sweep.words.now in
-    let word = c.gathered-word-in-down.result in
-    let high = (c.args.target + c.args.len - 1) / c.bits_of-bits.result + 1 in
-    let k = c.down.k - 1 in
-    let way = way_down c.way.result c.args.source c.args.target (cc) c.in-Down.is in
-    let is : c.put-in-down.new.self.words.now ≡ set now k word = cc in
     let some : 0 < b = omega (arith, g.met.R.BitRegister.least_bits) in
-    let within : k < length now = grind (arith, common_steps) in
-    let next : k + 1 ≡ c.down.k = omega arith in
-    let swept =
-    swept_down reading before now c.args.source c.args.target c.args.len k c.down.k high word some way within next
-    c.down.auto.k c.down.invariant.swept c.gathered-word-in-down.ensures.digits in
-    record {
-      swept = rw is swept;
-      loan = search rules;
-      way = search rules;
-      edge = grind (arith, common_steps);
-      writes = grind (arith, common_steps);
-      low = grind (arith, common_steps);
-      few_changed = grind (arith, changed-set);
-    }
+    moved_all (read_by g.R.BitRegister g.O.Positions.position) c.args.sweep.now.words.now
+    c.put_shifted.new.sweep.words.now c.args.source c.args.target c.args.len (c.args.target / b)
+    ((c.args.target + c.args.len - 1) / b + 1) b some (omega arith) refl refl refl c.put_shifted.ensures.put.swept
 
-pub returns-after-up-clause-moved : goal.returns-after-up-clause-moved
-returns-after-up-clause-moved g c =
-    let b = g.R.BitRegister.BITS in
-    let reading = read_by g.R.BitRegister g.O.Positions.position in
-    let bits = c.bits_of-bits.result in
-    let some : 0 < b = omega (arith, g.met.R.BitRegister.least_bits) in
-    let any : 0 < c.args.len = omega arith in
-    let positive : 0 < bits = rw c.bits_of-bits.ensures some in
-    let high : c.up.k ≡ (c.args.target + c.args.len - 1) / bits + 1 =
-    omega (arith, first_le_last bits c.args.target c.args.len positive any) in
-    moved_all reading c.args.sweep.now.words.now c.up.sweep.words.now c.args.source c.args.target c.args.len
-    (c.args.target / bits) c.up.k bits some any c.bits_of-bits.ensures refl high c.up.invariant.swept
+pub returns-in-Some-clause-changed : goal.returns-in-Some-clause-changed
+returns-in-Some-clause-changed g c =
+    let number = g.R.BitRegister.number in
+    let words = c.args.sweep.now.words.now in
+    let put = c.put_shifted.ensures.put in
+    omega (arith, put.few_changed number words, put.writes, unchanged number words, c.requires.fresh.writes)
 
-pub returns-after-down-clause-moved : goal.returns-after-down-clause-moved
-returns-after-down-clause-moved g c =
+pub returns-in-None-clause-moved : goal.returns-in-None-clause-moved
+returns-in-None-clause-moved g c =
     let b = g.R.BitRegister.BITS in
-    let reading = read_by g.R.BitRegister g.O.Positions.position in
-    let bits = c.bits_of-bits.result in
     let some : 0 < b = omega (arith, g.met.R.BitRegister.least_bits) in
-    let any : 0 < c.args.len = omega arith in
-    let low : c.down.k ≡ c.args.target / bits = omega arith in
-    moved_all reading c.args.sweep.now.words.now c.down.sweep.words.now c.args.source c.args.target c.args.len
-    c.down.k ((c.args.target + c.args.len - 1) / bits + 1) bits some any c.bits_of-bits.ensures low refl
-    c.down.invariant.swept
+    moved_all (read_by g.R.BitRegister g.O.Positions.position) c.args.sweep.now.words.now
+    c.put_gathered.new.sweep.words.now c.args.source c.args.target c.args.len (c.args.target / b)
+    ((c.args.target + c.args.len - 1) / b + 1) b some (omega arith) refl refl refl c.put_gathered.ensures.swept
+
+pub returns-in-None-clause-changed : goal.returns-in-None-clause-changed
+returns-in-None-clause-changed g c =
+    let number = g.R.BitRegister.number in
+    let words = c.args.sweep.now.words.now in
+    let put = c.put_gathered.ensures in
+    omega (arith, put.few_changed number words, put.writes, unchanged number words, c.requires.fresh.writes)
+
+-- no direction was found, so there is none
+pub returns-in-None-clause-reads : goal.returns-in-None-clause-reads
+returns-in-None-clause-reads g c (inl up) =
+    let told = (c.direction_of.ensures Ascending).1 up in
+    absurd (cc)
+returns-in-None-clause-reads g c (inr down) =
+    let told = (c.direction_of.ensures Descending).1 down in
+    absurd (cc)

@@ -1,15 +1,14 @@
 //! What a runner is told to do with a window, and what it answers.
 
-ghost use Rattle.std.specs.Prelude.{◌≡◌, ◌↔◌, true, IsTrue};
-ghost use Rattle.bit_addressing.specs.Memory.{read_by};
+ghost use Rattle.std.specs.Prelude.{◌≡◌};
 ghost use Rattle.bit_slice_commands.specs.Commands.{is_in_range};
 
-use bit_addressing::{BitOrder, BitRegister};
-use bit_slice_views::{BitSlice, Bits};
+use bit_slice_views::Bits;
 
-/// What a runner does with a window. Indices are counted from the window's first bit; a right side is a window of the
-/// same words and order.
-pub enum WindowCommand<'a, T: BitRegister, O> {
+/// What a runner does with a window. Indices are counted from the window's first bit; `W` is the type of the right
+/// sides, for `run_window` a shared window of the same words and order.
+#[derive(Clone, Copy)]
+pub enum WindowCommand<W> {
     /// Makes the bit of this index the given one.
     Set(usize, bool),
     /// Makes the bit of this index the given one, and answers what it was.
@@ -28,13 +27,13 @@ pub enum WindowCommand<'a, T: BitRegister, O> {
     /// allowed.
     CopyWithin(usize, usize, usize),
     /// Makes the bits those of another window as long.
-    CopyFrom(BitSlice<'a, T, O>),
+    CopyFrom(W),
     /// Makes each bit what it and the other's bit are both; where the other window is shorter, it counts as zeros.
-    And(BitSlice<'a, T, O>),
+    And(W),
     /// Makes each bit what it or the other's bit is.
-    Or(BitSlice<'a, T, O>),
+    Or(W),
     /// Makes each bit whether it and the other's bit differ.
-    Xor(BitSlice<'a, T, O>),
+    Xor(W),
     /// Flips each bit.
     Not,
     /// Answers how many bits are 1.
@@ -44,7 +43,7 @@ pub enum WindowCommand<'a, T: BitRegister, O> {
     /// Answers the index of the last bit that is 1.
     LastOne,
     /// Answers whether the other window has the same list of bits.
-    Equal(BitSlice<'a, T, O>),
+    Equal(W),
     /// Answers the bit of this index.
     Read(usize),
 }
@@ -64,10 +63,10 @@ pub enum WindowReply {
     Refused,
 }
 
-impl<'a, T: BitRegister, O: BitOrder<T>> WindowCommand<'a, T, O> {
+impl<W: Bits> WindowCommand<W> {
     /// Whether the indices and lengths of the command are in range at a window of `len` bits.
     pub fn is_in_range(&self, len: usize) -> bool
-        ensures { result ≡ is_in_range (read_by T.BitRegister O.position) len self.now }
+        ensures { result ≡ is_in_range W.bits len self.now }
     {
         match self {
             WindowCommand::Set(i, _) | WindowCommand::Replace(i, _) | WindowCommand::Read(i) => {

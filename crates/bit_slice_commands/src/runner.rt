@@ -5,6 +5,7 @@ ghost use Rattle.std.specs.Vec.{vec_capacity, vec_len};
 ghost use Rattle.bit_addressing.specs.Memory.{read_by};
 ghost use Rattle.bit_slice_commands.specs.Commands.{is_in_range, list_after, lists_after, replies_to, reply_to};
 ghost use Rattle.bit_slice_commands.specs.Commands.{edited, told};
+ghost use Rattle.bit_slice_views.specs.View.{view_bits};
 
 use crate::command::{WindowCommand, WindowReply};
 use bit_slice_access::BitsCopy;
@@ -20,14 +21,14 @@ use std::alloc::{AllocError, Allocator};
 pub fn run_window<V: BitsMut, A: Allocator>(
     alloc: A,
     view: &mut V,
-    commands: &[WindowCommand<'_, V::Store, V::Order>],
+    commands: &[WindowCommand<BitSlice<'_, V::Store, V::Order>>],
 ) -> Result<Vec<WindowReply, A>, AllocError>
 where
     V::Order: WordPaths<V::Store>,
     ensures replies { IfOk result (λ replies. replies.items
-        ≡ replies_to (read_by V.Store.BitRegister V.Order.position) commands.now (V.bits view.old)) }
+        ≡ replies_to (view_bits (read_by V.Store.BitRegister V.Order.position)) commands.now (V.bits view.old)) }
     ensures list { IsOk result → V.bits view.new
-        ≡ lists_after (read_by V.Store.BitRegister V.Order.position) commands.now (V.bits view.old) }
+        ≡ lists_after (view_bits (read_by V.Store.BitRegister V.Order.position)) commands.now (V.bits view.old) }
     ensures none { commands.now ≡ [] → IsOk result }
     ensures refused { IsErr result → view.new ≡ view.old }
     ensures len { length (V.bits view.new) ≡ length (V.bits view.old) }
@@ -42,13 +43,16 @@ where
 
 // Carries one command out, or refuses it.
 #[tactic(auto, unfolding(crate::specs::Commands::list_after, crate::specs::Commands::reply_to))]
-fn run_one<V: BitsMut>(view: &mut V, command: &WindowCommand<'_, V::Store, V::Order>) -> WindowReply
+fn run_one<V: BitsMut>(
+    view: &mut V,
+    command: &WindowCommand<BitSlice<'_, V::Store, V::Order>>,
+) -> WindowReply
 where
     V::Order: WordPaths<V::Store>,
     ensures list { V.bits view.new
-        ≡ list_after (read_by V.Store.BitRegister V.Order.position) command.now (V.bits view.old) }
+        ≡ list_after (view_bits (read_by V.Store.BitRegister V.Order.position)) command.now (V.bits view.old) }
     ensures reply { result
-        ≡ reply_to (read_by V.Store.BitRegister V.Order.position) command.now (V.bits view.old) }
+        ≡ reply_to (view_bits (read_by V.Store.BitRegister V.Order.position)) command.now (V.bits view.old) }
     ensures len { length (V.bits view.new) ≡ length (V.bits view.old) }
     ensures frame { V.frame view.new ≡ V.frame view.old }
 {
@@ -61,15 +65,15 @@ where
 // Carries one command out that is in range.
 fn carry_out<V: BitsMut>(
     view: &mut V,
-    command: &WindowCommand<'_, V::Store, V::Order>,
+    command: &WindowCommand<BitSlice<'_, V::Store, V::Order>>,
 ) -> WindowReply
 where
     V::Order: WordPaths<V::Store>,
-    requires { is_in_range (read_by V.Store.BitRegister V.Order.position) (length (V.bits view.old)) command.now
+    requires { is_in_range (view_bits (read_by V.Store.BitRegister V.Order.position)) (length (V.bits view.old)) command.now
         ≡ true }
     ensures list { V.bits view.new
-        ≡ edited (read_by V.Store.BitRegister V.Order.position) command.now (V.bits view.old) }
-    ensures reply { result ≡ told (read_by V.Store.BitRegister V.Order.position) command.now (V.bits view.old) }
+        ≡ edited (view_bits (read_by V.Store.BitRegister V.Order.position)) command.now (V.bits view.old) }
+    ensures reply { result ≡ told (view_bits (read_by V.Store.BitRegister V.Order.position)) command.now (V.bits view.old) }
     ensures len { length (V.bits view.new) ≡ length (V.bits view.old) }
     ensures frame { V.frame view.new ≡ V.frame view.old }
 {

@@ -56,6 +56,7 @@ impl<'a, T: BitRegister, O: BitOrder<T>> BitSlice<'a, T, O> {
         requires { length words.now * T.BITS ≤ MAX_BITS }
         ensures bits { view_bits (read_by T.BitRegister O.position) result
             ≡ memory (read_by T.BitRegister O.position) words.now }
+        ensures len { length (view_bits (read_by T.BitRegister O.position) result) ≡ length words.now * T.BITS }
         ensures words { view_words result ≡ words.now }
         ensures head { view_head result ≡ 0 }
     {
@@ -69,6 +70,8 @@ impl<'a, T: BitRegister, O: BitOrder<T>> BitSlice<'a, T, O> {
         ensures variant { IsOk result ↔ (length words.now * T.BITS ≤ MAX_BITS) }
         ensures bits { IfOk result (λ view. view_bits (read_by T.BitRegister O.position) view
             ≡ memory (read_by T.BitRegister O.position) words.now) }
+        ensures len { IfOk result (λ view. length (view_bits (read_by T.BitRegister O.position) view)
+            ≡ length words.now * T.BITS) }
         ensures words { IfOk result (λ view. view_words view ≡ words.now) }
         ensures head { IfOk result (λ view. view_head view ≡ 0) }
         ensures err { IfErr result (λ error. error ≡ TooLong (min (length words.now * T.BITS) (2 ^ 64 - 1))) }

@@ -59,6 +59,7 @@ impl<'a, T: BitRegister, O: BitOrder<T>> BitSlice<'a, T, O> {
         requires { length words.now * T.BITS ≤ MAX_BITS }
         ensures bits { view_bits (read_by T.BitRegister O.position) result
             ≡ memory (read_by T.BitRegister O.position) words.now }
+        ensures len { length (view_bits (read_by T.BitRegister O.position) result) ≡ length words.now * T.BITS }
         ensures words { view_words result ≡ words.now }
         ensures head { view_head result ≡ 0 }
     {

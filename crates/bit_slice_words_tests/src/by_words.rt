@@ -1,14 +1,9 @@
-//! The words of a window, its cut at their borders, two windows of separate words, and a sweep.
+//! The words of a window, its cut at their borders, and two windows of separate words.
 
-ghost use Rattle.std.specs.Prelude.{◌≡◌, ◌≤◌, length};
-ghost use Rattle.bit_addressing.specs.Sweep.{IsFresh, sweep_lender, sweep_words};
-ghost use Rattle.bit_addressing.specs.declared.sweep.Way.TheVariants.{Up};
-
-use bit_addressing::{Lsb0, Msb0, Sweep, Way};
+use bit_addressing::{Lsb0, Msb0};
 use bit_slice_domains::BitsDomains;
 use bit_slice_samples::word_callers::{clear_first_word, mark_parts, swap_halves};
-use bit_slice_views::Bits;
-use bit_slice_writes::{BitSliceMut, BitsMut};
+use bit_slice_writes::BitSliceMut;
 use std::process::Abort;
 
 #[test]
@@ -46,22 +41,4 @@ fn halves_are_exchanged(rt: HostRuntime) {
     let mut words = [1u16, 2, 3, 4];
     swap_halves::<u16, Msb0>(&mut words, 2);
     assert!(rt; words == [3, 4, 1, 2]);
-}
-
-// Puts one word of a sweep.
-fn put_first(sweep: &mut Sweep<'_, u8>)
-    requires some { 1 ≤ length (sweep_words sweep.old) }
-    requires fresh { IsFresh sweep.old Up }
-    ensures lender { sweep_lender sweep.new ≡ sweep_lender sweep.old }
-    ensures len { length (sweep_words sweep.new) ≡ length (sweep_words sweep.old) }
-{
-    sweep.put(0, 0x42);
-}
-
-#[test]
-fn the_words_of_a_window_are_swept(rt: HostRuntime) {
-    let mut words = [0u8; 4];
-    BitSliceMut::<u8, Lsb0>::from_place_mut(&mut words, 9, 10)
-        .sweep(Way::Up, |sweep| put_first(sweep));
-    assert!(rt; words == [0x00, 0x42, 0x00, 0x00]);
 }

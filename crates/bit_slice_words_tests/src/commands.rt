@@ -7,7 +7,7 @@ use bit_slice_writes::BitSliceMut;
 use std::alloc::AllocError;
 use std::process::Abort;
 
-type Command<'a> = WindowCommand<'a, u8, Lsb0>;
+type Command<'a> = WindowCommand<BitSlice<'a, u8, Lsb0>>;
 
 // The replies to commands at the 8 bits from place 4 on of two bytes.
 fn replies_at(

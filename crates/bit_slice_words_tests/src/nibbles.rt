@@ -1,8 +1,8 @@
 //! Four nibbles packed into two bytes: as a newcomer would write it.
 
+use bit_addressing::Lsb0;
 use bit_slice_views::*;
 use bit_slice_writes::*;
-use bit_addressing::Lsb0;
 use std::alloc::AllocError;
 use std::process::Abort;
 
@@ -13,7 +13,10 @@ fn four_nibbles_are_packed(rt: HostRuntime) -> Result<(), AllocError> {
     let mut bits = BitSliceMut::<u8, Lsb0>::from_slice_mut(&mut bytes);
     for k in 0..4 {
         for i in 0..4 {
-            bits.set(4 * k + i, nibbles[k] >> i & 1 == 1);
+            let place = 4 * k + i;
+            if place < bits.len() {
+                bits.set(place, nibbles[k] >> i & 1 == 1);
+            }
         }
     }
     let text = format!(in rt.alloc(); "{bits}")?;

@@ -22,7 +22,9 @@ fn lists_are_compared_wherever_they_lie(rt: HostRuntime) {
     let others = [0b0000_1101u8];
     let left = BitSlice::<u8, Lsb0>::from_parts(&words, 3, 4);
     let right = BitSlice::<u8, Lsb0>::from_parts(&others, 0, 4);
-    assert!(rt; left == right && left.cmp(&right) == Ordering::Equal && hashed(&left) == hashed(&right));
+    assert!(rt;
+        left == right && left.cmp(&right) == Ordering::Equal && hashed(&left) == hashed(&right)
+    );
     let longer = BitSlice::<u8, Lsb0>::from_parts(&others, 0, 5);
     assert!(rt; left != longer && left < longer && longer > right);
     assert!(rt; hashed(&left) != hashed(&longer));
@@ -34,7 +36,9 @@ fn writable_windows_are_compared(rt: HostRuntime) {
     let mut others = [0b0000_1101u8];
     let left = BitSliceMut::<u8, Lsb0>::from_place_mut(&mut words, 3, 4);
     let right = BitSliceMut::<u8, Lsb0>::from_place_mut(&mut others, 0, 4);
-    assert!(rt; left == right && left.cmp(&right) == Ordering::Equal && hashed(&left) == hashed(&right));
+    assert!(rt;
+        left == right && left.cmp(&right) == Ordering::Equal && hashed(&left) == hashed(&right)
+    );
     assert!(rt; left.partial_cmp(&right) == Some(Ordering::Equal) && left[0] && !left[1]);
 }
 
@@ -71,10 +75,22 @@ fn writable_windows_are_read_in_parts(rt: HostRuntime) {
     assert!(rt; bits.get(1..=2).is_some_and(|part| part.all()) && bits.part(8, 4).all());
     let (front, back) = bits.split_at(8);
     assert!(rt; front.count_ones() == 4 && back.leading_ones() == 4);
-    assert!(rt; bits.split_first().is_some_and(|parts| !*parts.0 && parts.1.len() == 15));
-    assert!(rt; bits.split_last().is_some_and(|parts| !*parts.0 && parts.1.len() == 15));
-    assert!(rt; bits.strip_prefix(&front).is_some_and(|rest| rest.eq_bits(&back)));
-    assert!(rt; bits.strip_suffix(&back).is_some_and(|rest| rest.eq_bits(&front)));
+    assert!(rt;
+        bits.split_first()
+            .is_some_and(|parts| !*parts.0 && parts.1.len() == 15)
+    );
+    assert!(rt;
+        bits.split_last()
+            .is_some_and(|parts| !*parts.0 && parts.1.len() == 15)
+    );
+    assert!(rt;
+        bits.strip_prefix(&front)
+            .is_some_and(|rest| rest.eq_bits(&back))
+    );
+    assert!(rt;
+        bits.strip_suffix(&back)
+            .is_some_and(|rest| rest.eq_bits(&front))
+    );
     assert!(rt; bits.bit_domain().enclave().is_none());
 }
 

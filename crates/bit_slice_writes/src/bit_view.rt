@@ -19,6 +19,8 @@ pub trait BitView: BitViewSized {
         requires { Self.COUNT * Self.Store.BITS ≤ MAX_BITS }
         ensures bits { view_bits (read_by Self.Store.BitRegister O.position) result
             ≡ memory (read_by Self.Store.BitRegister O.position) (Self.words self.now) }
+        ensures len { length (view_bits (read_by Self.Store.BitRegister O.position) result)
+            ≡ Self.COUNT * Self.Store.BITS }
         ensures words { view_words result ≡ Self.words self.now }
         ensures head { view_head result ≡ 0 }
     {

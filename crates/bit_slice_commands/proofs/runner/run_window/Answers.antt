@@ -1,6 +1,7 @@
 use Rattle.std.proofs.Common.{◌≡◌, ◌+◌, ◌<◌, ◌≤◌, ◌++◌, ℕ, List, [], ◌∷◌, take, length, refl, sym, ap, ◌∙◌, arith, rules}
 use Rattle.std.proofs.lemmas.List.{take_more, take_all}
 use Rattle.bit_addressing.specs.Memory.{read_by}
+use Rattle.bit_slice_views.specs.View.{view_bits}
 use Rattle.bit_slice_commands.specs.Commands.{list_after, lists_after, replies_to, reply_to}
 use Rattle.bit_slice_commands.proofs.RunLemmas.{lists_more, replies_more}
 use Rattle.bit_slice_commands.proofs.runner.run_window.Goals as goal
@@ -13,7 +14,7 @@ loop-command-init g c =
 
 pub loop-command-preserved : goal.loop-command-preserved
 loop-command-preserved g c =
-    let reading = read_by g.V.Store.BitRegister g.V.Order.Positions.position in
+    let bits_of = view_bits (read_by g.V.Store.BitRegister g.V.Order.Positions.position) in
     let k : ℕ = c.loop-command.command-index in
     let commands = c.args.commands.now in
     let bits = g.V.Bits.bits c.args.view.now in
@@ -25,12 +26,12 @@ loop-command-preserved g c =
     let ran = c.run_one.ensures in
     let pushed = c.push_reserved.ensures in
     rw more (
-      ran.list ∙ ap (list_after reading item.result) was.0
-          ∙ sym (lists_more reading (take k commands) item.result bits),
+      ran.list ∙ ap (list_after bits_of item.result) was.0
+          ∙ sym (lists_more bits_of (take k commands) item.result bits),
       pushed.items ∙ ap (λ replies. replies ++ c.run_one.result ∷ []) was.1
-          ∙ ap (λ reply. replies_to reading (take k commands) bits ++ reply ∷ [])
-          (ran.reply ∙ ap (reply_to reading item.result) was.0)
-          ∙ sym (replies_more reading (take k commands) item.result bits),
+          ∙ ap (λ reply. replies_to bits_of (take k commands) bits ++ reply ∷ [])
+          (ran.reply ∙ ap (reply_to bits_of item.result) was.0)
+          ∙ sym (replies_more bits_of (take k commands) item.result bits),
       ran.len ∙ was.2,
       ran.frame ∙ was.3,
       omega arith,

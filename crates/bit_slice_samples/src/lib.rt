@@ -2,3 +2,4 @@
 #![tactic(auto)]
 
 pub mod callers;
+pub mod pieces;

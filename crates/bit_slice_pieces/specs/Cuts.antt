@@ -1,7 +1,7 @@
 -- Lists cut into pieces.
 --
--- A way to cut: `Cut`, and `forward`, `forward_exact`, `backward`, `backward_exact`, `sliding`. Pieces of a list:
--- `some_pieces`, `pieces_of`, and each kind by its name, `chunks`, `chunks_exact`, `rchunks`, `rchunks_exact`, `windows`.
+-- A way to cut: `Cut`, and `forward`, `forward_exact`, `backward`, `backward_exact`, `sliding`, `single`. Pieces of a
+-- list: `some_pieces`, `pieces_of`, and each kind by its name, `chunks`, `chunks_exact`, `rchunks`, `rchunks_exact`, `windows`.
 -- What an iterator has left: `PiecesLeft`.
 use Rattle.std.specs.Prelude.{ℕ, ◌+◌, ◌-◌, ◌*◌, ◌/◌, Bool, List, length, map, min}
 use Rattle.std.specs.Int.{div_ceil}
@@ -33,6 +33,10 @@ backward_exact = record { count = λ n k. n / k; start = λ n k j. n - j * k - k
 -- from each bit on, whole pieces alone
 abbrev pub sliding : Cut
 sliding = record { count = λ n k. n + 1 - k; start = λ n k j. j; size = λ n k j. k }
+
+-- each bit alone, whatever the size
+abbrev pub single : Cut
+single = record { count = λ n k. n; start = λ n k j. j; size = λ n k j. 1 }
 
 -- m of the pieces of a list that is cut so by a size k, from piece j on
 abbrev pub some_pieces : Cut → List Bool → ℕ → ℕ → ℕ → List (List Bool)

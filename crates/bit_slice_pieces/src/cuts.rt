@@ -3,7 +3,7 @@
 ghost use Rattle.std.specs.Prelude.{◌≡◌, ℕ, ◌+◌, ◌-◌, ◌*◌, ◌/◌, ◌%◌, ◌<◌, ◌≤◌, min};
 ghost use Rattle.std.specs.Int.{div_ceil};
 ghost use Rattle.bit_slice_pieces.specs.Cuts.{Cut};
-ghost use Rattle.bit_slice_pieces.specs.Cuts.{forward, forward_exact, backward, backward_exact, sliding};
+ghost use Rattle.bit_slice_pieces.specs.Cuts.{forward, forward_exact, backward, backward_exact, sliding, single};
 
 /// A way to cut a list by a size into pieces: each kind of pieces is one.
 pub trait Cuts {
@@ -130,5 +130,20 @@ impl Cuts for Sliding {
 
     fn piece(_len: usize, by: usize, j: usize) -> (usize, usize) {
         (j, by)
+    }
+}
+
+/// Each element alone, whatever the size.
+pub struct Single;
+
+impl Cuts for Single {
+    ghost cut = { single };
+
+    fn count(len: usize, _by: usize) -> usize {
+        len
+    }
+
+    fn piece(_len: usize, _by: usize, j: usize) -> (usize, usize) {
+        (j, 1)
     }
 }

@@ -6,5 +6,5 @@ mod cuts;
 mod pieces;
 
 pub use calls::BitsPieces;
-pub use cuts::{Backward, BackwardExact, Cuts, ExactCuts, Forward, ForwardExact, Sliding};
+pub use cuts::{Backward, BackwardExact, Cuts, ExactCuts, Forward, ForwardExact, Single, Sliding};
 pub use pieces::{Chunks, ChunksExact, Pieces, RChunks, RChunksExact, Windows};

@@ -25,3 +25,10 @@ abbrev pub LendsRest : (V C S O : RattleType) → MutBor (PiecesMut V.Denot C.De
 LendsRest V C S O p r =
     Lends (pieces.the_row (record { mir = named 1; lft = [] }) V C S O) V p r
     (λ w. record p.now { of = record p.now.of { now = w }; taken = true })
+
+-- the same of all that was not lent yet, which is left to be lent
+abbrev pub LendsLeft : (V C S O : RattleType) → MutBor (PiecesMut V.Denot C.Denot S.Denot O.Denot)
+    → MutBor V.Denot → Fml
+LendsLeft V C S O p r =
+    Lends (pieces.the_row (record { mir = named 1; lft = [] }) V C S O) V p r
+    (λ w. record p.now { of = record p.now.of { now = w } })

@@ -2,9 +2,10 @@
 
 ghost use Rattle.std.specs.Prelude.{◌≡◌, ◌<◌};
 ghost use Rattle.bit_addressing.specs.Memory.{read_by};
-ghost use Rattle.bit_slice_pieces.specs.Cuts.{forward, forward_exact, backward, backward_exact};
+ghost use Rattle.bit_slice_pieces.specs.Cuts.{forward, forward_exact, backward, backward_exact, single};
 ghost use Rattle.bit_slice_pieces_mut.specs.PiecesMut.{pieces_loan, CutsAll};
 
+use crate::iter_mut::IterMut;
 use crate::pieces_mut::{ChunksExactMut, ChunksMut, RChunksExactMut, RChunksMut};
 use bit_slice_writes::BitsMut;
 
@@ -53,6 +54,15 @@ pub trait BitsPiecesMut: BitsMut {
             Self.bits Self.frame backward_exact self.old size result }
     {
         RChunksExactMut::new(self, size)
+    }
+
+    /// The bits, lent one at a time, each as a window of one bit.
+    final fn iter_mut(&mut self) -> IterMut<'_, Self>
+        ensures same_reference { pieces_loan result ≡ self.entry.ghost_name }
+        ensures cuts { CutsAll (read_by Self.Store.BitRegister Self.Order.position) Self.lender Self.words Self.place
+            Self.bits Self.frame single self.old 1 result }
+    {
+        IterMut::new(self, 1)
     }
 }
 

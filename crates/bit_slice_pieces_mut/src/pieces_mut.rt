@@ -22,14 +22,14 @@ use std::marker::PhantomData;
 ///
 /// Between two loans the window shows the piece that was lent last; when this ends, it shows all its bits again.
 pub struct PiecesMut<'s, V: BitsMut, C: Cuts> {
-    of: &'s mut V,
-    head: usize,
-    len: usize,
-    by: usize,
-    front: usize,
-    back: usize,
-    taken: bool,
-    cuts: PhantomData<C>,
+    pub(crate) of: &'s mut V,
+    pub(crate) head: usize,
+    pub(crate) len: usize,
+    pub(crate) by: usize,
+    pub(crate) front: usize,
+    pub(crate) back: usize,
+    pub(crate) taken: bool,
+    pub(crate) cuts: PhantomData<C>,
 }
 
 /// Pieces from the front on, the last of which may be shorter.
@@ -162,6 +162,32 @@ impl<'s, V: BitsMut, C: Cuts> PiecesMut<'s, V, C> {
         show_part(self.of, head, len, start, size);
         Some(&mut *self.of)
     }
+
+    // `count` bits of the window from bit `from` on, for as long as the window is lent.
+    pub(crate) fn into_part(self, from: usize, count: usize) -> Part<'s, V>
+        requires inside { from + count ≤ pieces_len self }
+        requires fits { pieces_place self + pieces_len self ≤ length (V.words (pieces_view self)) * V.Store.BITS }
+        requires short { pieces_len self ≤ MAX_BITS }
+        requires small { pieces_place self + pieces_len self < 2 ^ 63 }
+        ensures same_reference { part_loan result ≡ pieces_loan self.entry }
+        ensures shows { IsRest (read_by V.Store.BitRegister V.Order.position) V.lender V.words V.place V.bits
+            (pieces_whole (read_by V.Store.BitRegister V.Order.position) V.words self.entry)
+            (pieces_around (read_by V.Store.BitRegister V.Order.position) V.lender V.words self.entry)
+            from count result }
+    {
+        let PiecesMut {
+            of,
+            head,
+            len,
+            by: _,
+            front: _,
+            back: _,
+            taken: _,
+            cuts: _,
+        } = self;
+        of.show(head, len);
+        Part::new(of, from, count)
+    }
 }
 
 impl<'s, V: BitsMut, C: ExactCuts> PiecesMut<'s, V, C> {
@@ -206,18 +232,9 @@ impl<'s, V: BitsMut, C: ExactCuts> PiecesMut<'s, V, C> {
             (C.rest (pieces_len self.entry) (pieces_size self.entry))
             (rest_left (pieces_taken self.entry) (pieces_len self.entry % pieces_size self.entry)) result }
     {
-        let PiecesMut {
-            of,
-            head,
-            len,
-            by,
-            front: _,
-            back: _,
-            taken,
-            cuts: _,
-        } = self;
-        of.show(head, len);
-        Part::new(of, C::rest_start(len, by), rest_of(taken, len, by))
+        let start = C::rest_start(self.len, self.by);
+        let size = rest_of(self.taken, self.len, self.by);
+        self.into_part(start, size)
     }
 }
 
@@ -231,7 +248,7 @@ fn rest_of(taken: bool, len: usize, by: usize) -> usize
 
 // Makes a window of `len` bits from the place `head` on show `size` of them, from bit `start` on.
 #[tactic(auto, using(crate::proofs::PartLemmas::part_bits))]
-fn show_part<V: BitsMut>(of: &mut V, head: usize, len: usize, start: usize, size: usize)
+pub(crate) fn show_part<V: BitsMut>(of: &mut V, head: usize, len: usize, start: usize, size: usize)
     requires inside { start + size ≤ len }
     requires fits { head + len ≤ length (V.words of.old) * V.Store.BITS }
     requires short { len ≤ MAX_BITS }

@@ -1,4 +1,4 @@
-//! The tests of pieces of windows: to read and to write, by each kind and size, from both ends.
+//! The tests of pieces of windows, of iterators over their bits and of splits, from both ends.
 #![tactic(auto)]
 
 #[cfg(test)]
@@ -6,4 +6,8 @@ mod chunks;
 #[cfg(test)]
 mod chunks_mut;
 #[cfg(test)]
+mod iterators;
+#[cfg(test)]
 mod list;
+#[cfg(test)]
+mod splits;

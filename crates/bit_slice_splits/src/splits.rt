@@ -41,9 +41,9 @@ impl<'a, T: BitRegister, O: BitOrder<T>, F, A: Way, B: Way> Model for Splits<'a,
     ghost Value = { SplitLeft F };
 
     ghost view = { λ splits. record {
-        bits = view_bits (read_by T.BitRegister O.position) splits.view;
-        callee = splits.f;
-        done = splits.done;
+      bits = view_bits (read_by T.BitRegister O.position) splits.view;
+      callee = splits.f;
+      done = splits.done;
     } };
 }
 
@@ -74,9 +74,14 @@ impl<'a, T: BitRegister, O: BitOrder<T>, F, A: Way, B: Way> Splits<'a, T, O, F, 
     }
 }
 
-impl<'a, T: BitRegister + 'a, O: BitOrder<T>, F: FnMut(usize, &bool) -> bool + Drop, A: Way, B: Way> Iterator
-    for Splits<'a, T, O, F, A, B>
-{
+impl<
+    'a,
+    T: BitRegister + 'a,
+    O: BitOrder<T>,
+    F: FnMut(usize, &bool) -> bool + Drop,
+    A: Way,
+    B: Way,
+> Iterator for Splits<'a, T, O, F, A, B> {
     type Item = BitSlice<'a, T, O>;
 
     ghost can_next = { λ splits. F.IsAlwaysCallable splits.callee };
@@ -102,9 +107,14 @@ impl<'a, T: BitRegister + 'a, O: BitOrder<T>, F: FnMut(usize, &bool) -> bool + D
     }
 }
 
-impl<'a, T: BitRegister + 'a, O: BitOrder<T>, F: FnMut(usize, &bool) -> bool + Drop, A: Way, B: Way> DoubleEndedIterator
-    for Splits<'a, T, O, F, A, B>
-{
+impl<
+    'a,
+    T: BitRegister + 'a,
+    O: BitOrder<T>,
+    F: FnMut(usize, &bool) -> bool + Drop,
+    A: Way,
+    B: Way,
+> DoubleEndedIterator for Splits<'a, T, O, F, A, B> {
     ghost can_next_back = { λ splits. F.IsAlwaysCallable splits.callee };
 
     ghost next_back_gives = { GivesPart (view_bits (read_by T.BitRegister O.position)) (Parts B.way F.FnMut) };

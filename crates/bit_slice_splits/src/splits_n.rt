@@ -51,9 +51,13 @@ impl<'a, T: BitRegister, O: BitOrder<T>, F, A: Way> SplitsN<'a, T, O, F, A> {
     }
 }
 
-impl<'a, T: BitRegister + 'a, O: BitOrder<T>, F: FnMut(usize, &bool) -> bool + Drop, A: Way> Iterator
-    for SplitsN<'a, T, O, F, A>
-{
+impl<
+    'a,
+    T: BitRegister + 'a,
+    O: BitOrder<T>,
+    F: FnMut(usize, &bool) -> bool + Drop,
+    A: Way,
+> Iterator for SplitsN<'a, T, O, F, A> {
     type Item = BitSlice<'a, T, O>;
 
     ghost can_next = { λ splits. F.IsAlwaysCallable splits.parts.callee };
@@ -63,11 +67,12 @@ impl<'a, T: BitRegister + 'a, O: BitOrder<T>, F: FnMut(usize, &bool) -> bool + D
     ghost remaining = { λ splits. at_most splits.count };
 
     fn next(&mut self) -> Option<BitSlice<'a, T, O>> {
-        if self.count == 0 {
+        let count = self.count;
+        if count == 0 {
             return None;
         }
-        self.count -= 1;
-        if self.count == 0 {
+        self.count = count - 1;
+        if count == 1 {
             self.parts.finish()
         } else {
             self.parts.next()

@@ -1,8 +1,8 @@
-use Rattle.std.proofs.Common.{◌≡◌, ◌<◌, ◌≤◌, ◌+◌, length, arith, refl, get_or, false, true, ℕ, nat_lt, subst, ap, ◌∙◌}
+use Rattle.std.proofs.Common.{◌≡◌, ◌<◌, length, arith, refl, get_or, false, ℕ, subst, ap, ◌∙◌}
 use Rattle.std.specs.List.{FoldsTo, range_with_len}
 use borrow.Author.Rules.{of_calls}
 use Rattle.std.proofs.lemmas.Bool.{lt-ltb}
-use Rattle.bit_slice_splits.specs.Ways.{Asked, Asks}
+use Rattle.bit_slice_splits.specs.Ways.{Asked}
 use Rattle.bit_slice_splits.proofs.AskLemmas.{asked_more, not_below}
 use Rattle.bit_slice_splits.proofs.search.asked_in.Goals as goal
 

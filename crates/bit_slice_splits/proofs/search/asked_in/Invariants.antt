@@ -1,4 +1,4 @@
-use Rattle.std.proofs.Common.{◌≡◌, get_or, length, false}
+use Rattle.std.proofs.Common.{get_or, length, false}
 use denote.Param.Always.{always_mut}
 use Rattle.std.specs.List.{FoldsTo, range_with_len}
 use Rattle.bit_slice_splits.specs.Ways.{Asked}

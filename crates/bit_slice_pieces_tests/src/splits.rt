@@ -6,9 +6,7 @@ use bit_slice_views::{BitSlice, Bits};
 
 // A part as a number, its first bit in front, behind a one that tells its length; 0 of none.
 fn row(part: Option<BitSlice<'_, u8, Lsb0>>) -> u32 {
-    let Some(part) = part else {
-        return 0
-    };
+    let Some(part) = part else { return 0 };
     let mut digits = 1u32;
     for i in 0..part.len() {
         digits = (digits << 1) | part.bit(i) as u32;
@@ -48,7 +46,9 @@ fn six_bits_are_split_behind_ones(rt: HostRuntime) {
     // a part that ends with a one is not followed by an empty one
     let five = BitSlice::<u8, Lsb0>::from_place(&words, 0, 5);
     let mut parts = five.split_inclusive(|_i, bit| *bit);
-    assert!(rt; row(parts.next()) == 0b101 && row(parts.next()) == 0b1001 && row(parts.next()) == 0);
+    assert!(rt;
+        row(parts.next()) == 0b101 && row(parts.next()) == 0b1001 && row(parts.next()) == 0
+    );
 }
 
 #[test]
@@ -57,7 +57,9 @@ fn a_split_counts_from_each_part(rt: HostRuntime) {
     let words = [0x1fu8];
     let view = BitSlice::<u8, Lsb0>::from_place(&words, 0, 5);
     let mut parts = view.split(|i, _bit| i == 1);
-    assert!(rt; row(parts.next()) == 0b11 && row(parts.next()) == 0b11 && row(parts.next()) == 0b11);
+    assert!(rt;
+        row(parts.next()) == 0b11 && row(parts.next()) == 0b11 && row(parts.next()) == 0b11
+    );
     assert!(rt; row(parts.next()) == 0);
 }
 

@@ -6,8 +6,8 @@ ghost use Rattle.bit_slice_splits.specs.Ways.{Asks};
 use crate::ways::Way;
 use bit_slice_views::Bits;
 
-// How many times the predicate answers false, asked of one index after another, before it answers true or none is left.
-pub(crate) fn asked_in<V: Bits, F: FnMut(usize, &bool) -> bool, W: Way>(
+/// How many times the predicate answers false, asked of one index after another, before it answers true or none is left.
+pub fn asked_in<V: Bits, F: FnMut(usize, &bool) -> bool, W: Way>(
     view: &V,
     f: &mut F,
 ) -> usize

@@ -1,0 +1,131 @@
+//! The parts of a writable window between the places where a predicate answers true, of which one is lent at a time.
+
+ghost use Rattle.std.specs.Prelude.{◌≡◌, ◌+◌, ◌*◌, ◌<◌, ◌≤◌, ◌^◌, ◌↔◌, length, true, false, IsTrue};
+ghost use Rattle.std.specs.Borrow.{sem};
+ghost use Rattle.bit_addressing.specs.Memory.{memory, piece, read_by};
+ghost use Rattle.bit_addressing_span.specs.declared.span.TheConstants.{MAX_BITS};
+ghost use Rattle.bit_slice_splits.specs.Ways.{Parts};
+ghost use Rattle.bit_slice_splits_mut.specs.Lending.{LendsPart};
+ghost use Rattle.bit_slice_splits_mut.specs.SplitsMut.{parts_around, parts_found_len, parts_found_start, parts_left};
+ghost use Rattle.bit_slice_splits_mut.specs.SplitsMut.{parts_callee, PartsBy};
+ghost use Rattle.bit_slice_splits_mut.specs.SplitsMut.{parts_len, parts_loan, parts_place, parts_view, parts_whole};
+ghost use Rattle.bit_slice_splits_mut.specs.SplitsMut.{KeepsWindow, LiesIn};
+
+use bit_addressing::BitRegister;
+use bit_slice_splits::{FromBack, FromFront, InclusiveBack, InclusiveFront, Parting, Way, asked_in};
+use bit_slice_views::Bits;
+use bit_slice_writes::BitsMut;
+use std::marker::PhantomData;
+
+/// The parts of a writable window that were not lent yet: `seek` looks for the next one, and `part_mut` lends it.
+///
+/// When this ends, the window shows all its bits again.
+pub struct SplitsMut<'s, V: BitsMut, F: Drop, A: Way, B: Way> {
+    of: &'s mut V,
+    head: usize,
+    len: usize,
+    from: usize,
+    count: usize,
+    start: usize,
+    size: usize,
+    f: F,
+    done: bool,
+    ways: PhantomData<(A, B)>,
+}
+
+/// The parts between the places where the predicate answers true.
+pub type SplitMut<'s, V, F> = SplitsMut<'s, V, F, FromFront, FromBack>;
+
+/// The same from the back on.
+pub type RSplitMut<'s, V, F> = SplitsMut<'s, V, F, FromBack, FromFront>;
+
+/// The parts that end with the bit where the predicate answers true.
+pub type SplitInclusiveMut<'s, V, F> = SplitsMut<'s, V, F, InclusiveFront, InclusiveBack>;
+
+#[tactic(auto, using(bit_slice_access::proofs::PartLemmas::shows_all, bit_slice_access::proofs::PartLemmas::framed_all))]
+impl<V: BitsMut, F: Drop, A: Way, B: Way> Drop for SplitsMut<'_, V, F, A, B> {
+    fn drop(self)
+        requires fits { self.head + self.len ≤ length (V.words self.of.now) * V.Store.BITS }
+        requires short { self.len ≤ MAX_BITS }
+        requires small { self.head + self.len < 2 ^ 63 }
+        ensures bits { V.bits self.exit.0.now
+            ≡ parts_whole (read_by V.Store.BitRegister V.Order.position) V.words self.entry }
+        ensures frame { V.frame self.exit.0.now
+            ≡ parts_around (read_by V.Store.BitRegister V.Order.position) V.lender V.words self.entry }
+    {
+        let SplitsMut {
+            of,
+            head,
+            len,
+            from: _,
+            count: _,
+            start: _,
+            size: _,
+            f: _,
+            done: _,
+            ways: _,
+        } = self;
+        of.show(head, len);
+    }
+}
+
+impl<'s, V: BitsMut, F: FnMut(usize, &bool) -> bool + Drop, A: Way, B: Way> SplitsMut<'s, V, F, A, B> {
+    // ---- look for
+
+    /// Looks for the next part from the front, and tells whether there is one. What was found is lent by `part_mut`.
+    pub fn seek(&mut self) -> bool
+        requires callable { F.IsAlwaysCallable (parts_callee self.old) }
+        requires lies { LiesIn V.Store.BITS V.words self.old }
+        ensures found { IsTrue result
+            ↔ ((parts_left (read_by V.Store.BitRegister V.Order.position) V.words self.old).done ≡ false) }
+        ensures parts { IsTrue result → Parts A.way F.FnMut
+            (parts_left (read_by V.Store.BitRegister V.Order.position) V.words self.old)
+            (piece (parts_whole (read_by V.Store.BitRegister V.Order.position) V.words self.old)
+            (parts_found_start self.new) (parts_found_len self.new))
+            (parts_left (read_by V.Store.BitRegister V.Order.position) V.words self.new) }
+        ensures keeps { KeepsWindow V.lender V.words self.old self.new }
+        ensures callable_still { F.IsAlwaysCallable (parts_callee self.new) }
+        ensures lies_still { LiesIn V.Store.BITS V.words self.new }
+    {
+        if self.done {
+            return false;
+        }
+        let from = self.from;
+        let part = parted::<V, F, A>(self.of, &mut self.f, self.head, self.len, from, self.count);
+        self.start = from + part.start;
+        self.size = part.len;
+        self.from = from + part.rest;
+        self.count = part.rest_len;
+        self.done = part.last;
+        true
+    }
+}
+
+// The window made to show what is left to be split, and the part that comes off.
+#[tactic(auto, using(bit_slice_pieces_mut::proofs::PartLemmas::part_bits))]
+fn parted<V: BitsMut, F: FnMut(usize, &bool) -> bool, W: Way>(
+    of: &mut V,
+    f: &mut F,
+    head: usize,
+    len: usize,
+    from: usize,
+    count: usize,
+) -> Parting
+    requires callable { F.IsAlwaysCallable f.old }
+    requires inside { from + count ≤ len }
+    requires fits { head + len ≤ length (V.words of.old) * V.Store.BITS }
+    requires short { len ≤ MAX_BITS }
+    requires small { head + len < 2 ^ 63 }
+    ensures parts { PartsBy W.way F.FnMut
+        (piece (piece (memory (read_by V.Store.BitRegister V.Order.position) (V.words of.old)) head len) from count)
+        f.old result.start result.len result.rest result.rest_len result.last f.new }
+    ensures words { V.words of.new ≡ V.words of.old }
+    ensures lender { V.lender of.new ≡ V.lender of.old }
+    ensures callable_still { F.IsAlwaysCallable f.new }
+    ensures within { result.start + result.len ≤ count }
+    ensures rest_within { result.rest + result.rest_len ≤ count }
+{
+    of.show(head + from, count);
+    let asked = asked_in::<V, F, W>(of, f);
+    W::part(count, asked)
+}

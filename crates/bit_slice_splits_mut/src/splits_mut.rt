@@ -4,7 +4,7 @@ ghost use Rattle.std.specs.Prelude.{◌≡◌, ◌+◌, ◌*◌, ◌<◌, ◌≤
 ghost use Rattle.std.specs.Borrow.{sem};
 ghost use Rattle.bit_addressing.specs.Memory.{memory, piece, read_by};
 ghost use Rattle.bit_addressing_span.specs.declared.span.TheConstants.{MAX_BITS};
-ghost use Rattle.bit_slice_splits.specs.Ways.{Parts};
+ghost use Rattle.bit_slice_splits.specs.Ways.{Ends, Parts};
 ghost use Rattle.bit_slice_splits_mut.specs.Lending.{LendsPart};
 ghost use Rattle.bit_slice_splits_mut.specs.SplitsMut.{parts_around, parts_found_len, parts_found_start, parts_left};
 ghost use Rattle.bit_slice_splits_mut.specs.SplitsMut.{parts_callee, PartsBy};
@@ -69,10 +69,86 @@ impl<V: BitsMut, F: Drop, A: Way, B: Way> Drop for SplitsMut<'_, V, F, A, B> {
     }
 }
 
+impl<'s, V: BitsMut, F: Drop, A: Way, B: Way> SplitsMut<'s, V, F, A, B> {
+    // ---- make
+
+    /// The parts of a window, none where `done` is true.
+    pub fn new(of: &'s mut V, f: F, done: bool) -> SplitsMut<'s, V, F, A, B>
+        ensures same_reference { parts_loan result ≡ of.entry.ghost_name }
+        ensures value { parts_view result ≡ of.old }
+        ensures whole { parts_whole (read_by V.Store.BitRegister V.Order.position) V.words result ≡ V.bits of.old }
+        ensures around { parts_around (read_by V.Store.BitRegister V.Order.position) V.lender V.words result
+            ≡ V.frame of.old }
+        ensures place { parts_place result ≡ V.place of.old }
+        ensures len { parts_len result ≡ length (V.bits of.old) }
+        ensures bits { (parts_left (read_by V.Store.BitRegister V.Order.position) V.words result).bits
+            ≡ V.bits of.old }
+        ensures callee { parts_callee result ≡ f }
+        ensures done { (parts_left (read_by V.Store.BitRegister V.Order.position) V.words result).done ≡ done }
+        ensures lies { LiesIn V.Store.BITS V.words result }
+    {
+        let head = of.first_place();
+        let len = of.len();
+        SplitsMut {
+            of,
+            head,
+            len,
+            from: 0,
+            count: len,
+            start: 0,
+            size: 0,
+            f,
+            done,
+            ways: PhantomData,
+        }
+    }
+
+    // ---- look for
+
+    /// Takes all bits that are left as the last part, and tells whether there is one: `part_mut` lends it then.
+    pub fn seek_rest(&mut self) -> bool
+        requires { LiesIn V.Store.BITS V.words self.old }
+        ensures found { IsTrue result
+            ↔ ((parts_left (read_by V.Store.BitRegister V.Order.position) V.words self.old).done ≡ false) }
+        ensures ends { IsTrue result → Ends
+            (parts_left (read_by V.Store.BitRegister V.Order.position) V.words self.old)
+            (piece (parts_whole (read_by V.Store.BitRegister V.Order.position) V.words self.old)
+            (parts_found_start self.new) (parts_found_len self.new))
+            (parts_left (read_by V.Store.BitRegister V.Order.position) V.words self.new) }
+        ensures keeps { KeepsWindow V.lender V.words self.old self.new }
+        ensures lies_still { LiesIn V.Store.BITS V.words self.new }
+    {
+        if self.done {
+            return false;
+        }
+        self.start = self.from;
+        self.size = self.count;
+        self.done = true;
+        true
+    }
+
+    // ---- lend
+
+    /// The part that was found last, to write; no bits before the first search.
+    pub fn part_mut(&mut self) -> &mut V
+        requires { LiesIn V.Store.BITS V.words self.old }
+        ensures words { V.words result.now ≡ V.words (parts_view self.old) }
+        ensures lender { V.lender result.now ≡ V.lender (parts_view self.old) }
+        ensures place { V.place result.now ≡ parts_place self.old + parts_found_start self.old }
+        ensures len { length (V.bits result.now) ≡ parts_found_len self.old }
+        ensures* lends { sem 𝓛 (LendsPart V.row F.row A.row B.row V.Store.row V.Order.row self.entry result) }
+    {
+        let head = self.head + self.start;
+        let size = self.size;
+        self.of.show(head, size);
+        &mut *self.of
+    }
+}
+
 impl<'s, V: BitsMut, F: FnMut(usize, &bool) -> bool + Drop, A: Way, B: Way> SplitsMut<'s, V, F, A, B> {
     // ---- look for
 
-    /// Looks for the next part from the front, and tells whether there is one. What was found is lent by `part_mut`.
+    /// Looks for the next part from the front, and tells whether there is one: `part_mut` lends it then.
     pub fn seek(&mut self) -> bool
         requires callable { F.IsAlwaysCallable (parts_callee self.old) }
         requires lies { LiesIn V.Store.BITS V.words self.old }
@@ -87,11 +163,47 @@ impl<'s, V: BitsMut, F: FnMut(usize, &bool) -> bool + Drop, A: Way, B: Way> Spli
         ensures callable_still { F.IsAlwaysCallable (parts_callee self.new) }
         ensures lies_still { LiesIn V.Store.BITS V.words self.new }
     {
+        self.seek_by::<A>()
+    }
+
+    /// Looks for the next part from the back, and tells whether there is one: `part_mut` lends it then.
+    pub fn seek_back(&mut self) -> bool
+        requires callable { F.IsAlwaysCallable (parts_callee self.old) }
+        requires lies { LiesIn V.Store.BITS V.words self.old }
+        ensures found { IsTrue result
+            ↔ ((parts_left (read_by V.Store.BitRegister V.Order.position) V.words self.old).done ≡ false) }
+        ensures parts { IsTrue result → Parts B.way F.FnMut
+            (parts_left (read_by V.Store.BitRegister V.Order.position) V.words self.old)
+            (piece (parts_whole (read_by V.Store.BitRegister V.Order.position) V.words self.old)
+            (parts_found_start self.new) (parts_found_len self.new))
+            (parts_left (read_by V.Store.BitRegister V.Order.position) V.words self.new) }
+        ensures keeps { KeepsWindow V.lender V.words self.old self.new }
+        ensures callable_still { F.IsAlwaysCallable (parts_callee self.new) }
+        ensures lies_still { LiesIn V.Store.BITS V.words self.new }
+    {
+        self.seek_by::<B>()
+    }
+
+    // Looks for the next part at one end.
+    fn seek_by<W: Way>(&mut self) -> bool
+        requires callable { F.IsAlwaysCallable (parts_callee self.old) }
+        requires lies { LiesIn V.Store.BITS V.words self.old }
+        ensures found { IsTrue result
+            ↔ ((parts_left (read_by V.Store.BitRegister V.Order.position) V.words self.old).done ≡ false) }
+        ensures parts { IsTrue result → Parts W.way F.FnMut
+            (parts_left (read_by V.Store.BitRegister V.Order.position) V.words self.old)
+            (piece (parts_whole (read_by V.Store.BitRegister V.Order.position) V.words self.old)
+            (parts_found_start self.new) (parts_found_len self.new))
+            (parts_left (read_by V.Store.BitRegister V.Order.position) V.words self.new) }
+        ensures keeps { KeepsWindow V.lender V.words self.old self.new }
+        ensures callable_still { F.IsAlwaysCallable (parts_callee self.new) }
+        ensures lies_still { LiesIn V.Store.BITS V.words self.new }
+    {
         if self.done {
             return false;
         }
         let from = self.from;
-        let part = parted::<V, F, A>(self.of, &mut self.f, self.head, self.len, from, self.count);
+        let part = parted::<V, F, W>(self.of, &mut self.f, self.head, self.len, from, self.count);
         self.start = from + part.start;
         self.size = part.len;
         self.from = from + part.rest;

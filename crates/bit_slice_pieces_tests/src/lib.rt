@@ -11,3 +11,5 @@ mod iterators;
 mod list;
 #[cfg(test)]
 mod splits;
+#[cfg(test)]
+mod splits_mut;

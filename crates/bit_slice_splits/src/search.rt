@@ -7,10 +7,7 @@ use crate::ways::Way;
 use bit_slice_views::Bits;
 
 /// How many times the predicate answers false, asked of one index after another, before it answers true or none is left.
-pub fn asked_in<V: Bits, F: FnMut(usize, &bool) -> bool, W: Way>(
-    view: &V,
-    f: &mut F,
-) -> usize
+pub fn asked_in<V: Bits, F: FnMut(usize, &bool) -> bool, W: Way>(view: &V, f: &mut F) -> usize
     requires { F.IsAlwaysCallable f.old }
     ensures within { result ≤ W.way.tries (length (V.bits view.now)) }
     ensures callable { F.IsAlwaysCallable f.new }

@@ -33,6 +33,10 @@ parts_from parts = parts.from
 abbrev pub parts_count : {V F A B S O : Type 0} → SplitsMut V F A B S O → ℕ
 parts_count parts = parts.count
 
+-- whether no part is left
+abbrev pub parts_done : {V F A B S O : Type 0} → SplitsMut V F A B S O → Bool
+parts_done parts = parts.done
+
 -- where the part that was found last begins, and how long it is
 abbrev pub parts_found_start : {V F A B S O : Type 0} → SplitsMut V F A B S O → ℕ
 parts_found_start parts = parts.start

@@ -15,7 +15,10 @@ use bit_slice_writes::BitsMut;
 /// One part is lent at a time, by `part_mut`, once `seek` has found it. The predicate is handed what that of `split` is.
 pub trait BitsSplitsMut: BitsMut {
     /// The parts between the bits where the predicate answers true; these bits are in none.
-    final fn split_mut<F: FnMut(usize, &bool) -> bool + Drop>(&mut self, f: F) -> SplitMut<'_, Self, F>
+    final fn split_mut<F: FnMut(usize, &bool) -> bool + Drop>(
+        &mut self,
+        f: F,
+    ) -> SplitMut<'_, Self, F>
         ensures same_reference { parts_loan result ≡ self.entry.ghost_name }
         ensures value { parts_view result ≡ self.old }
         ensures whole { parts_whole (read_by Self.Store.BitRegister Self.Order.position) Self.words result
@@ -33,7 +36,10 @@ pub trait BitsSplitsMut: BitsMut {
     }
 
     /// The parts that end with the bit where the predicate answers true, or at the end. No bits have none.
-    final fn split_inclusive_mut<F: FnMut(usize, &bool) -> bool + Drop>(&mut self, f: F) -> SplitInclusiveMut<'_, Self, F>
+    final fn split_inclusive_mut<F: FnMut(usize, &bool) -> bool + Drop>(
+        &mut self,
+        f: F,
+    ) -> SplitInclusiveMut<'_, Self, F>
         ensures same_reference { parts_loan result ≡ self.entry.ghost_name }
         ensures value { parts_view result ≡ self.old }
         ensures whole { parts_whole (read_by Self.Store.BitRegister Self.Order.position) Self.words result
@@ -43,8 +49,7 @@ pub trait BitsSplitsMut: BitsMut {
         ensures bits { (parts_left (read_by Self.Store.BitRegister Self.Order.position) Self.words result).bits
             ≡ Self.bits self.old }
         ensures callee { parts_callee result ≡ f }
-        ensures done {
-            IsTrue (parts_left (read_by Self.Store.BitRegister Self.Order.position) Self.words result).done
+        ensures done { IsTrue (parts_left (read_by Self.Store.BitRegister Self.Order.position) Self.words result).done
             ↔ (length (Self.bits self.old) ≡ 0) }
         ensures lies { LiesIn Self.Store.BITS Self.words result }
     {
@@ -53,7 +58,10 @@ pub trait BitsSplitsMut: BitsMut {
     }
 
     /// The parts between the bits where the predicate answers true, from the back on.
-    final fn rsplit_mut<F: FnMut(usize, &bool) -> bool + Drop>(&mut self, f: F) -> RSplitMut<'_, Self, F>
+    final fn rsplit_mut<F: FnMut(usize, &bool) -> bool + Drop>(
+        &mut self,
+        f: F,
+    ) -> RSplitMut<'_, Self, F>
         ensures same_reference { parts_loan result ≡ self.entry.ghost_name }
         ensures value { parts_view result ≡ self.old }
         ensures whole { parts_whole (read_by Self.Store.BitRegister Self.Order.position) Self.words result

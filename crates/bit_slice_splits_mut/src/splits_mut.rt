@@ -7,12 +7,14 @@ ghost use Rattle.bit_addressing_span.specs.declared.span.TheConstants.{MAX_BITS}
 ghost use Rattle.bit_slice_splits.specs.Ways.{Ends, Parts};
 ghost use Rattle.bit_slice_splits_mut.specs.Lending.{LendsPart};
 ghost use Rattle.bit_slice_splits_mut.specs.SplitsMut.{parts_around, parts_found_len, parts_found_start, parts_left};
-ghost use Rattle.bit_slice_splits_mut.specs.SplitsMut.{parts_callee, PartsBy};
+ghost use Rattle.bit_slice_splits_mut.specs.SplitsMut.{parts_callee, parts_count, parts_done, PartsBy};
 ghost use Rattle.bit_slice_splits_mut.specs.SplitsMut.{parts_len, parts_loan, parts_place, parts_view, parts_whole};
 ghost use Rattle.bit_slice_splits_mut.specs.SplitsMut.{KeepsWindow, LiesIn};
 
 use bit_addressing::BitRegister;
-use bit_slice_splits::{FromBack, FromFront, InclusiveBack, InclusiveFront, Parting, Way, asked_in};
+use bit_slice_splits::{
+    FromBack, FromFront, InclusiveBack, InclusiveFront, Parting, Way, asked_in,
+};
 use bit_slice_views::Bits;
 use bit_slice_writes::BitsMut;
 use std::marker::PhantomData;
@@ -145,7 +147,13 @@ impl<'s, V: BitsMut, F: Drop, A: Way, B: Way> SplitsMut<'s, V, F, A, B> {
     }
 }
 
-impl<'s, V: BitsMut, F: FnMut(usize, &bool) -> bool + Drop, A: Way, B: Way> SplitsMut<'s, V, F, A, B> {
+impl<'s, V: BitsMut, F: FnMut(usize, &bool) -> bool + Drop, A: Way, B: Way> SplitsMut<
+    's,
+    V,
+    F,
+    A,
+    B,
+> {
     // ---- look for
 
     /// Looks for the next part from the front, and tells whether there is one: `part_mut` lends it then.
@@ -162,6 +170,9 @@ impl<'s, V: BitsMut, F: FnMut(usize, &bool) -> bool + Drop, A: Way, B: Way> Spli
         ensures keeps { KeepsWindow V.lender V.words self.old self.new }
         ensures callable_still { F.IsAlwaysCallable (parts_callee self.new) }
         ensures lies_still { LiesIn V.Store.BITS V.words self.new }
+
+        // Fewer bits are left, or no part is, so a search comes to its end.
+        ensures shorter { IsTrue result → parts_count self.old ≤ parts_count self.new → parts_done self.new ≡ true }
     {
         self.seek_by::<A>()
     }
@@ -180,6 +191,9 @@ impl<'s, V: BitsMut, F: FnMut(usize, &bool) -> bool + Drop, A: Way, B: Way> Spli
         ensures keeps { KeepsWindow V.lender V.words self.old self.new }
         ensures callable_still { F.IsAlwaysCallable (parts_callee self.new) }
         ensures lies_still { LiesIn V.Store.BITS V.words self.new }
+
+        // Fewer bits are left, or no part is, so a search comes to its end.
+        ensures shorter { IsTrue result → parts_count self.old ≤ parts_count self.new → parts_done self.new ≡ true }
     {
         self.seek_by::<B>()
     }
@@ -198,6 +212,9 @@ impl<'s, V: BitsMut, F: FnMut(usize, &bool) -> bool + Drop, A: Way, B: Way> Spli
         ensures keeps { KeepsWindow V.lender V.words self.old self.new }
         ensures callable_still { F.IsAlwaysCallable (parts_callee self.new) }
         ensures lies_still { LiesIn V.Store.BITS V.words self.new }
+
+        // Fewer bits are left, or no part is, so a search comes to its end.
+        ensures shorter { IsTrue result → parts_count self.old ≤ parts_count self.new → parts_done self.new ≡ true }
     {
         if self.done {
             return false;
@@ -236,6 +253,7 @@ fn parted<V: BitsMut, F: FnMut(usize, &bool) -> bool, W: Way>(
     ensures callable_still { F.IsAlwaysCallable f.new }
     ensures within { result.start + result.len ≤ count }
     ensures rest_within { result.rest + result.rest_len ≤ count }
+    ensures shorter { count ≤ result.rest_len → result.last ≡ true }
 {
     of.show(head + from, count);
     let asked = asked_in::<V, F, W>(of, f);

@@ -1,4 +1,4 @@
-use Rattle.std.proofs.Common.{◌≡◌, length, sym, ap, ◌∙◌, arith}
+use Rattle.std.proofs.Common.{◌≡◌, length, sym, ap, ◌∙◌}
 use Rattle.bit_addressing.specs.Memory.{memory, piece, read_by}
 use Rattle.bit_slice_pieces_mut.proofs.PartLemmas.{part_bits}
 use Rattle.bit_slice_splits_mut.proofs.splits_mut.parted.Goals as goal

@@ -1,5 +1,5 @@
 use Rattle.bit_slice_splits_mut.proofs.SeekLemmas.{parts_of}
-use Rattle.bit_addressing.specs.Memory.{memory, read_by}
+use Rattle.bit_addressing.specs.Memory.{read_by}
 use Rattle.bit_slice_splits_mut.proofs.splits_mut.SplitsMut.seek_by.Goals as goal
 
 pub returns-clause-parts : goal.returns-clause-parts

@@ -1,4 +1,4 @@
-use Rattle.std.proofs.Common.{◌≡◌, ◌+◌, ◌-◌, ◌*◌, ◌<◌, ◌≤◌, ◌^◌, length}
+use Rattle.std.proofs.Common.{◌+◌, ◌-◌, ◌*◌, ◌<◌, ◌≤◌, ◌^◌, length}
 use Rattle.bit_addressing_span.specs.declared.span.TheConstants.{MAX_BITS}
 use Rattle.bit_slice_pieces_tests.proofs.chunks_mut.flips.Given as goal
 

@@ -1,1 +1,2 @@
 pub mod HalfLemmas
+pub mod MarkedLemmas

@@ -4,3 +4,4 @@
 pub mod callers;
 pub mod store_callers;
 pub mod word_callers;
+pub mod pieces;

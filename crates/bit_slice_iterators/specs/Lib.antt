@@ -1,0 +1,9 @@
+pub mod Indices
+-- the words of windows, memories, orders and registers
+pub use Rattle.bit_addressing.specs.BitOrder
+pub use Rattle.bit_addressing.specs.BitRegister
+pub use Rattle.bit_addressing.specs.Bits
+pub use Rattle.bit_addressing.specs.Memory
+pub use Rattle.bit_slice_scans.specs.Found
+pub use Rattle.bit_slice_views.specs.BitRef
+pub use Rattle.bit_slice_views.specs.View

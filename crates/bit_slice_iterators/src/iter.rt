@@ -1,0 +1,135 @@
+//! The bits of a window, one after another, from both ends.
+
+ghost use Rattle.std.specs.Prelude.{◌≡◌, ◌+◌, ◌-◌, ◌<◌, ◌≤◌, ⊤, length, IfSome, Some};
+ghost use Rattle.std.specs.Iterator.{YieldsFirstBy, YieldsLastBy, item_count, UpTo};
+ghost use Rattle.std.specs.Iterator.SizeHint.{IsWithinCount};
+ghost use Rattle.bit_addressing.specs.Memory.{read_by};
+ghost use Rattle.bit_slice_views.specs.BitRef.{bit_value};
+ghost use Rattle.bit_slice_views.specs.View.{view_bits};
+
+use crate::values::{BitRefIter, BitValIter};
+use bit_addressing::{BitOrder, BitRegister};
+use bit_slice_views::{BitRef, BitSlice, Bits};
+use std::alloc::AllocError;
+use std::iter::FusedIterator;
+use std::marker::Model;
+
+/// The bits of a window that are left, as `BitRef`s; a contract sees their list.
+///
+/// It is exact in length, gives each bit once from either end, and then `None` for good.
+#[derive(Drop)]
+pub struct Iter<'a, T: BitRegister, O: BitOrder<T>> {
+    view: BitSlice<'a, T, O>,
+}
+
+impl<'a, T: BitRegister, O: BitOrder<T>> Model for Iter<'a, T, O> {
+    ghost use Rattle.std.specs.Prelude.{Bool, List};
+    ghost use Rattle.bit_addressing.specs.Memory.{read_by};
+    ghost use Rattle.bit_slice_views.specs.View.{view_bits};
+
+    ghost Value = { List Bool };
+
+    ghost view = { λ iter. view_bits (read_by T.BitRegister O.position) iter.view };
+}
+
+impl<'a, T: BitRegister, O: BitOrder<T>> Iter<'a, T, O> {
+    /// The bits of a window.
+    pub fn new(view: BitSlice<'a, T, O>) -> Iter<'a, T, O>
+        ensures { result ≡ view_bits (read_by T.BitRegister O.position) view.entry }
+    {
+        Iter { view }
+    }
+
+    /// The bits that are left, as a window.
+    pub fn as_bitslice(&self) -> BitSlice<'a, T, O>
+        ensures { view_bits (read_by T.BitRegister O.position) result ≡ self.now }
+    {
+        let Iter { view } = self;
+        *view
+    }
+
+    /// What `as_bitslice` does.
+    pub fn as_slice(&self) -> BitSlice<'a, T, O>
+        ensures { view_bits (read_by T.BitRegister O.position) result ≡ self.now }
+    {
+        self.as_bitslice()
+    }
+
+    /// The bits that are left, as references to truth values.
+    pub fn by_refs(self) -> BitRefIter<'a, T, O>
+        ensures { result ≡ self.entry }
+    {
+        BitRefIter::new(self.view)
+    }
+
+    /// The bits that are left, as truth values.
+    pub fn by_vals(self) -> BitValIter<'a, T, O>
+        ensures { result ≡ self.entry }
+    {
+        BitValIter::new(self.view)
+    }
+
+    /// What `by_vals` does.
+    pub fn copied(self) -> BitValIter<'a, T, O>
+        ensures { result ≡ self.entry }
+    {
+        self.by_vals()
+    }
+}
+
+impl<'a, T: BitRegister, O: BitOrder<T>> Clone for Iter<'a, T, O> {
+    ghost is_clone = { λ iter copy. copy ≡ iter };
+
+    ghost is_infallible = { λ _. ⊤ };
+
+    fn clone(&self) -> Result<Self, AllocError> {
+        Ok(Iter { view: self.view })
+    }
+}
+
+#[tactic(auto, using(crate::proofs::BitLemmas::ends_of_bits))]
+impl<'a, T: BitRegister + 'a, O: BitOrder<T>> Iterator for Iter<'a, T, O> {
+    type Item = BitRef;
+
+    ghost next_gives = { YieldsFirstBy bit_value (λ left. left) };
+
+    ghost remaining = { item_count (λ left. left) };
+
+    fn next(&mut self) -> Option<BitRef> {
+        let first = self.view.first();
+        if first.is_some() {
+            self.view = self.view.part(1, self.view.len() - 1);
+        }
+        first
+    }
+
+    fn size_hint(&self) -> (usize, Option<usize>)
+        ensures lower { IsWithinCount result.0 (item_count (λ left. left) self.now) }
+        ensures upper { IfSome result.1 (UpTo (item_count (λ left. left) self.now)) }
+        ensures exact { result ≡ (length self.now, Some (length self.now)) }
+    {
+        let left = self.len();
+        (left, Some(left))
+    }
+}
+
+#[tactic(auto, using(crate::proofs::BitLemmas::ends_of_bits))]
+impl<'a, T: BitRegister + 'a, O: BitOrder<T>> DoubleEndedIterator for Iter<'a, T, O> {
+    ghost next_back_gives = { YieldsLastBy bit_value (λ left. left) };
+
+    fn next_back(&mut self) -> Option<BitRef> {
+        let last = self.view.last();
+        if last.is_some() {
+            self.view = self.view.part(0, self.view.len() - 1);
+        }
+        last
+    }
+}
+
+impl<'a, T: BitRegister + 'a, O: BitOrder<T>> ExactSizeIterator for Iter<'a, T, O> {
+    fn len(&self) -> usize {
+        self.view.len()
+    }
+}
+
+impl<'a, T: BitRegister + 'a, O: BitOrder<T>> FusedIterator for Iter<'a, T, O> {}

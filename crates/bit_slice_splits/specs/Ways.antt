@@ -1,0 +1,133 @@
+-- How a list of bits is split by a predicate.
+--
+-- Which indices are tried, and what comes off: `SplitWay`, and `from_front`, `from_back`, `inclusive_front`,
+-- `inclusive_back`. What the predicate is handed and answers: `Asked`, `Asks`. A part that comes off: `Parts`, `Ends`,
+-- `GivesPart`, and of so many at most `PartsUpTo`. What an iterator has left: `SplitLeft`, `SplitNLeft`.
+use Rattle.std.proofs.Common.{◌≡◌, ℕ, ◌+◌, ◌-◌, ◌≤◌, Bool, true, false, cond, List, length, get_or, nat_eq, nat_lt, Bor, Option}
+use Rattle.std.proofs.Common.{None, ◌<◌}
+use Rattle.std.specs.Fn.{Called, Mut}
+use Rattle.std.specs.Bool.{MatchBool}
+use Rattle.std.specs.Option.{MatchOption}
+use Rattle.std.specs.List.{FoldsTo, range_with_len}
+use Rattle.bit_addressing.specs.Memory.{piece}
+
+-- a way to take a part off one end of a list of n bits: how many indices are tried at most, and which one as number k;
+-- where the predicate answered false m times, and then true or to no more, where the part begins and how long it is,
+-- the same of what is left, and whether the part is the last one
+pub record SplitWay : Type 0 where
+  pub tries : ℕ → ℕ
+  pub index : ℕ → ℕ → ℕ
+  pub start : ℕ → ℕ → ℕ
+  pub size : ℕ → ℕ → ℕ
+  pub rest : ℕ → ℕ → ℕ
+  pub rest_size : ℕ → ℕ → ℕ
+  pub last : ℕ → ℕ → Bool
+
+-- at the first place; the bit there goes
+abbrev pub from_front : SplitWay
+from_front = record {
+  tries = λ n. n;
+  index = λ n k. k;
+  start = λ n m. 0;
+  size = λ n m. m;
+  rest = λ n m. cond (nat_eq m n) n (m + 1);
+  rest_size = λ n m. n - (m + 1);
+  last = λ n m. nat_eq m n;
+}
+
+-- at the last place, tried descending; the bit there goes
+abbrev pub from_back : SplitWay
+from_back = record {
+  tries = λ n. n;
+  index = λ n k. n - (k + 1);
+  start = λ n m. n - m;
+  size = λ n m. m;
+  rest = λ n m. 0;
+  rest_size = λ n m. n - (m + 1);
+  last = λ n m. nat_eq m n;
+}
+
+-- behind the first place; the bit there stays with the part
+abbrev pub inclusive_front : SplitWay
+inclusive_front = record {
+  tries = λ n. n;
+  index = λ n k. k;
+  start = λ n m. 0;
+  size = λ n m. cond (nat_eq m n) n (m + 1);
+  rest = λ n m. cond (nat_eq m n) n (m + 1);
+  rest_size = λ n m. n - (m + 1);
+  last = λ n m. nat_eq (n - (m + 1)) 0;
+}
+
+-- behind the last place before the last bit, tried descending; the bit there stays with what is left
+abbrev pub inclusive_back : SplitWay
+inclusive_back = record {
+  tries = λ n. n - 1;
+  index = λ n k. n - (k + 2);
+  start = λ n m. n - 1 - m;
+  size = λ n m. n - (n - 1 - m);
+  rest = λ n m. 0;
+  rest_size = λ n m. n - 1 - m;
+  last = λ n m. nat_eq (n - 1 - m) 0;
+}
+
+-- the predicate, asked of index i and a bit, answers r and becomes f'
+abbrev pub Asked : {F : Type 0} → Mut F (ℕ × (Bor Bool × Unit {0})) Bool → F → ℕ → Bool → Bool → F → Type 0
+Asked g f i bit r f' = (b : Bor Bool) × (b.now ≡ bit) × Called g f (i, (b, tt)) r f'
+
+-- the predicate was asked of each index in turn, with the bit there: it answered false m times, and then true, unless
+-- all that are tried were asked
+pub record Asks {F : Type 0} (way : SplitWay) (g : Mut F (ℕ × (Bor Bool × Unit {0})) Bool) (bits : List Bool) (f : F)
+    (m : ℕ) (f' : F) : Type 0 where
+  pub mid : F
+  pub before : FoldsTo (λ p k q. Asked g p (way.index (length bits) k)
+      (get_or bits (way.index (length bits) k) false) false q) f (range_with_len 0 m) mid
+  pub there : MatchBool (nat_lt m (way.tries (length bits)))
+      (Asked g mid (way.index (length bits) m) (get_or bits (way.index (length bits) m) false) true f') (f' ≡ mid)
+
+-- an iterator over the parts: the bits not yet split, the predicate, and whether no part is left
+pub record SplitLeft (F : Type 0) : Type 0 where
+  pub bits : List Bool
+  pub callee : F
+  pub done : Bool
+
+-- a part comes off one end of what is left
+pub record Parts {F : Type 0} (way : SplitWay) (g : Mut F (ℕ × (Bor Bool × Unit {0})) Bool) (before : SplitLeft F)
+    (part : List Bool) (after : SplitLeft F) : Type 0 where
+  pub going : before.done ≡ false
+  pub asked : ℕ
+  pub within : asked ≤ way.tries (length before.bits)
+  pub asks : Asks way g before.bits before.callee asked after.callee
+  pub part_is : part
+      ≡ piece before.bits (way.start (length before.bits) asked) (way.size (length before.bits) asked)
+  pub rest_is : after.bits
+      ≡ piece before.bits (way.rest (length before.bits) asked) (way.rest_size (length before.bits) asked)
+  pub done_is : after.done ≡ way.last (length before.bits) asked
+
+-- all bits that are left come as the last part, without the predicate
+pub record Ends {F : Type 0} (before : SplitLeft F) (part : List Bool) (after : SplitLeft F) : Type 0 where
+  pub going : before.done ≡ false
+  pub part_is : part ≡ before.bits
+  pub bits_are : after.bits ≡ before.bits
+  pub callee_is : after.callee ≡ before.callee
+  pub done_is : after.done ≡ true
+
+-- what a call gives that gives a part so where one is left, and else nothing and stays
+abbrev pub GivesPart : {F A : Type 0} → (A → List Bool) → (SplitLeft F → List Bool → SplitLeft F → Type 0)
+    → SplitLeft F → Option A → SplitLeft F → Type 0
+GivesPart view how before r after =
+    MatchOption r ((before.done ≡ true) × (after ≡ before)) (λ part. how before (view part) after)
+
+-- an iterator over so many parts at most: the parts, and how many may come
+pub record SplitNLeft (F : Type 0) : Type 0 where
+  pub parts : SplitLeft F
+  pub count : ℕ
+
+-- while more than one part may come, the next one does; the last that may come has all bits that are left
+pub record PartsUpTo {F A : Type 0} (view : A → List Bool) (way : SplitWay)
+    (g : Mut F (ℕ × (Bor Bool × Unit {0})) Bool) (before : SplitNLeft F) (r : Option A) (after : SplitNLeft F)
+    : Type 0 where
+  pub none : before.count ≡ 0 → (r ≡ None) × (after ≡ before)
+  pub one : before.count ≡ 1 → (after.count ≡ 0) × GivesPart view Ends before.parts r after.parts
+  pub more : 1 < before.count
+      → (after.count + 1 ≡ before.count) × GivesPart view (Parts way g) before.parts r after.parts

@@ -1,0 +1,133 @@
+//! The parts of a window between the places where a predicate answers true, one after another, from both ends.
+
+ghost use Rattle.std.specs.Prelude.{◌≡◌, ◌+◌, ◌-◌, ◌<◌, ◌≤◌, true, false, length, if◌then◌else◌};
+ghost use Rattle.std.specs.Iterator.{at_most};
+ghost use Rattle.bit_addressing.specs.Memory.{piece, read_by};
+ghost use Rattle.bit_slice_views.specs.View.{view_bits};
+ghost use Rattle.bit_slice_splits.specs.Ways.{Ends, GivesPart, Parts};
+
+use crate::search::asked_in;
+use crate::ways::{FromBack, FromFront, InclusiveBack, InclusiveFront, Way};
+use bit_addressing::{BitOrder, BitRegister};
+use bit_slice_views::{BitSlice, Bits};
+use std::marker::{Model, PhantomData};
+
+/// The parts of a window that are left; a contract sees the bits not yet split, the predicate, and whether no part is
+/// left.
+///
+/// After the last part it gives `None` for good.
+#[derive(Drop)]
+pub struct Splits<'a, T: BitRegister, O: BitOrder<T>, F, A: Way, B: Way> {
+    view: BitSlice<'a, T, O>,
+    f: F,
+    done: bool,
+    ways: PhantomData<(A, B)>,
+}
+
+/// The parts between the places where the predicate answers true.
+pub type Split<'a, T, O, F> = Splits<'a, T, O, F, FromFront, FromBack>;
+
+/// The same from the back on.
+pub type RSplit<'a, T, O, F> = Splits<'a, T, O, F, FromBack, FromFront>;
+
+/// The parts that end with the bit where the predicate answers true.
+pub type SplitInclusive<'a, T, O, F> = Splits<'a, T, O, F, InclusiveFront, InclusiveBack>;
+
+impl<'a, T: BitRegister, O: BitOrder<T>, F, A: Way, B: Way> Model for Splits<'a, T, O, F, A, B> {
+    ghost use Rattle.bit_addressing.specs.Memory.{read_by};
+    ghost use Rattle.bit_slice_views.specs.View.{view_bits};
+    ghost use Rattle.bit_slice_splits.specs.Ways.{SplitLeft};
+
+    ghost Value = { SplitLeft F };
+
+    ghost view = { λ splits. record {
+      bits = view_bits (read_by T.BitRegister O.position) splits.view;
+      callee = splits.f;
+      done = splits.done;
+    } };
+}
+
+impl<'a, T: BitRegister, O: BitOrder<T>, F, A: Way, B: Way> Splits<'a, T, O, F, A, B> {
+    /// The parts of a window, none where `done` is true.
+    pub(crate) fn new(view: BitSlice<'a, T, O>, f: F, done: bool) -> Splits<'a, T, O, F, A, B>
+        ensures bits { result.bits ≡ view_bits (read_by T.BitRegister O.position) view.entry }
+        ensures callee { result.callee ≡ f }
+        ensures done { result.done ≡ done }
+    {
+        Splits {
+            view,
+            f,
+            done,
+            ways: PhantomData,
+        }
+    }
+
+    // All bits that are left, as the last part.
+    pub(crate) fn finish(&mut self) -> Option<BitSlice<'a, T, O>>
+        ensures { GivesPart (view_bits (read_by T.BitRegister O.position)) Ends self.old result self.new }
+    {
+        if self.done {
+            return None;
+        }
+        self.done = true;
+        Some(self.view)
+    }
+}
+
+impl<
+    'a,
+    T: BitRegister + 'a,
+    O: BitOrder<T>,
+    F: FnMut(usize, &bool) -> bool + Drop,
+    A: Way,
+    B: Way,
+> Iterator for Splits<'a, T, O, F, A, B> {
+    type Item = BitSlice<'a, T, O>;
+
+    ghost can_next = { λ splits. F.IsAlwaysCallable splits.callee };
+
+    ghost next_gives = { GivesPart (view_bits (read_by T.BitRegister O.position)) (Parts A.way F.FnMut) };
+
+    ghost remaining = { λ s. at_most (if s.done then 0 else length s.bits + 1) };
+
+    fn next(&mut self) -> Option<BitSlice<'a, T, O>> {
+        if self.done {
+            return None;
+        }
+        let view = self.view;
+        let asked = asked_in::<BitSlice<'a, T, O>, F, A>(&view, &mut self.f);
+        let part = A::part(view.len(), asked);
+        self.view = view.part(part.rest, part.rest_len);
+        self.done = part.last;
+        Some(view.part(part.start, part.len))
+    }
+
+    fn size_hint(&self) -> (usize, Option<usize>) {
+        (0, None)
+    }
+}
+
+impl<
+    'a,
+    T: BitRegister + 'a,
+    O: BitOrder<T>,
+    F: FnMut(usize, &bool) -> bool + Drop,
+    A: Way,
+    B: Way,
+> DoubleEndedIterator for Splits<'a, T, O, F, A, B> {
+    ghost can_next_back = { λ splits. F.IsAlwaysCallable splits.callee };
+
+    ghost next_back_gives = { GivesPart (view_bits (read_by T.BitRegister O.position)) (Parts B.way F.FnMut) };
+
+    fn next_back(&mut self) -> Option<BitSlice<'a, T, O>> {
+        if self.done {
+            return None;
+        }
+        let view = self.view;
+        let asked = asked_in::<BitSlice<'a, T, O>, F, B>(&view, &mut self.f);
+        let part = B::part(view.len(), asked);
+        self.view = view.part(part.rest, part.rest_len);
+        self.done = part.last;
+        Some(view.part(part.start, part.len))
+    }
+}

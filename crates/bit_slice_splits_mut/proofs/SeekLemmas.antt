@@ -1,0 +1,30 @@
+-- A part that was found, as a part of the whole window.
+use Rattle.std.proofs.Common.{◌≡◌, ℕ, ◌+◌, ◌≤◌, Bool, false, List, sym, ◌∙◌, refl, Bor}
+use Rattle.std.specs.Fn.{Mut}
+use Rattle.bit_addressing.specs.Memory.{Reading, memory, piece}
+use Rattle.bit_addressing_memory.proofs.MemoryLemmas.{piece_piece}
+use Rattle.bit_slice_splits.specs.Ways.{Parts, SplitWay}
+use Rattle.bit_slice_splits_mut.specs.SplitsMut.{PartsBy}
+
+pub parts_of : {F R : Type 0} (way : SplitWay) (g : Mut F (ℕ × (Bor Bool × Unit {0})) Bool) (reading : Reading R)
+    (words after : List R) (head len from count : ℕ) (f : F) (start size rest rest_size : ℕ) (last : Bool) (f' : F)
+    (done : Bool) → done ≡ false
+    → PartsBy way g (piece (piece (memory reading words) head len) from count) f start size rest rest_size last f'
+    → after ≡ words → start + size ≤ count → rest + rest_size ≤ count
+    → Parts way g
+    (record { bits = piece (piece (memory reading words) head len) from count; callee = f; done = done })
+    (piece (piece (memory reading words) head len) (from + start) size)
+    (record { bits = piece (piece (memory reading after) head len) (from + rest) rest_size; callee = f'; done = last })
+parts_of way g reading words after head len from count f start size rest rest_size last f' done going by same inside
+    rest_inside =
+    let whole = piece (memory reading words) head len in
+    record {
+      going = going;
+      asked = by.asked;
+      within = by.within;
+      asks = by.asks;
+      part_is = sym (piece_piece whole from count start size inside) ∙ rw (by.start_is, by.size_is) refl;
+      rest_is = rw same (
+          sym (piece_piece whole from count rest rest_size rest_inside) ∙ rw (by.rest_is, by.rest_size_is) refl);
+      done_is = by.last_is;
+    }

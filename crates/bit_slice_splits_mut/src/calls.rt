@@ -1,0 +1,82 @@
+//! The splits of whatever lends bits to write.
+
+ghost use Rattle.std.specs.Prelude.{◌≡◌, ◌↔◌, false, length, IsTrue};
+ghost use Rattle.bit_addressing.specs.Memory.{read_by};
+ghost use Rattle.bit_slice_splits_mut.specs.SplitsMut.{parts_around, parts_callee, parts_left, parts_loan, parts_view};
+ghost use Rattle.bit_slice_splits_mut.specs.SplitsMut.{parts_whole, LiesIn};
+
+use crate::splits_mut::{RSplitMut, SplitInclusiveMut, SplitMut};
+use bit_addressing::BitRegister;
+use bit_slice_views::Bits;
+use bit_slice_writes::BitsMut;
+
+/// The splits of a window by a predicate, to write: of every `BitsMut`.
+///
+/// One part is lent at a time, by `part_mut`, once `seek` has found it. The predicate is handed what that of `split` is.
+pub trait BitsSplitsMut: BitsMut {
+    /// The parts between the bits where the predicate answers true; these bits are in none.
+    final fn split_mut<F: FnMut(usize, &bool) -> bool + Drop>(
+        &mut self,
+        f: F,
+    ) -> SplitMut<'_, Self, F>
+        ensures same_reference { parts_loan result ≡ self.entry.ghost_name }
+        ensures value { parts_view result ≡ self.old }
+        ensures whole { parts_whole (read_by Self.Store.BitRegister Self.Order.position) Self.words result
+            ≡ Self.bits self.old }
+        ensures around { parts_around (read_by Self.Store.BitRegister Self.Order.position) Self.lender Self.words
+            result ≡ Self.frame self.old }
+        ensures bits { (parts_left (read_by Self.Store.BitRegister Self.Order.position) Self.words result).bits
+            ≡ Self.bits self.old }
+        ensures callee { parts_callee result ≡ f }
+        ensures done { (parts_left (read_by Self.Store.BitRegister Self.Order.position) Self.words result).done
+            ≡ false }
+        ensures lies { LiesIn Self.Store.BITS Self.words result }
+    {
+        SplitMut::new(self, f, false)
+    }
+
+    /// The parts that end with the bit where the predicate answers true, or at the end. No bits have none.
+    final fn split_inclusive_mut<F: FnMut(usize, &bool) -> bool + Drop>(
+        &mut self,
+        f: F,
+    ) -> SplitInclusiveMut<'_, Self, F>
+        ensures same_reference { parts_loan result ≡ self.entry.ghost_name }
+        ensures value { parts_view result ≡ self.old }
+        ensures whole { parts_whole (read_by Self.Store.BitRegister Self.Order.position) Self.words result
+            ≡ Self.bits self.old }
+        ensures around { parts_around (read_by Self.Store.BitRegister Self.Order.position) Self.lender Self.words
+            result ≡ Self.frame self.old }
+        ensures bits { (parts_left (read_by Self.Store.BitRegister Self.Order.position) Self.words result).bits
+            ≡ Self.bits self.old }
+        ensures callee { parts_callee result ≡ f }
+        ensures done { IsTrue (parts_left (read_by Self.Store.BitRegister Self.Order.position) Self.words result).done
+            ↔ (length (Self.bits self.old) ≡ 0) }
+        ensures lies { LiesIn Self.Store.BITS Self.words result }
+    {
+        let done = self.is_empty();
+        SplitInclusiveMut::new(self, f, done)
+    }
+
+    /// The parts between the bits where the predicate answers true, from the back on.
+    final fn rsplit_mut<F: FnMut(usize, &bool) -> bool + Drop>(
+        &mut self,
+        f: F,
+    ) -> RSplitMut<'_, Self, F>
+        ensures same_reference { parts_loan result ≡ self.entry.ghost_name }
+        ensures value { parts_view result ≡ self.old }
+        ensures whole { parts_whole (read_by Self.Store.BitRegister Self.Order.position) Self.words result
+            ≡ Self.bits self.old }
+        ensures around { parts_around (read_by Self.Store.BitRegister Self.Order.position) Self.lender Self.words
+            result ≡ Self.frame self.old }
+        ensures bits { (parts_left (read_by Self.Store.BitRegister Self.Order.position) Self.words result).bits
+            ≡ Self.bits self.old }
+        ensures callee { parts_callee result ≡ f }
+        ensures done { (parts_left (read_by Self.Store.BitRegister Self.Order.position) Self.words result).done
+            ≡ false }
+        ensures lies { LiesIn Self.Store.BITS Self.words result }
+    {
+        RSplitMut::new(self, f, false)
+    }
+}
+
+impl<V: BitsMut> BitsSplitsMut for V {}

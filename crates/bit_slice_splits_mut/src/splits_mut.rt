@@ -1,0 +1,261 @@
+//! The parts of a writable window between the places where a predicate answers true, of which one is lent at a time.
+
+ghost use Rattle.std.specs.Prelude.{◌≡◌, ◌+◌, ◌*◌, ◌<◌, ◌≤◌, ◌^◌, ◌↔◌, length, true, false, IsTrue};
+ghost use Rattle.std.specs.Borrow.{sem};
+ghost use Rattle.bit_addressing.specs.Memory.{memory, piece, read_by};
+ghost use Rattle.bit_addressing_span.specs.declared.span.TheConstants.{MAX_BITS};
+ghost use Rattle.bit_slice_splits.specs.Ways.{Ends, Parts};
+ghost use Rattle.bit_slice_splits_mut.specs.Lending.{LendsPart};
+ghost use Rattle.bit_slice_splits_mut.specs.SplitsMut.{parts_around, parts_found_len, parts_found_start, parts_left};
+ghost use Rattle.bit_slice_splits_mut.specs.SplitsMut.{parts_callee, parts_count, parts_done, PartsBy};
+ghost use Rattle.bit_slice_splits_mut.specs.SplitsMut.{parts_len, parts_loan, parts_place, parts_view, parts_whole};
+ghost use Rattle.bit_slice_splits_mut.specs.SplitsMut.{KeepsWindow, LiesIn};
+
+use bit_addressing::BitRegister;
+use bit_slice_splits::{
+    FromBack, FromFront, InclusiveBack, InclusiveFront, Parting, Way, asked_in,
+};
+use bit_slice_views::Bits;
+use bit_slice_writes::BitsMut;
+use std::marker::PhantomData;
+
+/// The parts of a writable window that were not lent yet: `seek` looks for the next one, and `part_mut` lends it.
+///
+/// When this ends, the window shows all its bits again.
+pub struct SplitsMut<'s, V: BitsMut, F: Drop, A: Way, B: Way> {
+    of: &'s mut V,
+    head: usize,
+    len: usize,
+    from: usize,
+    count: usize,
+    start: usize,
+    size: usize,
+    f: F,
+    done: bool,
+    ways: PhantomData<(A, B)>,
+}
+
+/// The parts between the places where the predicate answers true.
+pub type SplitMut<'s, V, F> = SplitsMut<'s, V, F, FromFront, FromBack>;
+
+/// The same from the back on.
+pub type RSplitMut<'s, V, F> = SplitsMut<'s, V, F, FromBack, FromFront>;
+
+/// The parts that end with the bit where the predicate answers true.
+pub type SplitInclusiveMut<'s, V, F> = SplitsMut<'s, V, F, InclusiveFront, InclusiveBack>;
+
+#[tactic(auto, using(bit_slice_access::proofs::PartLemmas::shows_all, bit_slice_access::proofs::PartLemmas::framed_all))]
+impl<V: BitsMut, F: Drop, A: Way, B: Way> Drop for SplitsMut<'_, V, F, A, B> {
+    fn drop(self)
+        requires fits { self.head + self.len ≤ length (V.words self.of.now) * V.Store.BITS }
+        requires short { self.len ≤ MAX_BITS }
+        requires small { self.head + self.len < 2 ^ 63 }
+        ensures bits { V.bits self.exit.0.now
+            ≡ parts_whole (read_by V.Store.BitRegister V.Order.position) V.words self.entry }
+        ensures frame { V.frame self.exit.0.now
+            ≡ parts_around (read_by V.Store.BitRegister V.Order.position) V.lender V.words self.entry }
+    {
+        let SplitsMut {
+            of,
+            head,
+            len,
+            from: _,
+            count: _,
+            start: _,
+            size: _,
+            f: _,
+            done: _,
+            ways: _,
+        } = self;
+        of.show(head, len);
+    }
+}
+
+impl<'s, V: BitsMut, F: Drop, A: Way, B: Way> SplitsMut<'s, V, F, A, B> {
+    // ---- make
+
+    /// The parts of a window, none where `done` is true.
+    pub fn new(of: &'s mut V, f: F, done: bool) -> SplitsMut<'s, V, F, A, B>
+        ensures same_reference { parts_loan result ≡ of.entry.ghost_name }
+        ensures value { parts_view result ≡ of.old }
+        ensures whole { parts_whole (read_by V.Store.BitRegister V.Order.position) V.words result ≡ V.bits of.old }
+        ensures around { parts_around (read_by V.Store.BitRegister V.Order.position) V.lender V.words result
+            ≡ V.frame of.old }
+        ensures place { parts_place result ≡ V.place of.old }
+        ensures len { parts_len result ≡ length (V.bits of.old) }
+        ensures bits { (parts_left (read_by V.Store.BitRegister V.Order.position) V.words result).bits
+            ≡ V.bits of.old }
+        ensures callee { parts_callee result ≡ f }
+        ensures done { (parts_left (read_by V.Store.BitRegister V.Order.position) V.words result).done ≡ done }
+        ensures lies { LiesIn V.Store.BITS V.words result }
+    {
+        let head = of.first_place();
+        let len = of.len();
+        SplitsMut {
+            of,
+            head,
+            len,
+            from: 0,
+            count: len,
+            start: 0,
+            size: 0,
+            f,
+            done,
+            ways: PhantomData,
+        }
+    }
+
+    // ---- look for
+
+    /// Takes all bits that are left as the last part, and tells whether there is one: `part_mut` lends it then.
+    pub fn seek_rest(&mut self) -> bool
+        requires { LiesIn V.Store.BITS V.words self.old }
+        ensures found { IsTrue result
+            ↔ ((parts_left (read_by V.Store.BitRegister V.Order.position) V.words self.old).done ≡ false) }
+        ensures ends { IsTrue result → Ends
+            (parts_left (read_by V.Store.BitRegister V.Order.position) V.words self.old)
+            (piece (parts_whole (read_by V.Store.BitRegister V.Order.position) V.words self.old)
+            (parts_found_start self.new) (parts_found_len self.new))
+            (parts_left (read_by V.Store.BitRegister V.Order.position) V.words self.new) }
+        ensures keeps { KeepsWindow V.lender V.words self.old self.new }
+        ensures lies_still { LiesIn V.Store.BITS V.words self.new }
+    {
+        if self.done {
+            return false;
+        }
+        self.start = self.from;
+        self.size = self.count;
+        self.done = true;
+        true
+    }
+
+    // ---- lend
+
+    /// The part that was found last, to write; no bits before the first search.
+    pub fn part_mut(&mut self) -> &mut V
+        requires { LiesIn V.Store.BITS V.words self.old }
+        ensures words { V.words result.now ≡ V.words (parts_view self.old) }
+        ensures lender { V.lender result.now ≡ V.lender (parts_view self.old) }
+        ensures place { V.place result.now ≡ parts_place self.old + parts_found_start self.old }
+        ensures len { length (V.bits result.now) ≡ parts_found_len self.old }
+        ensures* lends { sem 𝓛 (LendsPart V.row F.row A.row B.row V.Store.row V.Order.row self.entry result) }
+    {
+        let head = self.head + self.start;
+        let size = self.size;
+        self.of.show(head, size);
+        &mut *self.of
+    }
+}
+
+impl<'s, V: BitsMut, F: FnMut(usize, &bool) -> bool + Drop, A: Way, B: Way> SplitsMut<
+    's,
+    V,
+    F,
+    A,
+    B,
+> {
+    // ---- look for
+
+    /// Looks for the next part from the front, and tells whether there is one: `part_mut` lends it then.
+    pub fn seek(&mut self) -> bool
+        requires callable { F.IsAlwaysCallable (parts_callee self.old) }
+        requires lies { LiesIn V.Store.BITS V.words self.old }
+        ensures found { IsTrue result
+            ↔ ((parts_left (read_by V.Store.BitRegister V.Order.position) V.words self.old).done ≡ false) }
+        ensures parts { IsTrue result → Parts A.way F.FnMut
+            (parts_left (read_by V.Store.BitRegister V.Order.position) V.words self.old)
+            (piece (parts_whole (read_by V.Store.BitRegister V.Order.position) V.words self.old)
+            (parts_found_start self.new) (parts_found_len self.new))
+            (parts_left (read_by V.Store.BitRegister V.Order.position) V.words self.new) }
+        ensures keeps { KeepsWindow V.lender V.words self.old self.new }
+        ensures callable_still { F.IsAlwaysCallable (parts_callee self.new) }
+        ensures lies_still { LiesIn V.Store.BITS V.words self.new }
+
+        // Fewer bits are left, or no part is, so a search comes to its end.
+        ensures shorter { IsTrue result → parts_count self.old ≤ parts_count self.new → parts_done self.new ≡ true }
+    {
+        self.seek_by::<A>()
+    }
+
+    /// Looks for the next part from the back, and tells whether there is one: `part_mut` lends it then.
+    pub fn seek_back(&mut self) -> bool
+        requires callable { F.IsAlwaysCallable (parts_callee self.old) }
+        requires lies { LiesIn V.Store.BITS V.words self.old }
+        ensures found { IsTrue result
+            ↔ ((parts_left (read_by V.Store.BitRegister V.Order.position) V.words self.old).done ≡ false) }
+        ensures parts { IsTrue result → Parts B.way F.FnMut
+            (parts_left (read_by V.Store.BitRegister V.Order.position) V.words self.old)
+            (piece (parts_whole (read_by V.Store.BitRegister V.Order.position) V.words self.old)
+            (parts_found_start self.new) (parts_found_len self.new))
+            (parts_left (read_by V.Store.BitRegister V.Order.position) V.words self.new) }
+        ensures keeps { KeepsWindow V.lender V.words self.old self.new }
+        ensures callable_still { F.IsAlwaysCallable (parts_callee self.new) }
+        ensures lies_still { LiesIn V.Store.BITS V.words self.new }
+
+        // Fewer bits are left, or no part is, so a search comes to its end.
+        ensures shorter { IsTrue result → parts_count self.old ≤ parts_count self.new → parts_done self.new ≡ true }
+    {
+        self.seek_by::<B>()
+    }
+
+    // Looks for the next part at one end.
+    fn seek_by<W: Way>(&mut self) -> bool
+        requires callable { F.IsAlwaysCallable (parts_callee self.old) }
+        requires lies { LiesIn V.Store.BITS V.words self.old }
+        ensures found { IsTrue result
+            ↔ ((parts_left (read_by V.Store.BitRegister V.Order.position) V.words self.old).done ≡ false) }
+        ensures parts { IsTrue result → Parts W.way F.FnMut
+            (parts_left (read_by V.Store.BitRegister V.Order.position) V.words self.old)
+            (piece (parts_whole (read_by V.Store.BitRegister V.Order.position) V.words self.old)
+            (parts_found_start self.new) (parts_found_len self.new))
+            (parts_left (read_by V.Store.BitRegister V.Order.position) V.words self.new) }
+        ensures keeps { KeepsWindow V.lender V.words self.old self.new }
+        ensures callable_still { F.IsAlwaysCallable (parts_callee self.new) }
+        ensures lies_still { LiesIn V.Store.BITS V.words self.new }
+
+        // Fewer bits are left, or no part is, so a search comes to its end.
+        ensures shorter { IsTrue result → parts_count self.old ≤ parts_count self.new → parts_done self.new ≡ true }
+    {
+        if self.done {
+            return false;
+        }
+        let from = self.from;
+        let part = parted::<V, F, W>(self.of, &mut self.f, self.head, self.len, from, self.count);
+        self.start = from + part.start;
+        self.size = part.len;
+        self.from = from + part.rest;
+        self.count = part.rest_len;
+        self.done = part.last;
+        true
+    }
+}
+
+// The window made to show what is left to be split, and the part that comes off.
+#[tactic(auto, using(bit_slice_pieces_mut::proofs::PartLemmas::part_bits))]
+fn parted<V: BitsMut, F: FnMut(usize, &bool) -> bool, W: Way>(
+    of: &mut V,
+    f: &mut F,
+    head: usize,
+    len: usize,
+    from: usize,
+    count: usize,
+) -> Parting
+    requires callable { F.IsAlwaysCallable f.old }
+    requires inside { from + count ≤ len }
+    requires fits { head + len ≤ length (V.words of.old) * V.Store.BITS }
+    requires short { len ≤ MAX_BITS }
+    requires small { head + len < 2 ^ 63 }
+    ensures parts { PartsBy W.way F.FnMut
+        (piece (piece (memory (read_by V.Store.BitRegister V.Order.position) (V.words of.old)) head len) from count)
+        f.old result.start result.len result.rest result.rest_len result.last f.new }
+    ensures words { V.words of.new ≡ V.words of.old }
+    ensures lender { V.lender of.new ≡ V.lender of.old }
+    ensures callable_still { F.IsAlwaysCallable f.new }
+    ensures within { result.start + result.len ≤ count }
+    ensures rest_within { result.rest + result.rest_len ≤ count }
+    ensures shorter { count ≤ result.rest_len → result.last ≡ true }
+{
+    of.show(head + from, count);
+    let asked = asked_in::<V, F, W>(of, f);
+    W::part(count, asked)
+}

@@ -3,7 +3,8 @@
 use bit_addressing::{Lsb0, Msb0};
 use bit_slice_field_samples::{Header, passed, write};
 use bit_slice_fields::{BitField, BitFieldMut};
-use bit_slice_views::BitSlice;
+use bit_slice_pieces_mut::BitsPiecesMut;
+use bit_slice_views::{BitSlice, Bits};
 use bit_slice_writes::BitSliceMut;
 
 #[test]
@@ -32,6 +33,25 @@ fn numbers_of_five_bits_are_stored(rt: HostRuntime) {
         let mut view = BitSliceMut::<u8, Msb0>::from_place_mut(&mut words, 5 * k, 5);
         view.store_be(4 * k as u8);
     }
+    assert!(rt; words == [0x01, 0x10, 0xc8, 0x53, 0x1c]);
+}
+
+// Stores 0, 4, 8, .. in the pieces of five bits of a window.
+fn store_fours<V: BitFieldMut>(view: &mut V) {
+    let mut pieces = view.chunks_mut(5);
+    let mut number = 0u8;
+    while let Some(piece) = pieces.next_mut() {
+        if !piece.is_empty() && piece.len() <= 8 {
+            piece.store_be(number);
+        }
+        number = number.wrapping_add(4);
+    }
+}
+
+#[test]
+fn numbers_are_stored_in_chunks(rt: HostRuntime) {
+    let mut words = [0u8; 5];
+    store_fours(&mut BitSliceMut::<u8, Msb0>::from_slice_mut(&mut words));
     assert!(rt; words == [0x01, 0x10, 0xc8, 0x53, 0x1c]);
 }
 

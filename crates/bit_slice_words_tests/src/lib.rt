@@ -6,8 +6,6 @@ mod by_words;
 #[cfg(test)]
 mod commands;
 #[cfg(test)]
-mod nibbles;
-#[cfg(test)]
 mod shared;
 #[cfg(test)]
 mod stores;

@@ -62,7 +62,6 @@ pub fn move_in<R: BitRegister, O: BitOrder<R>>(
 }
 
 // Puts each word that the target touches, gathered bit by bit.
-#[inline(never)]
 fn put_gathered<R: BitRegister, O: BitOrder<R>>(
     sweep: &mut Sweep<'_, R>,
     source: usize,

@@ -2,6 +2,6 @@
 #![tactic(auto)]
 
 pub mod callers;
+pub mod pieces;
 pub mod store_callers;
 pub mod word_callers;
-pub mod pieces;

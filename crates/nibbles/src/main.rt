@@ -19,6 +19,10 @@ fn main(rt: HostRuntime) -> io::Result<()> {
         }
     }
     println!(rt; "{bits}")?;
-    println!(rt; "{} ones, the first at {:?}", bits.count_ones(), bits.first_one())?;
+    println!(rt;
+        "{} ones, the first at {:?}",
+        bits.count_ones(),
+        bits.first_one()
+    )?;
     println!(rt; "{:02x} {:02x}", bytes[0], bytes[1])
 }

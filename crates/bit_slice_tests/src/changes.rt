@@ -3,7 +3,7 @@
 use crate::edits::{EDITS, Edit, cut, edited};
 use crate::plain::{Plain, STRETCHES, Stretch, fill, listed, wide};
 use bit_addressing::{BitOrder, BitRegister, Lsb0, Msb0};
-use bit_addressing_samples::{FifthStep, Flipped};
+use bit_addressing_samples::{FifthStep, Flipped, UpperHalfFirst};
 use bit_slice_changes::{
     and_in, fill_in, move_words, not_in, or_in, reverse_in, rotate_left_in, rotate_right_in,
     shift_left_in, shift_right_in, xor_in,
@@ -94,4 +94,5 @@ fn stretches_are_changed(rt: HostRuntime) {
     assert!(rt; sweep::<u8, FifthStep>(&mut [0u8; 24]) && sweep::<u8, Flipped>(&mut [0u8; 24]));
     assert!(rt; sweep::<u16, Msb0>(&mut [0u16; 24]) && sweep::<u16, FifthStep>(&mut [0u16; 24]));
     assert!(rt; sweep::<u64, Lsb0>(&mut [0u64; 24]) && sweep::<u64, Flipped>(&mut [0u64; 24]));
+    assert!(rt; sweep::<u32, UpperHalfFirst>(&mut [0u32; 24]));
 }

@@ -3,7 +3,7 @@
 ghost use Rattle.std.specs.Prelude.{◌≤◌};
 
 use bit_addressing::{BitRegister, Lsb0, Msb0};
-use bit_addressing_samples::{FifthStep, Flipped};
+use bit_addressing_samples::{FifthStep, Flipped, UpperHalfFirst};
 use std::cmp::Ordering;
 
 /// An order whose bits are counted here by hand.
@@ -33,6 +33,12 @@ impl Plain for FifthStep {
 impl Plain for Flipped {
     fn digit(_bits: usize, index: usize) -> usize {
         index ^ 4
+    }
+}
+
+impl Plain for UpperHalfFirst {
+    fn digit(_bits: usize, index: usize) -> usize {
+        index ^ 16
     }
 }
 

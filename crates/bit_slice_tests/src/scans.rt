@@ -4,7 +4,7 @@ use crate::plain::{
     Plain, STRETCHES, Stretch, compare, contains, count, ends, equal, fill, listed, wide,
 };
 use bit_addressing::{BitOrder, BitRegister, Lsb0, Msb0, copy_between, write_entry};
-use bit_addressing_samples::{FifthStep, Flipped};
+use bit_addressing_samples::{FifthStep, Flipped, UpperHalfFirst};
 use bit_slice_scans::{
     compare_in, contains_in, count_ones_in, count_zeros_in, equal_in, first_in, last_in,
 };
@@ -107,6 +107,7 @@ fn stretches_are_scanned(rt: HostRuntime) {
     assert!(rt; sweep::<u8, FifthStep>(&mut [0u8; 24]) && sweep::<u8, Flipped>(&mut [0u8; 24]));
     assert!(rt; sweep::<u16, Msb0>(&mut [0u16; 24]) && sweep::<u16, FifthStep>(&mut [0u16; 24]));
     assert!(rt; sweep::<u64, Lsb0>(&mut [0u64; 24]) && sweep::<u64, Flipped>(&mut [0u64; 24]));
+    assert!(rt; sweep::<u32, UpperHalfFirst>(&mut [0u32; 24]));
 }
 
 #[test]

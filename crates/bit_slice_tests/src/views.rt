@@ -3,7 +3,7 @@
 use crate::edits::cut;
 use crate::plain::{List, Plain, STRETCHES, Stretch, at, fill, listed};
 use bit_addressing::{BitOrder, BitRegister, Lsb0, Msb0};
-use bit_addressing_samples::{FifthStep, Flipped};
+use bit_addressing_samples::{FifthStep, Flipped, UpperHalfFirst};
 use bit_slice_views::{BitRange, BitSlice, BitSliceIndex, Bits};
 
 /// Whether a window has `len` bits, those of a list from an index on.
@@ -72,6 +72,7 @@ fn sweep<R: BitRegister, O: BitOrder<R> + Plain>(words: &mut [R; 24]) -> bool {
 fn windows_show_lists(rt: HostRuntime) {
     assert!(rt; sweep::<u8, Lsb0>(&mut [0u8; 24]) && sweep::<u8, FifthStep>(&mut [0u8; 24]));
     assert!(rt; sweep::<u16, Flipped>(&mut [0u16; 24]) && sweep::<u64, Msb0>(&mut [0u64; 24]));
+    assert!(rt; sweep::<u32, UpperHalfFirst>(&mut [0u32; 24]));
 }
 
 // Whether a range, given twice, shows the bits of a list from one index up to before another, and nothing where they do

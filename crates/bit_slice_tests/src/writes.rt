@@ -6,7 +6,7 @@ use crate::edits::{EDITS, Edit, cut, edited};
 use crate::plain::{List, Plain, STRETCHES, Stretch, at, fill, listed, wide};
 use crate::views::shows;
 use bit_addressing::{BitOrder, BitRegister, Lsb0, Msb0};
-use bit_addressing_samples::{FifthStep, Flipped};
+use bit_addressing_samples::{FifthStep, Flipped, UpperHalfFirst};
 use bit_slice_views::{BitSlice, Bits};
 use bit_slice_writes::{BitSliceMut, BitsMut};
 
@@ -184,4 +184,5 @@ fn windows_are_written(rt: HostRuntime) {
     assert!(rt; sweep::<u8, Lsb0>(&mut [0u8; 24]) && sweep::<u8, Msb0>(&mut [0u8; 24]));
     assert!(rt; sweep::<u8, FifthStep>(&mut [0u8; 24]) && sweep::<u16, Flipped>(&mut [0u16; 24]));
     assert!(rt; sweep::<u64, Lsb0>(&mut [0u64; 24]));
+    assert!(rt; sweep::<u32, UpperHalfFirst>(&mut [0u32; 24]));
 }

@@ -1,6 +1,11 @@
-//! The words of a window, its cut at their borders, and two windows of separate words.
+//! The words of a window, its cut at their borders, two windows of separate words, and a sweep.
 
-use bit_addressing::{Lsb0, Msb0};
+ghost use Rattle.std.specs.Prelude.{◌≡◌, ◌+◌, ◌*◌, ◌^◌, ◌<◌, ◌≤◌, length};
+ghost use Rattle.bit_addressing.specs.Sweep.{IsFresh, sweep_lender, sweep_words};
+ghost use Rattle.bit_addressing.specs.declared.sweep.Way.TheVariants.{Up};
+ghost use Rattle.bit_addressing_span.specs.declared.span.TheConstants.{MAX_BITS};
+
+use bit_addressing::{BitOrder, BitRegister, Lsb0, Msb0, Sweep, Way};
 use bit_slice_domains::BitsDomains;
 use bit_slice_samples::word_callers::{clear_first_word, mark_parts, swap_halves};
 use bit_slice_writes::BitSliceMut;
@@ -41,4 +46,37 @@ fn halves_are_exchanged(rt: HostRuntime) {
     let mut words = [1u16, 2, 3, 4];
     swap_halves::<u16, Msb0>(&mut words, 2);
     assert!(rt; words == [3, 4, 1, 2]);
+}
+
+// Puts the first word of a sweep.
+fn put_first<T: BitRegister>(sweep: &mut Sweep<'_, T>, word: T)
+    requires some { 1 ≤ length (sweep_words sweep.old) }
+    requires fresh { IsFresh sweep.old Up }
+    ensures lender { sweep_lender sweep.new ≡ sweep_lender sweep.old }
+    ensures len { length (sweep_words sweep.new) ≡ length (sweep_words sweep.old) }
+{
+    sweep.put(0, word);
+}
+
+// Puts the first of the words that some bits touch.
+fn put_first_word<T: BitRegister, O: BitOrder<T>>(
+    words: &mut [T],
+    place: usize,
+    len: usize,
+    word: T,
+)
+    requires some { 0 < len }
+    requires short { len ≤ MAX_BITS }
+    requires ends { place + len < 2 ^ 63 }
+    requires fits { place + len ≤ length words.old * T.BITS }
+{
+    let mut view = BitSliceMut::<T, O>::from_place_mut(words, place, len);
+    view.sweep(Way::Up, |sweep| put_first(sweep, word));
+}
+
+#[test]
+fn the_words_of_a_window_are_swept(rt: HostRuntime) {
+    let mut words = [0u8; 4];
+    put_first_word::<u8, Lsb0>(&mut words, 9, 10, 0x42);
+    assert!(rt; words == [0x00, 0x42, 0x00, 0x00]);
 }

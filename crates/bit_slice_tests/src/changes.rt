@@ -3,7 +3,8 @@
 use crate::edits::{EDITS, Edit, cut, edited};
 use crate::plain::{Plain, STRETCHES, Stretch, fill, listed, wide};
 use bit_addressing::{BitOrder, BitRegister, Lsb0, Msb0};
-use bit_addressing_samples::{FifthStep, Flipped, UpperHalfFirst};
+use bit_addressing_sample_orders::UpperHalfFirst;
+use bit_addressing_samples::{FifthStep, Flipped};
 use bit_slice_changes::{
     and_in, fill_in, move_words, not_in, or_in, reverse_in, rotate_left_in, rotate_right_in,
     shift_left_in, shift_right_in, xor_in,

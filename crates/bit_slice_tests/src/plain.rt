@@ -3,7 +3,8 @@
 ghost use Rattle.std.specs.Prelude.{◌≤◌};
 
 use bit_addressing::{BitRegister, Lsb0, Msb0};
-use bit_addressing_samples::{FifthStep, Flipped, UpperHalfFirst};
+use bit_addressing_sample_orders::UpperHalfFirst;
+use bit_addressing_samples::{FifthStep, Flipped};
 use std::cmp::Ordering;
 
 /// An order whose bits are counted here by hand.

@@ -4,7 +4,8 @@ use crate::plain::{
     Plain, STRETCHES, Stretch, compare, contains, count, ends, equal, fill, listed, wide,
 };
 use bit_addressing::{BitOrder, BitRegister, Lsb0, Msb0, copy_between, write_entry};
-use bit_addressing_samples::{FifthStep, Flipped, UpperHalfFirst};
+use bit_addressing_sample_orders::UpperHalfFirst;
+use bit_addressing_samples::{FifthStep, Flipped};
 use bit_slice_scans::{
     compare_in, contains_in, count_ones_in, count_zeros_in, equal_in, first_in, last_in,
 };

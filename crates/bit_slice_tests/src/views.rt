@@ -3,7 +3,8 @@
 use crate::edits::cut;
 use crate::plain::{List, Plain, STRETCHES, Stretch, at, fill, listed};
 use bit_addressing::{BitOrder, BitRegister, Lsb0, Msb0};
-use bit_addressing_samples::{FifthStep, Flipped, UpperHalfFirst};
+use bit_addressing_sample_orders::UpperHalfFirst;
+use bit_addressing_samples::{FifthStep, Flipped};
 use bit_slice_views::{BitRange, BitSlice, BitSliceIndex, Bits};
 
 /// Whether a window has `len` bits, those of a list from an index on.

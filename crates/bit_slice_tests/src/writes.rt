@@ -6,7 +6,8 @@ use crate::edits::{EDITS, Edit, cut, edited};
 use crate::plain::{List, Plain, STRETCHES, Stretch, at, fill, listed, wide};
 use crate::views::shows;
 use bit_addressing::{BitOrder, BitRegister, Lsb0, Msb0};
-use bit_addressing_samples::{FifthStep, Flipped, UpperHalfFirst};
+use bit_addressing_sample_orders::UpperHalfFirst;
+use bit_addressing_samples::{FifthStep, Flipped};
 use bit_slice_views::{BitSlice, Bits};
 use bit_slice_writes::{BitSliceMut, BitsMut};
 

@@ -7,11 +7,12 @@ ghost use Rattle.bit_addressing_span.specs.declared.span.TheConstants.{MAX_BITS}
 
 use crate::access::BitsAccess;
 use crate::bit_mut::BitMut;
+use crate::cut::BitsCut;
 use crate::fills::BitsFill;
 use crate::part::Part;
 use bit_addressing::{BitOrder, BitRegister};
 use bit_slice_views::Bits;
-use bit_slice_writes::{BitSliceMut, BitsMut};
+use bit_slice_writes::{BitSliceMut, BitsMut, BitsWindow};
 
 /// Sets a bit and commits another, whatever the window.
 pub fn set_by_bits<V: BitsMut>(view: &mut V)
@@ -65,7 +66,7 @@ pub fn set_last<V: BitsMut>(view: &mut V)
 }
 
 /// Writes two bits of a part, whatever the window.
-pub fn set_in_part<V: BitsMut>(view: &mut V)
+pub fn set_in_part<V: BitsWindow>(view: &mut V)
     requires { 7 ≤ length (V.bits view.old) }
     ensures bits { V.bits view.new ≡ slice_set (slice_set (V.bits view.old) 3 true) 5 false }
     ensures frame { V.frame view.new ≡ V.frame view.old }
@@ -76,7 +77,7 @@ pub fn set_in_part<V: BitsMut>(view: &mut V)
 }
 
 /// Makes the bits of a range ones, and leaves the others.
-pub fn fill_range<V: BitsMut>(view: &mut V, from: usize, upto: usize)
+pub fn fill_range<V: BitsWindow>(view: &mut V, from: usize, upto: usize)
     requires ordered { from ≤ upto }
     requires within { upto ≤ length (V.bits view.old) }
     ensures bits { V.bits view.new ≡ with_piece (V.bits view.old) from (replicate (upto - from) true) }
@@ -87,7 +88,7 @@ pub fn fill_range<V: BitsMut>(view: &mut V, from: usize, upto: usize)
 }
 
 /// Makes the bits from an index on ones.
-pub fn fill_from<V: BitsMut>(view: &mut V, from: usize)
+pub fn fill_from<V: BitsWindow>(view: &mut V, from: usize)
     requires { from ≤ length (V.bits view.old) }
     ensures bits { V.bits view.new
         ≡ with_piece (V.bits view.old) from (replicate (length (V.bits view.old) - from) true) }
@@ -109,7 +110,7 @@ pub fn flip_each<V: BitsMut>(view: &mut V)
 }
 
 /// The first bit set and the one behind it cleared, by the two parts of a split.
-pub fn set_at_front<V: BitsMut>(view: &mut V)
+pub fn set_at_front<V: BitsWindow>(view: &mut V)
     requires { 1 < length (V.bits view.old) }
     ensures bits { V.bits view.new ≡ slice_set (slice_set (V.bits view.old) 0 true) 1 true }
     ensures frame { V.frame view.new ≡ V.frame view.old }

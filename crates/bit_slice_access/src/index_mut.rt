@@ -11,7 +11,7 @@ use crate::bit_mut::BitMut;
 use crate::copies::place_in;
 use crate::part::Part;
 use bit_slice_views::{BitRange, Bits};
-use bit_slice_writes::BitsMut;
+use bit_slice_writes::{BitsMut, BitsWindow};
 use std::ops::{Range, RangeFrom, RangeFull, RangeInclusive, RangeTo, RangeToInclusive};
 
 /// What `get_mut` and `index_mut` take: an index, or one of the six kinds of ranges.
@@ -71,7 +71,7 @@ impl BitRangeMut for RangeInclusive<usize> {}
 
 impl BitRangeMut for RangeToInclusive<usize> {}
 
-impl<'s, V: BitsMut + 's, I: BitRangeMut + Drop> BitSliceIndexMut<'s, V> for I {
+impl<'s, V: BitsWindow + 's, I: BitRangeMut + Drop> BitSliceIndexMut<'s, V> for I {
     type Mut = Part<'s, V>;
 
     ghost within = { λ range n. (I.start range ≤ I.end range n) × (I.end range n ≤ n) };

@@ -5,6 +5,7 @@ mod access;
 mod bit_mut;
 mod callers;
 mod copies;
+mod cut;
 mod fills;
 mod index_mut;
 mod part;
@@ -17,6 +18,7 @@ pub use callers::{
     set_last, set_where_inside,
 };
 pub use copies::BitsCopy;
+pub use cut::BitsCut;
 pub use fills::BitsFill;
 pub use index_mut::{BitRangeMut, BitSliceIndexMut};
 pub use part::Part;

@@ -8,12 +8,12 @@ ghost use Rattle.bit_slice_writes.specs.Frame.{frame_of};
 
 use bit_addressing::BitRegister;
 use bit_slice_views::{BitSlice, Bits};
-use bit_slice_writes::BitsMut;
+use bit_slice_writes::{BitsMut, BitsWindow};
 
 /// Some bits of a window, as a window of its own: what a range lends.
 ///
 /// When it ends, the window shows all its bits again.
-pub struct Part<'s, V: BitsMut> {
+pub struct Part<'s, V: BitsWindow> {
     of: &'s mut V,
     head: usize,
     len: usize,
@@ -24,7 +24,7 @@ pub struct Part<'s, V: BitsMut> {
 }
 
 #[tactic(auto, using(crate::proofs::PartLemmas::shows_all, crate::proofs::PartLemmas::framed_all))]
-impl<V: BitsMut> Drop for Part<'_, V> {
+impl<V: BitsWindow> Drop for Part<'_, V> {
     ghost use Rattle.bit_slice_access.specs.Part.{part_whole, part_around};
 
     fn drop(self)
@@ -38,7 +38,7 @@ impl<V: BitsMut> Drop for Part<'_, V> {
     }
 }
 
-impl<V: BitsMut> Bits for Part<'_, V> {
+impl<V: BitsWindow> Bits for Part<'_, V> {
     ghost use Rattle.bit_slice_access.specs.Part.{part_view};
 
     type Store = V::Store;
@@ -52,7 +52,7 @@ impl<V: BitsMut> Bits for Part<'_, V> {
     }
 }
 
-impl<V: BitsMut> BitsMut for Part<'_, V> {
+impl<V: BitsWindow> BitsMut for Part<'_, V> {
     ghost use Rattle.std.specs.Prelude.{refl};
     ghost use Rattle.bit_slice_access.specs.Part.{part_lender, part_view};
     ghost use Rattle.bit_slice_access.specs.PartLender.{PartLender};
@@ -76,10 +76,6 @@ impl<V: BitsMut> BitsMut for Part<'_, V> {
         self.of.with_words(f)
     }
 
-    fn show(&mut self, from: usize, count: usize) {
-        self.of.show(from, count);
-    }
-
     ghost window = { λ part. V.window (part_view part) };
 
     ghost fits = { λ part. V.fits (part_view part) };
@@ -87,7 +83,13 @@ impl<V: BitsMut> BitsMut for Part<'_, V> {
     ghost framed = { λ part. refl };
 }
 
-impl<'s, V: BitsMut> Part<'s, V> {
+impl<V: BitsWindow> BitsWindow for Part<'_, V> {
+    fn show(&mut self, from: usize, count: usize) {
+        self.of.show(from, count);
+    }
+}
+
+impl<'s, V: BitsWindow> Part<'s, V> {
     ghost use Rattle.bit_slice_access.specs.Part.{part_loan};
     ghost use Rattle.bit_slice_access.specs.Shows.{IsPartOf};
 

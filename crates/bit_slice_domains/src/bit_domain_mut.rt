@@ -7,14 +7,14 @@ ghost use Rattle.bit_slice_domains.specs.Lending.{LendsPart};
 
 use bit_addressing::{BitRegister, mem};
 use bit_slice_views::Bits;
-use bit_slice_writes::BitsMut;
+use bit_slice_writes::{BitsMut, BitsWindow};
 
 /// A window cut at the borders of its words: the bits before the first border, the whole words behind it, and the bits
 /// behind the last border. A part may have no bits. One part is lent at a time.
 ///
 /// In bitvec it is an enum of the parts: there the bits of a window that touches no border are the `Enclave`, here they
 /// are the first part.
-pub struct BitDomainMut<'s, V: BitsMut> {
+pub struct BitDomainMut<'s, V: BitsWindow> {
     of: &'s mut V,
     head: usize,
     len: usize,
@@ -22,7 +22,7 @@ pub struct BitDomainMut<'s, V: BitsMut> {
     body: usize,
 }
 
-impl<V: BitsMut> Drop for BitDomainMut<'_, V> {
+impl<V: BitsWindow> Drop for BitDomainMut<'_, V> {
     fn drop(self)
         requires fits { self.head + self.len ≤ length (V.words self.of.now) * V.Store.BITS }
         requires short { self.len ≤ MAX_BITS }
@@ -55,7 +55,7 @@ fn cut(place: usize, len: usize, bits: usize) -> (usize, usize)
     (first, body)
 }
 
-impl<'s, V: BitsMut> BitDomainMut<'s, V> {
+impl<'s, V: BitsWindow> BitDomainMut<'s, V> {
     ghost use Rattle.bit_slice_domains.specs.Cut.{cut_body, cut_first, cut_len, cut_loan, cut_place, cut_view};
     ghost use Rattle.bit_slice_domains.specs.Cut.{IsCutAt};
 

@@ -12,10 +12,10 @@ use crate::domain_mut::WindowDomainMut;
 use crate::halves::{Halves, split_in};
 use bit_addressing::BitRegister;
 use bit_slice_views::Bits;
-use bit_slice_writes::BitsMut;
+use bit_slice_writes::{BitsMut, BitsWindow};
 
-/// What a writable window lends by words: of every `BitsMut`.
-pub trait BitsDomains: BitsMut {
+/// What a writable window lends by words: of every `BitsWindow`.
+pub trait BitsDomains: BitsWindow {
     /// The words of the window, each read and written in the part of it that lies in the window.
     final fn domain_mut(&mut self) -> WindowDomainMut<'_, Self>
         ensures same_reference { domain_loan result ≡ self.entry.ghost_name }
@@ -63,4 +63,4 @@ pub trait BitsDomains: BitsMut {
     }
 }
 
-impl<V: BitsMut> BitsDomains for V {}
+impl<V: BitsWindow> BitsDomains for V {}

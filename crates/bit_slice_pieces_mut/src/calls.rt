@@ -7,13 +7,13 @@ ghost use Rattle.bit_slice_pieces_mut.specs.PiecesMut.{pieces_loan, CutsAll};
 
 use crate::iter_mut::IterMut;
 use crate::pieces_mut::{ChunksExactMut, ChunksMut, RChunksExactMut, RChunksMut};
-use bit_slice_writes::BitsMut;
+use bit_slice_writes::{BitsMut, BitsWindow};
 
-/// The pieces of a window, to write: of every `BitsMut`.
+/// The pieces of a window, to write: of every `BitsWindow`.
 ///
 /// One piece is lent at a time. A function that is generic in the window knows all of it afterwards; in the body that
 /// made the window nothing is known of it.
-pub trait BitsPiecesMut: BitsMut {
+pub trait BitsPiecesMut: BitsWindow {
     /// The pieces of `size` bits from the front on, lent one at a time; the last one is shorter where `size` does not divide
     /// their number.
     final fn chunks_mut(&mut self, size: usize) -> ChunksMut<'_, Self>
@@ -66,4 +66,4 @@ pub trait BitsPiecesMut: BitsMut {
     }
 }
 
-impl<V: BitsMut> BitsPiecesMut for V {}
+impl<V: BitsWindow> BitsPiecesMut for V {}

@@ -15,7 +15,7 @@ use bit_addressing::BitRegister;
 use bit_slice_access::Part;
 use bit_slice_pieces::{Cuts, Single};
 use bit_slice_views::Bits;
-use bit_slice_writes::BitsMut;
+use bit_slice_writes::{BitsMut, BitsWindow};
 
 /// The bits of a writable window that were not lent yet: each is lent as a window of one bit.
 pub type IterMut<'s, V> = PiecesMut<'s, V, Single>;
@@ -25,7 +25,7 @@ pub trait EachBit: Cuts {}
 
 impl EachBit for Single {}
 
-impl<'s, V: BitsMut, C: EachBit> PiecesMut<'s, V, C> {
+impl<'s, V: BitsWindow, C: EachBit> PiecesMut<'s, V, C> {
     /// The bits that were not lent yet, as a window, to read and to write. They are left to be lent.
     pub fn as_bitslice(&mut self) -> &mut V
         requires ordered { pieces_front self.old ≤ pieces_back self.old }

@@ -15,13 +15,13 @@ use bit_addressing::BitRegister;
 use bit_slice_access::Part;
 use bit_slice_pieces::{Backward, BackwardExact, Cuts, ExactCuts, Forward, ForwardExact};
 use bit_slice_views::Bits;
-use bit_slice_writes::BitsMut;
+use bit_slice_writes::{BitsMut, BitsWindow};
 use std::marker::PhantomData;
 
 /// The pieces of a writable window that were not lent yet, of which one is lent at a time.
 ///
 /// Between two loans the window shows the piece that was lent last; when this ends, it shows all its bits again.
-pub struct PiecesMut<'s, V: BitsMut, C: Cuts> {
+pub struct PiecesMut<'s, V: BitsWindow, C: Cuts> {
     pub(crate) of: &'s mut V,
     pub(crate) head: usize,
     pub(crate) len: usize,
@@ -45,7 +45,7 @@ pub type RChunksMut<'s, V> = PiecesMut<'s, V, Backward>;
 pub type RChunksExactMut<'s, V> = PiecesMut<'s, V, BackwardExact>;
 
 #[tactic(auto, using(bit_slice_access::proofs::PartLemmas::shows_all, bit_slice_access::proofs::PartLemmas::framed_all))]
-impl<V: BitsMut, C: Cuts> Drop for PiecesMut<'_, V, C> {
+impl<V: BitsWindow, C: Cuts> Drop for PiecesMut<'_, V, C> {
     fn drop(self)
         requires fits { self.head + self.len ≤ length (V.words self.of.now) * V.Store.BITS }
         requires short { self.len ≤ MAX_BITS }
@@ -69,7 +69,7 @@ impl<V: BitsMut, C: Cuts> Drop for PiecesMut<'_, V, C> {
     }
 }
 
-impl<'s, V: BitsMut, C: Cuts> PiecesMut<'s, V, C> {
+impl<'s, V: BitsWindow, C: Cuts> PiecesMut<'s, V, C> {
     // ---- make
 
     /// All pieces of the size `by`.
@@ -190,7 +190,7 @@ impl<'s, V: BitsMut, C: Cuts> PiecesMut<'s, V, C> {
     }
 }
 
-impl<'s, V: BitsMut, C: ExactCuts> PiecesMut<'s, V, C> {
+impl<'s, V: BitsWindow, C: ExactCuts> PiecesMut<'s, V, C> {
     /// The bits that are in no piece, to write: fewer than the size. Once they are taken there are none.
     pub fn take_remainder(&mut self) -> &mut V
         requires some { 0 < pieces_size self.old }
@@ -248,7 +248,13 @@ fn rest_of(taken: bool, len: usize, by: usize) -> usize
 
 // Makes a window of `len` bits from the place `head` on show `size` of them, from bit `start` on.
 #[tactic(auto, using(crate::proofs::PartLemmas::part_bits))]
-pub(crate) fn show_part<V: BitsMut>(of: &mut V, head: usize, len: usize, start: usize, size: usize)
+pub(crate) fn show_part<V: BitsWindow>(
+    of: &mut V,
+    head: usize,
+    len: usize,
+    start: usize,
+    size: usize,
+)
     requires inside { start + size ≤ len }
     requires fits { head + len ≤ length (V.words of.old) * V.Store.BITS }
     requires short { len ≤ MAX_BITS }

@@ -8,7 +8,7 @@ use bit_slice_pieces::{Backward, BackwardExact, Cuts, ExactCuts, Forward, Forwar
 use bit_slice_pieces_mut::{BitsPiecesMut, PiecesMut};
 use bit_slice_samples::pieces::mark_words;
 use bit_slice_views::Bits;
-use bit_slice_writes::{BitSliceMut, BitsMut};
+use bit_slice_writes::{BitSliceMut, BitsMut, BitsWindow};
 
 // Whether the piece that is lent as number j is that of a table.
 fn is_piece<V: Bits>(piece: &V, table: &[(usize, usize)], j: usize) -> bool {
@@ -16,7 +16,7 @@ fn is_piece<V: Bits>(piece: &V, table: &[(usize, usize)], j: usize) -> bool {
 }
 
 // Whether the pieces are lent in the order of a table from the front; each is flipped.
-fn flips<V: BitsMut, C: Cuts>(view: &mut V, by: usize, table: &[(usize, usize)]) -> bool
+fn flips<V: BitsWindow, C: Cuts>(view: &mut V, by: usize, table: &[(usize, usize)]) -> bool
     requires { 0 < by }
 {
     let mut pieces = PiecesMut::<V, C>::new(view, by);
@@ -31,7 +31,7 @@ fn flips<V: BitsMut, C: Cuts>(view: &mut V, by: usize, table: &[(usize, usize)])
 }
 
 // The same from the back.
-fn flips_back<V: BitsMut, C: Cuts>(view: &mut V, by: usize, table: &[(usize, usize)]) -> bool
+fn flips_back<V: BitsWindow, C: Cuts>(view: &mut V, by: usize, table: &[(usize, usize)]) -> bool
     requires { 0 < by }
 {
     let mut pieces = PiecesMut::<V, C>::new(view, by);
@@ -68,7 +68,7 @@ fn flipped<C: Cuts>(by: usize, table: &[(usize, usize)]) -> Option<[u8; 2]>
 }
 
 // Whether the first and the last piece of a window of ten bits are lent by turns.
-fn by_turns<V: BitsMut>(view: &mut V) -> bool
+fn by_turns<V: BitsWindow>(view: &mut V) -> bool
     requires { length (V.bits view.old) ≡ 10 }
 {
     let mut pieces = view.chunks_mut(3);
@@ -95,7 +95,7 @@ fn by_turns<V: BitsMut>(view: &mut V) -> bool
 }
 
 // Whether the bits in no piece are lent once; they are flipped.
-fn takes<V: BitsMut, C: ExactCuts>(view: &mut V, by: usize, start: usize, size: usize) -> bool
+fn takes<V: BitsWindow, C: ExactCuts>(view: &mut V, by: usize, start: usize, size: usize) -> bool
     requires { 0 < by }
 {
     let mut pieces = PiecesMut::<V, C>::new(view, by);
@@ -106,7 +106,7 @@ fn takes<V: BitsMut, C: ExactCuts>(view: &mut V, by: usize, start: usize, size: 
 }
 
 // Whether they are given when the pieces are spent; they are flipped.
-fn ends<V: BitsMut, C: ExactCuts>(view: &mut V, by: usize, start: usize, size: usize) -> bool
+fn ends<V: BitsWindow, C: ExactCuts>(view: &mut V, by: usize, start: usize, size: usize) -> bool
     requires { 0 < by }
 {
     let pieces = PiecesMut::<V, C>::new(view, by);

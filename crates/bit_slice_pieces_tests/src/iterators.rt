@@ -7,7 +7,7 @@ use bit_addressing::Lsb0;
 use bit_slice_iterators::{BitValIter, BitsIter, IterOnes, IterZeros};
 use bit_slice_pieces_mut::BitsPiecesMut;
 use bit_slice_views::{BitSlice, Bits};
-use bit_slice_writes::{BitSliceMut, BitsMut};
+use bit_slice_writes::{BitSliceMut, BitsMut, BitsWindow};
 
 // Whether an iterator gives the ten bits of the list, from the front and the back by turns, and then none.
 fn gives_all(mut left: BitValIter<'_, u8, Lsb0>) -> bool {
@@ -74,7 +74,7 @@ fn ones_and_zeros_have_indices(rt: HostRuntime) {
 }
 
 // The first and the last bit of a window flipped, and what is left set.
-fn flips_ends<V: BitsMut>(view: &mut V) -> bool
+fn flips_ends<V: BitsWindow>(view: &mut V) -> bool
     requires { length (V.bits view.old) ≡ 10 }
 {
     let mut bits = view.iter_mut();

@@ -4,10 +4,10 @@ use bit_addressing::Lsb0;
 use bit_slice_splits::Way;
 use bit_slice_splits_mut::{BitsSplitsMut, SplitsMut};
 use bit_slice_views::Bits;
-use bit_slice_writes::{BitSliceMut, BitsMut};
+use bit_slice_writes::{BitSliceMut, BitsMut, BitsWindow};
 
 // Fills each part from the front on, and counts them.
-fn fills<V: BitsMut, F: FnMut(usize, &bool) -> bool + Drop, A: Way, B: Way>(
+fn fills<V: BitsWindow, F: FnMut(usize, &bool) -> bool + Drop, A: Way, B: Way>(
     view: &mut V,
     f: F,
 ) -> usize
@@ -23,7 +23,7 @@ fn fills<V: BitsMut, F: FnMut(usize, &bool) -> bool + Drop, A: Way, B: Way>(
 }
 
 // Clears the last part and then all that is left.
-fn clears<V: BitsMut>(view: &mut V) -> bool {
+fn clears<V: BitsWindow>(view: &mut V) -> bool {
     let mut parts = view.split_mut(|_i, bit| *bit);
     if !parts.seek_back() {
         return false;

@@ -7,7 +7,7 @@ ghost use Rattle.bit_slice_writes.specs.Frame.{KeepsBeside};
 
 use bit_addressing::{BitOrder, BitRegister, Lsb0, MAX_BITS, Msb0};
 use bit_slice_views::{BitSlice, Bits};
-use bit_slice_writes::{BitSliceMut, BitsMut};
+use bit_slice_writes::{BitSliceMut, BitsMut, BitsWindow};
 
 /// A window of one's own words filled: its list is known, and every bit beside it is as it was, in a shared word too.
 #[tactic(auto, using(bit_slice_writes::proofs::FrameLemmas::frames))]
@@ -23,7 +23,7 @@ pub fn fill_middle<T: BitRegister, O: BitOrder<T>>(words: &mut [T], place: usize
 }
 
 /// Both parts of a window, written in turn.
-pub fn set_both<V: BitsMut>(view: &mut V, mid: usize, left: usize, right: usize)
+pub fn set_both<V: BitsWindow>(view: &mut V, mid: usize, left: usize, right: usize)
     requires within { mid ≤ length (V.bits view.old) }
     requires left { left < mid }
     requires right { mid + right < length (V.bits view.old) }

@@ -12,7 +12,7 @@ use bit_addressing::{BitOrder, BitRegister, MAX_BITS};
 use bit_slice_pieces::Chunks;
 use bit_slice_pieces_mut::BitsPiecesMut;
 use bit_slice_views::{BitSlice, Bits};
-use bit_slice_writes::{BitSliceMut, BitsMut};
+use bit_slice_writes::{BitSliceMut, BitsMut, BitsWindow};
 
 /// The third chunk of five bits: by an iterator's own `nth`.
 pub fn third_chunk<'a, T: BitRegister + 'a, O: BitOrder<T>>(
@@ -27,7 +27,7 @@ pub fn third_chunk<'a, T: BitRegister + 'a, O: BitOrder<T>>(
 
 /// The first bit of each chunk set, whatever the window.
 #[tactic(auto, using(bit_slice_pieces::proofs::CutLemmas::cuts))]
-pub fn mark_chunks<V: BitsMut>(view: &mut V, size: usize)
+pub fn mark_chunks<V: BitsWindow>(view: &mut V, size: usize)
     requires { 0 < size }
     ensures bits { V.bits view.new
         ≡ marked (V.bits view.old) size (div_ceil (length (V.bits view.old)) size) }

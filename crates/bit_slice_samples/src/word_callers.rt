@@ -12,10 +12,10 @@ use bit_addressing::{BitOrder, BitRegister, MAX_BITS};
 use bit_slice_access::BitsCopy;
 use bit_slice_domains::{BitsDomains, Halves};
 use bit_slice_views::Bits;
-use bit_slice_writes::{BitSliceMut, BitsMut};
+use bit_slice_writes::{BitSliceMut, BitsMut, BitsWindow};
 
 /// The first word of a window cleared, in the part of it that lies in the window.
-pub fn clear_first_word<V: BitsMut>(view: &mut V)
+pub fn clear_first_word<V: BitsWindow>(view: &mut V)
     requires { 0 < length (V.bits view.old) }
     ensures cleared { WritesWord (read_by V.Store.BitRegister V.Order.position) (V.words view.old) (V.words view.new)
         (window_span V.Store.BITS (V.place view.old) (length (V.bits view.old))) 0 (λ _. false) }
@@ -26,7 +26,7 @@ pub fn clear_first_word<V: BitsMut>(view: &mut V)
 }
 
 /// The first bit of each part of a window, cut at the borders of its words, where each part has one.
-pub fn mark_parts<V: BitsMut>(view: &mut V)
+pub fn mark_parts<V: BitsWindow>(view: &mut V)
     requires head { 0 < head_bits V.Store.BITS (V.place view.old) (length (V.bits view.old)) }
     requires body { 0 < body_bits V.Store.BITS (V.place view.old) (length (V.bits view.old)) }
     requires tail { head_bits V.Store.BITS (V.place view.old) (length (V.bits view.old))

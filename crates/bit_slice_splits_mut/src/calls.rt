@@ -8,12 +8,12 @@ ghost use Rattle.bit_slice_splits_mut.specs.SplitsMut.{parts_whole, LiesIn};
 use crate::splits_mut::{RSplitMut, SplitInclusiveMut, SplitMut};
 use bit_addressing::BitRegister;
 use bit_slice_views::Bits;
-use bit_slice_writes::BitsMut;
+use bit_slice_writes::{BitsMut, BitsWindow};
 
-/// The splits of a window by a predicate, to write: of every `BitsMut`.
+/// The splits of a window by a predicate, to write: of every `BitsWindow`.
 ///
 /// One part is lent at a time, by `part_mut`, once `seek` has found it. The predicate is handed what that of `split` is.
-pub trait BitsSplitsMut: BitsMut {
+pub trait BitsSplitsMut: BitsWindow {
     /// The parts between the bits where the predicate answers true; these bits are in none.
     final fn split_mut<F: FnMut(usize, &bool) -> bool + Drop>(
         &mut self,
@@ -79,4 +79,4 @@ pub trait BitsSplitsMut: BitsMut {
     }
 }
 
-impl<V: BitsMut> BitsSplitsMut for V {}
+impl<V: BitsWindow> BitsSplitsMut for V {}

@@ -16,13 +16,13 @@ use bit_slice_splits::{
     FromBack, FromFront, InclusiveBack, InclusiveFront, Parting, Way, asked_in,
 };
 use bit_slice_views::Bits;
-use bit_slice_writes::BitsMut;
+use bit_slice_writes::{BitsMut, BitsWindow};
 use std::marker::PhantomData;
 
 /// The parts of a writable window that were not lent yet: `seek` looks for the next one, and `part_mut` lends it.
 ///
 /// When this ends, the window shows all its bits again.
-pub struct SplitsMut<'s, V: BitsMut, F: Drop, A: Way, B: Way> {
+pub struct SplitsMut<'s, V: BitsWindow, F: Drop, A: Way, B: Way> {
     of: &'s mut V,
     head: usize,
     len: usize,
@@ -45,7 +45,7 @@ pub type RSplitMut<'s, V, F> = SplitsMut<'s, V, F, FromBack, FromFront>;
 pub type SplitInclusiveMut<'s, V, F> = SplitsMut<'s, V, F, InclusiveFront, InclusiveBack>;
 
 #[tactic(auto, using(bit_slice_access::proofs::PartLemmas::shows_all, bit_slice_access::proofs::PartLemmas::framed_all))]
-impl<V: BitsMut, F: Drop, A: Way, B: Way> Drop for SplitsMut<'_, V, F, A, B> {
+impl<V: BitsWindow, F: Drop, A: Way, B: Way> Drop for SplitsMut<'_, V, F, A, B> {
     fn drop(self)
         requires fits { self.head + self.len ≤ length (V.words self.of.now) * V.Store.BITS }
         requires short { self.len ≤ MAX_BITS }
@@ -71,7 +71,7 @@ impl<V: BitsMut, F: Drop, A: Way, B: Way> Drop for SplitsMut<'_, V, F, A, B> {
     }
 }
 
-impl<'s, V: BitsMut, F: Drop, A: Way, B: Way> SplitsMut<'s, V, F, A, B> {
+impl<'s, V: BitsWindow, F: Drop, A: Way, B: Way> SplitsMut<'s, V, F, A, B> {
     // ---- make
 
     /// The parts of a window, none where `done` is true.
@@ -147,7 +147,7 @@ impl<'s, V: BitsMut, F: Drop, A: Way, B: Way> SplitsMut<'s, V, F, A, B> {
     }
 }
 
-impl<'s, V: BitsMut, F: FnMut(usize, &bool) -> bool + Drop, A: Way, B: Way> SplitsMut<
+impl<'s, V: BitsWindow, F: FnMut(usize, &bool) -> bool + Drop, A: Way, B: Way> SplitsMut<
     's,
     V,
     F,
@@ -232,7 +232,7 @@ impl<'s, V: BitsMut, F: FnMut(usize, &bool) -> bool + Drop, A: Way, B: Way> Spli
 
 // The window made to show what is left to be split, and the part that comes off.
 #[tactic(auto, using(bit_slice_pieces_mut::proofs::PartLemmas::part_bits))]
-fn parted<V: BitsMut, F: FnMut(usize, &bool) -> bool, W: Way>(
+fn parted<V: BitsWindow, F: FnMut(usize, &bool) -> bool, W: Way>(
     of: &mut V,
     f: &mut F,
     head: usize,

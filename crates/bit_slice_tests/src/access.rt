@@ -5,11 +5,11 @@ ghost use Rattle.std.specs.Prelude.{◌≡◌, ◌≤◌, length};
 use bit_addressing::{Lsb0, Msb0};
 use bit_slice_access::{BitsAccess, BitsCopy, BitsFill};
 use bit_slice_views::Bits;
-use bit_slice_writes::{BitSliceMut, BitsMut};
+use bit_slice_writes::{BitSliceMut, BitsMut, BitsWindow};
 use std::process::Abort;
 
 // Writes bits 0, 3 and the last, and the parts of bits 8 to before 12 and of 16 to before 20.
-fn write_by_index<V: BitsMut>(view: &mut V)
+fn write_by_index<V: BitsWindow>(view: &mut V)
     requires { length (V.bits view.old) ≡ 24 }
 {
     if let Some(bit) = view.first_mut() {
@@ -24,7 +24,7 @@ fn write_by_index<V: BitsMut>(view: &mut V)
 }
 
 // Writes the last bit, and copies a part.
-fn write_behind<V: BitsMut>(view: &mut V)
+fn write_behind<V: BitsWindow>(view: &mut V)
     requires { length (V.bits view.old) ≡ 24 }
 {
     view.copy_within(8..12, 16);

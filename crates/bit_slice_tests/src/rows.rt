@@ -8,7 +8,7 @@ use bit_slice_changes::{
 };
 use bit_slice_samples::callers::{fill_middle, moved, same_list, set_both, set_both_in};
 use bit_slice_views::{BitSlice, Bits};
-use bit_slice_writes::{BitSliceMut, BitsMut};
+use bit_slice_writes::{BitSliceMut, BitsMut, BitsWindow};
 use std::process::Abort;
 
 // The bits of a window as digits, the first one in front.
@@ -40,7 +40,7 @@ fn words_are_rotated_and_shifted(rt: HostRuntime) {
 }
 
 // The row of five bits through a window of them.
-fn turn_and_shift<V: BitsMut>(rt: &impl Abort, view: &mut V)
+fn turn_and_shift<V: BitsWindow>(rt: &impl Abort, view: &mut V)
     requires { length (V.bits view.old) ≡ 5 }
     ensures { length (V.words view.new) ≡ length (V.words view.old) }
 {
@@ -64,7 +64,7 @@ fn turn_and_shift<V: BitsMut>(rt: &impl Abort, view: &mut V)
 }
 
 // Four pieces of four bits, bit k of piece k set.
-fn set_in_pieces<V: BitsMut>(view: &mut V)
+fn set_in_pieces<V: BitsWindow>(view: &mut V)
     requires { length (V.bits view.old) ≡ 16 }
 {
     let mut pair = view.split_at_mut(8);
@@ -90,7 +90,7 @@ fn windows_are_cut_and_written(rt: HostRuntime) {
 }
 
 // The row of four ones and the list 1, 0, which is shorter.
-fn combine<V: BitsMut, W: Bits>(rt: &impl Abort, view: &mut V, other: &W)
+fn combine<V: BitsWindow, W: Bits>(rt: &impl Abort, view: &mut V, other: &W)
     requires { length (V.bits view.old) ≡ 4 }
 {
     view.fill(true);
@@ -117,14 +117,14 @@ fn windows_are_combined(rt: HostRuntime) {
 }
 
 // Moves 16 bits of a window's part to its beginning.
-fn move_part<V: BitsMut>(view: &mut V) -> usize
+fn move_part<V: BitsWindow>(view: &mut V) -> usize
     requires { length (V.bits view.old) ≡ 24 }
 {
     let mut pair = view.split_at_mut(2);
     move_front(pair.right_mut())
 }
 
-fn move_front<V: BitsMut>(view: &mut V) -> usize
+fn move_front<V: BitsWindow>(view: &mut V) -> usize
     requires { length (V.bits view.old) ≡ 22 }
     ensures { length (V.words view.new) ≡ length (V.words view.old) }
 {

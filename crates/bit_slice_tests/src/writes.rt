@@ -9,10 +9,10 @@ use bit_addressing::{BitOrder, BitRegister, Lsb0, Msb0};
 use bit_addressing_sample_orders::UpperHalfFirst;
 use bit_addressing_samples::{FifthStep, Flipped};
 use bit_slice_views::{BitSlice, Bits};
-use bit_slice_writes::{BitSliceMut, BitsMut};
+use bit_slice_writes::{BitSliceMut, BitsMut, BitsWindow};
 
 // Makes an edit of a window.
-fn edit_window<V: BitsMut, W: Bits>(edit: Edit, view: &mut V, by: usize, other: &W)
+fn edit_window<V: BitsWindow, W: Bits>(edit: Edit, view: &mut V, by: usize, other: &W)
     ensures frame { V.frame view.new ≡ V.frame view.old }
     ensures len { length (V.bits view.new) ≡ length (V.bits view.old) }
 {
@@ -34,7 +34,7 @@ fn edit_window<V: BitsMut, W: Bits>(edit: Edit, view: &mut V, by: usize, other: 
 }
 
 // Makes an edit of the first bits of a window.
-fn edit_first<V: BitsMut, W: Bits>(edit: Edit, view: &mut V, len: usize, by: usize, other: &W)
+fn edit_first<V: BitsWindow, W: Bits>(edit: Edit, view: &mut V, len: usize, by: usize, other: &W)
     requires { len ≤ length (V.bits view.old) }
     ensures count { length (V.words view.new) ≡ length (V.words view.old) }
 {
@@ -43,7 +43,7 @@ fn edit_first<V: BitsMut, W: Bits>(edit: Edit, view: &mut V, len: usize, by: usi
 }
 
 // Makes an edit of a stretch of a window.
-fn edit_part<V: BitsMut, W: Bits>(edit: Edit, view: &mut V, stretch: Stretch, by: usize, other: &W)
+fn edit_part<V: BitsWindow, W: Bits>(edit: Edit, view: &mut V, stretch: Stretch, by: usize, other: &W)
     requires { stretch.place + stretch.len ≤ length (V.bits view.old) }
 {
     let mut pair = view.split_at_mut(stretch.place);
@@ -83,7 +83,7 @@ fn edits<R: BitRegister, O: BitOrder<R> + Plain>(
 }
 
 // Whether bits of a window are written, replaced and exchanged one by one; it ends with two exchanged.
-fn singles<V: BitsMut>(view: &mut V, list: &List, i: usize, j: usize) -> bool
+fn singles<V: BitsWindow>(view: &mut V, list: &List, i: usize, j: usize) -> bool
     requires first { i < length (V.bits view.old) }
     requires second { j < length (V.bits view.old) }
 {

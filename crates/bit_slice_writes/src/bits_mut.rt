@@ -10,10 +10,8 @@ ghost use Rattle.bit_addressing.specs.Moves.{changed};
 ghost use Rattle.bit_addressing_span.specs.declared.span.TheConstants.{MAX_BITS};
 ghost use Rattle.bit_slice_writes.specs.Combined.{combined};
 ghost use Rattle.bit_slice_writes.specs.Frame.{Frame, frame_of, KeepsBeside};
-ghost use Rattle.bit_slice_writes.specs.Pair.{pair_len, pair_loan, pair_mid, pair_place, pair_view};
 
 use crate::combine::{and_window, or_window, xor_window};
-use crate::pair::Pair;
 use crate::paths::copy_path;
 use crate::windows::{copy_window, fill_window, move_window};
 use bit_addressing::{BitRegister, write_entry};
@@ -21,14 +19,14 @@ use bit_slice_changes::{not_in, reverse_in, rotate_left_in, shift_left_in, shift
 use bit_slice_paths::WordPaths;
 use bit_slice_views::Bits;
 
-/// A writable window of words: what writes its bits and leaves all others.
+/// What writes its bits and leaves all others: a writable window, and each container.
 ///
-/// A contract sees its list as `bits`, and what no write through it changes as `frame`: whose words they are, and the
-/// bits before and behind the window.
+/// A contract sees its list as `bits`, and what no write changes as `frame`: whose words they are, and their bits before
+/// and behind the list.
 pub trait BitsMut: Bits {
     ghost Lender: { Type 0 };
 
-    // Whose words it writes.
+    // Whose words it writes; of a container, what it has beside them.
     ghost lender: { Self → Lender };
 
     ghost words: { Self → List Self.Store };
@@ -54,16 +52,6 @@ pub trait BitsMut: Bits {
         ensures len { length (Self.bits self.new) ≡ length (Self.bits self.old) }
         ensures count { length (words self.new) ≡ length (words self.old) };
 
-    /// Shows another window of the same words.
-    fn show(&mut self, from: usize, count: usize)
-        requires fits { from + count ≤ length (words self.old) * Self.Store.BITS }
-        requires short { count ≤ MAX_BITS }
-        requires small { from + count < 2 ^ 63 }
-        ensures words { words self.new ≡ words self.old }
-        ensures lender { lender self.new ≡ lender self.old }
-        ensures place { place self.new ≡ from }
-        ensures len { length (Self.bits self.new) ≡ count };
-
     ghost window: { (v : Self) → Self.bits v
         ≡ piece (memory (read_by Self.Store.BitRegister Self.Order.position) (words v))
         (place v) (length (Self.bits v)) };
@@ -87,26 +75,6 @@ pub trait BitsMut: Bits {
         ensures frame { frame self.new ≡ frame self.old }
     {
         self.with_words(f)
-    }
-
-    // ---- cut
-
-    /// Two parts, the first `mid` bits and the others, of which one is lent at a time.
-    final fn split_at_mut(&mut self, mid: usize) -> Pair<'_, Self>
-        requires { mid ≤ length (Self.bits self.old) }
-        ensures same_reference { pair_loan result ≡ self.entry.ghost_name }
-        ensures value { pair_view result ≡ self.old }
-        ensures place { pair_place result ≡ place self.old }
-        ensures mid { pair_mid result ≡ mid }
-        ensures len { pair_len result ≡ length (Self.bits self.old) }
-
-        // What the window's type says.
-        ensures short { pair_len result ≤ MAX_BITS }
-        ensures small { pair_place result + pair_len result < 2 ^ 63 }
-    {
-        let head = self.first_place();
-        let len = self.len();
-        Pair::new(self, head, mid, len)
     }
 
     // ---- change

@@ -6,18 +6,19 @@ ghost use Rattle.bit_addressing_span.specs.declared.span.TheConstants.{MAX_BITS}
 ghost use Rattle.bit_slice_writes.specs.Lending.{LendsHalf};
 
 use crate::bits_mut::BitsMut;
+use crate::bits_window::BitsWindow;
 use bit_addressing::BitRegister;
 use bit_slice_views::Bits;
 
 /// Two parts of a window, of which one is lent at a time.
-pub struct Pair<'s, V: BitsMut> {
+pub struct Pair<'s, V: BitsWindow> {
     of: &'s mut V,
     head: usize,
     mid: usize,
     len: usize,
 }
 
-impl<V: BitsMut> Drop for Pair<'_, V> {
+impl<V: BitsWindow> Drop for Pair<'_, V> {
     fn drop(self)
         requires fits { self.head + self.len ≤ length (V.words self.of.now) * V.Store.BITS }
         requires short { self.len ≤ MAX_BITS }
@@ -37,7 +38,7 @@ impl<V: BitsMut> Drop for Pair<'_, V> {
     }
 }
 
-impl<'s, V: BitsMut> Pair<'s, V> {
+impl<'s, V: BitsWindow> Pair<'s, V> {
     ghost use Rattle.bit_slice_writes.specs.Pair.{pair_len, pair_loan, pair_mid, pair_place, pair_view};
 
     pub(crate) fn new(of: &'s mut V, head: usize, mid: usize, len: usize) -> Pair<'s, V>

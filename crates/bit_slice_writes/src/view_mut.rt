@@ -7,6 +7,7 @@ ghost use Rattle.bit_addressing_span.specs.declared.span.TheConstants.{MAX_BITS}
 ghost use Rattle.bit_addressing_span.specs.declared.span_error.BitSpanError.TheVariants.{TooLong};
 
 use crate::bits_mut::BitsMut;
+use crate::bits_window::BitsWindow;
 use bit_addressing::{BitIdx, BitOrder, BitRegister, BitSpanError, MAX_BITS, mem};
 use bit_slice_views::{BitSlice, Bits};
 use std::marker::PhantomData;
@@ -147,16 +148,19 @@ impl<T: BitRegister, O: BitOrder<T>> BitsMut for BitSliceMut<'_, T, O> {
         apply::<T, A, F>(self.words, f)
     }
 
-    fn show(&mut self, from: usize, count: usize) {
-        self.head = from;
-        self.len = count;
-    }
-
     ghost window = { λ v. shown_window (reading_in T.BITS T.number O.position) v.words.now v.head v.len v.fits };
 
     ghost fits = { λ v. shown_fits (reading_in T.BITS T.number O.position) v.words.now v.head v.len v.fits };
 
     ghost framed = { λ v. refl };
+}
+
+#[tactic(auto, using(crate::proofs::FrameLemmas::frames))]
+impl<T: BitRegister, O: BitOrder<T>> BitsWindow for BitSliceMut<'_, T, O> {
+    fn show(&mut self, from: usize, count: usize) {
+        self.head = from;
+        self.len = count;
+    }
 }
 
 // A function's work on words, which keeps how many there are.

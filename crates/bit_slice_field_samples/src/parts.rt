@@ -9,9 +9,15 @@ ghost use Rattle.bit_slice_fields.specs.Whole.{FitsIn};
 use bit_addressing::BitRegister;
 use bit_slice_access::Part;
 use bit_slice_fields::{BitField, BitFieldMut, Integral};
+use bit_slice_writes::BitsWindow;
 
 /// Stores a number in `len` bits of a window, from bit `from` on: the window's other bits stay, and those beside it.
-pub fn put_in_part<V: BitFieldMut, M: Integral>(view: &mut V, from: usize, len: usize, value: M)
+pub fn put_in_part<V: BitFieldMut + BitsWindow, M: Integral>(
+    view: &mut V,
+    from: usize,
+    len: usize,
+    value: M,
+)
     requires some { 0 < len }
     requires room { len ≤ M.BITS }
     requires fits { from + len ≤ length (V.bits view.old) }

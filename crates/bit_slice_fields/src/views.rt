@@ -8,7 +8,7 @@ use crate::order::FieldOrder;
 use bit_addressing::{BitRegister, mem};
 use bit_slice_access::Part;
 use bit_slice_views::BitSlice;
-use bit_slice_writes::{BitSliceMut, BitsMut};
+use bit_slice_writes::{BitSliceMut, BitsMut, BitsWindow};
 
 impl<T: BitRegister, O: FieldOrder<T>> BitField for BitSlice<'_, T, O> {
     ghost use Rattle.bit_slice_views.specs.View.{view_head};
@@ -54,7 +54,7 @@ impl<T: BitRegister, O: FieldOrder<T>> BitFieldMut for BitSliceMut<'_, T, O> {
     ghost headed = { λ v. refl };
 }
 
-impl<V: BitFieldMut> BitField for Part<'_, V> {
+impl<V: BitFieldMut + BitsWindow> BitField for Part<'_, V> {
     ghost use Rattle.bit_slice_access.specs.Part.{part_view};
 
     ghost low_first = { V.low_first };
@@ -72,7 +72,7 @@ impl<V: BitFieldMut> BitField for Part<'_, V> {
     ghost counts = { V.counts };
 }
 
-impl<V: BitFieldMut> BitFieldMut for Part<'_, V> {
+impl<V: BitFieldMut + BitsWindow> BitFieldMut for Part<'_, V> {
     ghost use Rattle.std.specs.Prelude.{refl};
 
     ghost headed = { λ part. refl };

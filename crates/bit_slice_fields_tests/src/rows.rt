@@ -5,7 +5,7 @@ use bit_slice_field_samples::{Header, passed, write};
 use bit_slice_fields::{BitField, BitFieldMut};
 use bit_slice_pieces_mut::BitsPiecesMut;
 use bit_slice_views::{BitSlice, Bits};
-use bit_slice_writes::BitSliceMut;
+use bit_slice_writes::{BitSliceMut, BitsWindow};
 
 #[test]
 fn sixteen_bits_of_three_bytes_are_loaded(rt: HostRuntime) {
@@ -37,7 +37,7 @@ fn numbers_of_five_bits_are_stored(rt: HostRuntime) {
 }
 
 // Stores 0, 4, 8, .. in the pieces of five bits of a window.
-fn store_fours<V: BitFieldMut>(view: &mut V) {
+fn store_fours<V: BitFieldMut + BitsWindow>(view: &mut V) {
     let mut pieces = view.chunks_mut(5);
     let mut number = 0u8;
     while let Some(piece) = pieces.next_mut() {

@@ -7,10 +7,10 @@ use bit_addressing::{BitRegister, Lsb0, Msb0};
 use bit_slice_access::Part;
 use bit_slice_fields::{BitField, BitFieldMut, FieldOrder, store_load_be, store_load_le};
 use bit_slice_views::Bits;
-use bit_slice_writes::BitSliceMut;
+use bit_slice_writes::{BitSliceMut, BitsWindow};
 
 // Stores a number in a part of a window, and loads it again.
-fn in_part<V: BitFieldMut>(view: &mut V, from: usize, len: usize, value: u16, le: bool) -> u16
+fn in_part<V: BitFieldMut + BitsWindow>(view: &mut V, from: usize, len: usize, value: u16, le: bool) -> u16
     requires some { 0 < len }
     requires room { len ≤ 16 }
     requires fits { from + len ≤ length (V.bits view.old) }

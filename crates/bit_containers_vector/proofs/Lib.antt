@@ -1,0 +1,5 @@
+pub mod CountLemmas
+pub mod GrownLemmas
+pub mod WordLemmas
+pub mod ZeroLemmas
+pub mod VectorLemmas

@@ -1,0 +1,103 @@
+-- Vectors of words that were cut and filled up.
+use Rattle.std.proofs.Common.{◌≡◌, ℕ, Bool, false, get_or, ◌+◌, ◌-◌, ◌*◌, ◌<◌, ◌≤◌, List, ◌++◌, length, take, replicate, arith, ap, ap₂}
+use Rattle.std.proofs.Common.{sym, ◌∙◌, refl, Result, Ok, Err, OnOk, if◌then◌else◌, is_ok, length-append}
+use Rattle.std.proofs.Math.Nat.{mul-le-mul_right}
+use Rattle.std.proofs.lemmas.List.{take_all, take-take, length-take-le, length-replicate}
+use Rattle.std.specs.Prelude.{vec_capacity}
+use Rattle.bit_addressing.specs.Memory.{Reading, memory, piece, Overwrites}
+use Rattle.bit_addressing_memory.proofs.MemoryLemmas.{length-memory, length-piece}
+use Rattle.bit_containers_vector.specs.Count.{words_for}
+use Rattle.bit_containers_vector.specs.Grown.{Extends, Lengthened}
+use Rattle.bit_containers_vector.specs.Vector.{IsAsBefore, IsSame, vec_bits, vec_words, visible}
+use Rattle.bit_containers_vector.specs.declared.vector.BitVec.{BitVec}
+use Rattle.bit_containers_vector.proofs.CountLemmas.{words_hold, words_within}
+use Rattle.bit_containers_vector.proofs.GrownLemmas.{piece_taken, grown_bits, grown_visible, grown_words}
+
+-- what `resize` leaves of a beginning of some words, where it succeeds
+pub extended : {R X E : Type 0} (r : Result X E) (words cut new : List R) (w n l k : ℕ) (z y : R)
+    → w ≤ length words → w ≤ n → cut ≡ take w words → l ≡ length cut → k ≡ n → y ≡ z
+    → new ≡ (if is_ok r then take k cut ++ replicate (k - l) y else cut)
+    → OnOk r (new ≡ take w words ++ replicate (n - w) z)
+extended (Ok x) words cut new w n l k z y within order is_cut count is_n is_z is =
+    let size : l ≡ w = count ∙ ap length is_cut ∙ length-take-le w words within in
+    is ∙ rw (is_n, is_z)
+    (ap₂ (λ xs j. xs ++ replicate (n - j) z) (take_all n cut (omega arith) ∙ is_cut) size)
+extended (Err x) words cut new w n l k z y within order is_cut count is_n is_z is = tt
+
+-- so many words
+pub length-extended : {R : Type 0} (words : List R) (w n : ℕ) (z : R) → w ≤ length words → w ≤ n
+    → length (take w words ++ replicate (n - w) z) ≡ n
+length-extended words w n z within order =
+    length-append (take w words) (replicate (n - w) z)
+    ∙ omega (arith, length-take-le w words within, length-replicate (n - w) z)
+
+-- so many bits of a vector
+pub length-bits : {T O : Type 0} {g : _} (reading : Reading T) (v : BitVec T O g)
+    → v.head + v.len ≤ length v.words.items * reading.bits → length (vec_bits reading v) ≡ v.len
+length-bits reading v fits =
+    length-piece (memory reading v.words.items) v.head v.len (omega (arith, length-memory reading v.words.items))
+
+-- a vector of which only visible words are left is the same
+pub trimmed_same : {T O : Type 0} {g : _} (reading : Reading T) (old new : BitVec T O g) → 0 < reading.bits
+    → old.head + old.len ≤ length old.words.items * reading.bits → new.head ≡ old.head → new.len ≡ old.len
+    → new.words.items ≡ take (words_for reading.bits (old.head + old.len)) old.words.items → IsSame reading old new
+trimmed_same reading old new some fits head len words =
+    let w : ℕ = words_for reading.bits (old.head + old.len) in
+    let within : w ≤ length old.words.items = words_within reading.bits _ _ some fits in
+    let hold : old.head + old.len ≤ w * reading.bits = words_hold reading.bits (old.head + old.len) some in
+    let same : vec_bits reading new ≡ vec_bits reading old =
+    rw (head, len, words) (piece_taken reading old.words.items w old.head old.len within hold) in
+    let size : length (vec_bits reading old) ≡ old.len = length-bits reading old fits in
+    record {
+      bits = same;
+      words =
+          ap₂ (λ k xs. take (words_for reading.bits k) xs)
+          (ap₂ (λ x y. x + y) head (ap length same ∙ size)) words
+          ∙ take-take w w old.words.items (omega arith)
+          ∙ ap (λ k. take (words_for reading.bits (old.head + k)) old.words.items) (sym size);
+      head = head;
+    }
+
+-- and where the memory is not less it is as before
+pub trimmed : {T O : Type 0} {g : _} (reading : Reading T) (old new : BitVec T O g) → 0 < reading.bits
+    → old.head + old.len ≤ length old.words.items * reading.bits → new.head ≡ old.head → new.len ≡ old.len
+    → new.words.items ≡ take (words_for reading.bits (old.head + old.len)) old.words.items
+    → vec_capacity old.words ≤ vec_capacity new.words → IsAsBefore reading old new
+trimmed reading old new some fits head len words capacity =
+    let same = trimmed_same reading old new some fits head len words in
+    let more : vec_capacity old.words * reading.bits ≤ vec_capacity new.words * reading.bits =
+    mul-le-mul_right reading.bits capacity in
+    record { bits = same.bits; words = same.words; head = head; room = omega (arith, head) }
+
+-- a vector that was lengthened, and then written behind its old bits, is extended
+pub extends : {T O : Type 0} {g : _} (reading : Reading T) (zero : T) (old mid new : BitVec T O g) (after : List T)
+    (m : ℕ) (now : ℕ → Bool) (ys : List Bool) → 0 < reading.bits → ((i : ℕ) → reading.digit zero i ≡ false)
+    → old.head + old.len ≤ length old.words.items * reading.bits → Lengthened reading zero old mid m
+    → length ys ≡ m → ((k : ℕ) → k < m → now k ≡ get_or ys k false)
+    → Overwrites reading (vec_words mid) after (old.head + old.len) m now → vec_words new ≡ after
+    → new.head ≡ mid.head → new.len ≡ mid.len → Extends reading old new ys
+extends reading zero old mid new after m now ys some none fits longer count same wrote words head len =
+    let more : ℕ = words_for reading.bits (old.head + (old.len + m)) - words_for reading.bits (old.head + old.len) in
+    let written : Overwrites reading (vec_words mid) (vec_words new) (old.head + old.len) m now = rw words wrote in
+    let here : new.head ≡ old.head = head ∙ longer.head in
+    let size : new.len ≡ old.len + m = len ∙ longer.len in
+    let bits : vec_bits reading new ≡ vec_bits reading old ++ ys =
+    rw (here, size) (grown_bits reading zero (vec_words old) (vec_words mid) (vec_words new) old.head old.len m more
+    now ys some none fits refl longer.words count same written) in
+    let held : length (vec_bits reading old) ≡ old.len = length-bits reading old fits in
+    let all : length (vec_bits reading new) ≡ old.len + m =
+    ap length bits ∙ length-append (vec_bits reading old) ys ∙ omega (arith, held, count) in
+    let shown : visible reading new ≡ vec_words new =
+    ap (λ h. take (words_for reading.bits (h + length (vec_bits reading new))) (vec_words new)) here
+    ∙ grown_visible reading zero (vec_words old) (vec_words mid) (vec_words new) old.head old.len m more now ys some none
+    fits refl longer.words count same written (length (vec_bits reading new)) all in
+    let was : visible reading old ≡ take (words_for reading.bits (old.head + old.len)) (vec_words old) =
+    ap (λ k. take (words_for reading.bits (old.head + k)) (vec_words old)) held in
+    record {
+      bits = bits;
+      head = here;
+      words =
+          grown_words reading zero (vec_words old) (vec_words mid) (vec_words new) old.head old.len m more now ys some
+          none fits refl longer.words count same written (visible reading old) (visible reading new)
+          (length (vec_bits reading old)) was shown held;
+    }

@@ -1,0 +1,106 @@
+//! Bits in a vector of words.
+
+ghost use Rattle.std.specs.Prelude.{◌≡◌, ◌+◌, ◌*◌, ◌<◌, ◌≤◌, [], length};
+ghost use Rattle.std.specs.Fn.{FnOnceReturnsAtMut};
+ghost use Rattle.bit_addressing.specs.Memory.{read_by, reading_in};
+ghost use Rattle.bit_addressing_span.specs.declared.span.TheConstants.{MAX_BITS};
+
+use bit_addressing::{BitOrder, BitRegister};
+use bit_slice_stores::BitStore;
+use bit_slice_views::{BitSlice, Bits};
+use bit_slice_writes::BitsMut;
+use std::alloc::Global;
+use std::marker::PhantomData;
+
+/// Bits in a vector of words: a list that grows at its end.
+///
+/// The first bit may lie inside the first word, at the index `head`. The visible words are those up to the last bit;
+/// their bits beside the list are dead bits.
+#[derive(Drop)]
+pub struct BitVec<T: BitStore, O> {
+    pub(crate) words: Vec<T>,
+    pub(crate) head: usize,
+    pub(crate) len: usize,
+    pub(crate) order: PhantomData<O>,
+
+    ghost inside: { head < T.BITS },
+    ghost short: { len ≤ MAX_BITS },
+    ghost fits: { head + len ≤ length words.items * T.BITS },
+}
+
+#[tactic(auto, using(crate::proofs::CountLemmas::none_taken))]
+impl<T: BitStore, O: BitOrder<T>> BitVec<T, O> {
+    ghost use Rattle.bit_containers_vector.specs.Vector.{vec_bits, vec_head, vec_words};
+
+    /// No bits. It takes no memory.
+    pub fn new(alloc: Global) -> BitVec<T, O>
+        ensures bits { vec_bits (read_by T.BitRegister O.position) result ≡ [] }
+        ensures head { vec_head result ≡ 0 }
+        ensures words { vec_words result ≡ [] }
+    {
+        BitVec {
+            words: Vec::new(alloc),
+            head: 0,
+            len: 0,
+            order: PhantomData,
+        }
+    }
+}
+
+#[tactic(auto, using(bit_slice_views::proofs::ViewLemmas::views))]
+impl<T: BitStore, O: BitOrder<T>> Bits for BitVec<T, O> {
+    ghost use Rattle.bit_containers_vector.specs.Vector.{vec_bits};
+
+    type Store = T;
+
+    type Order = O;
+
+    ghost bits = { vec_bits (read_by T.BitRegister O.position) };
+
+    fn as_bitslice(&self) -> BitSlice<'_, T, O> {
+        BitSlice::<T, O>::from_place(self.words.as_slice(), self.head, self.len)
+    }
+}
+
+#[tactic(auto, using(bit_slice_writes::proofs::FrameLemmas::frames))]
+impl<T: BitStore, O: BitOrder<T>> BitsMut for BitVec<T, O> {
+    ghost use Rattle.std.specs.Prelude.{ℕ, refl};
+    ghost use Rattle.bit_slice_writes.specs.Frame.{frame_of};
+    ghost use Rattle.bit_slice_writes.specs.FrameLaws.{shown_window, shown_fits};
+    ghost use Rattle.bit_containers_vector.specs.Vector.{vec_bits, vec_words, words_held};
+
+    ghost Lender = { ℕ };
+
+    ghost lender = { words_held };
+
+    ghost words = { vec_words };
+
+    ghost place = { λ v. v.head };
+
+    ghost frame = { λ v. frame_of (read_by T.BitRegister O.position) (words_held v) (vec_words v) v.head
+        (length (vec_bits (read_by T.BitRegister O.position) v)) };
+
+    fn first_place(&self) -> usize {
+        self.head
+    }
+
+    fn with_words<A, F: FnOnce(&mut [T]) -> A>(&mut self, f: F) -> A {
+        apply::<T, A, F>(self.words.as_mut_slice(), f)
+    }
+
+    ghost window = { λ v. shown_window (reading_in T.BITS T.number O.position) v.words.items v.head v.len v.fits };
+
+    ghost fits = { λ v. shown_fits (reading_in T.BITS T.number O.position) v.words.items v.head v.len v.fits };
+
+    ghost framed = { λ v. refl };
+}
+
+// A function's work on words, which keeps how many there are.
+fn apply<T: BitRegister, A, F: FnOnce(&mut [T]) -> A>(words: &mut [T], f: F) -> A
+    requires callable { (w : _) → w.now ≡ words.old → F.pre f w }
+    requires keeps { (w : _) (r : A) (a : _) → FnOnceReturnsAtMut F.FnOnce f w r a → length a ≡ length w }
+    ensures len { length words.new ≡ length words.old }
+    ensures ran { FnOnceReturnsAtMut F.FnOnce f words.old result words.new }
+{
+    f(words)
+}

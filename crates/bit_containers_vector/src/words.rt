@@ -1,0 +1,80 @@
+//! Vectors of words that grow and shrink by bits.
+
+ghost use Rattle.std.specs.Prelude.{◌≡◌, ◌+◌, ◌-◌, ◌*◌, ◌<◌, ◌≤◌, ◌^◌, ◌++◌, length, take, replicate, IsOk, OnOk, OnErr};
+ghost use Rattle.std.specs.Prelude.{vec_capacity};
+ghost use Rattle.bit_addressing.specs.Memory.{read_by, Copies, Overwrites, Writes};
+ghost use Rattle.bit_containers_vector.specs.Count.{words_for};
+
+use bit_addressing::{BitOrder, BitRegister, copy_between, mem, write_entry};
+use bit_slice_changes::fill_in;
+use bit_slice_stores::BitStore;
+use std::alloc::AllocError;
+
+// How many words so many bits take.
+pub(crate) fn words_taken<T: BitRegister>(bits: usize) -> usize
+    ensures { result ≡ words_for T.BITS bits }
+{
+    bits.div_ceil(mem::bits_of::<T>())
+}
+
+// Leaves the words of the first `end` bits, and adds zeros up to those of `upto` bits.
+pub(crate) fn extend_words<T: BitStore>(
+    words: &mut Vec<T>,
+    end: usize,
+    upto: usize,
+) -> Result<(), AllocError>
+    requires held { words_for T.BITS end ≤ length words.old.items }
+    requires order { end ≤ upto }
+    ensures items { OnOk result (words.new.items ≡ take (words_for T.BITS end) words.old.items
+        ++ replicate (words_for T.BITS upto - words_for T.BITS end) T.ZERO) }
+    ensures err { OnErr result (words.new.items ≡ take (words_for T.BITS end) words.old.items) }
+    ensures succeeds { words_for T.BITS upto ≤ vec_capacity words.old → IsOk result }
+    ensures capacity { vec_capacity words.old ≤ vec_capacity words.new }
+{
+    words.truncate(words_taken::<T>(end));
+    words.resize(words_taken::<T>(upto), T::ZERO)
+}
+
+// Makes the bit at a place `bit`.
+#[tactic(auto, using(crate::proofs::CountLemmas::refilled))]
+pub(crate) fn put<T: BitStore, O: BitOrder<T>>(words: &mut Vec<T>, place: usize, bit: bool)
+    requires { place < length words.old.items * T.BITS }
+    ensures written { Writes (read_by T.BitRegister O.position) words.old.items words.new.items place bit }
+    ensures capacity { vec_capacity words.new ≡ vec_capacity words.old }
+{
+    write_entry::<T, O>(words.as_mut_slice(), place, bit);
+}
+
+// Makes `len` bits from a place on `bit`.
+#[tactic(auto, using(crate::proofs::CountLemmas::refilled))]
+pub(crate) fn fill<T: BitStore, O: BitOrder<T>>(
+    words: &mut Vec<T>,
+    place: usize,
+    len: usize,
+    bit: bool,
+)
+    requires within { place + len ≤ length words.old.items * T.BITS }
+    requires ends { place + len < 2 ^ 64 }
+    ensures filled { Overwrites (read_by T.BitRegister O.position) words.old.items words.new.items place len (λ _. bit) }
+    ensures capacity { vec_capacity words.new ≡ vec_capacity words.old }
+{
+    fill_in::<T, O>(words.as_mut_slice(), place, len, bit);
+}
+
+// Makes `len` bits from a place on those of another memory.
+#[tactic(auto, using(crate::proofs::CountLemmas::refilled))]
+pub(crate) fn copy<T: BitStore, O: BitOrder<T>, Q: BitRegister, P: BitOrder<Q>>(
+    words: &mut Vec<T>,
+    place: usize,
+    others: &[Q],
+    source: usize,
+    len: usize,
+)
+    requires within { place + len ≤ length words.old.items * T.BITS }
+    requires source_within { source + len ≤ length others.now * Q.BITS }
+    ensures copied { Copies (read_by T.BitRegister O.position) words.old.items words.new.items
+        (read_by Q.BitRegister P.position) others.now source place len }
+    ensures capacity { vec_capacity words.new ≡ vec_capacity words.old }
+{
+    copy_between::<Q, P, T, O>(others, source, words.as_mut_slice(), place, len);
+}

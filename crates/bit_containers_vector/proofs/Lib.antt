@@ -3,3 +3,4 @@ pub mod GrownLemmas
 pub mod WordLemmas
 pub mod ZeroLemmas
 pub mod VectorLemmas
+pub mod MadeLemmas

@@ -5,6 +5,7 @@ use Rattle.std.proofs.lemmas.Bool.{cases_lt}
 use Rattle.std.proofs.lemmas.List.{places, same_lists, take-take, take_all, length-take-le}
 use Rattle.std.specs.Prelude.{vec_capacity}
 use Rattle.bit_addressing.specs.Memory.{Reading, memory, piece}
+use Rattle.bit_addressing_memory.proofs.MemoryLemmas.{length-memory, piece_all}
 use Rattle.bit_addressing_memory.proofs.WindowLemmas.{length-window}
 use Rattle.bit_containers_vector.specs.Count.{words_for}
 use Rattle.bit_containers_vector.specs.Vector.{IsAsBefore, IsSame, HasRoomFor, Shortens, Shows, vec_bits, visible, room}
@@ -160,3 +161,8 @@ room_words reading words head len held more some fits within room =
     let count : length (piece (memory reading words) head len) ≡ len = length-window reading words head len fits in
     let product : length words * reading.bits ≤ held * reading.bits = mul-le-mul_right reading.bits within in
     words_within reading.bits (head + len + more) held some (omega (arith, room, count, product, fits))
+
+-- all bits of some words
+pub all_words : {T : Type 0} (reading : Reading T) (words : List T) (n : ℕ) → n ≡ length words * reading.bits
+    → piece (memory reading words) 0 n ≡ memory reading words
+all_words reading words n is = piece_all (memory reading words) n (length-memory reading words ∙ sym is)

@@ -24,3 +24,18 @@ pub record Lengthened {T O : Type 0} {g : _} (reading : Reading T) (zero : T) (o
       - words_for reading.bits (old.head + old.len)) zero
   pub head : new.head ≡ old.head
   pub len : new.len ≡ old.len + more
+
+-- v has the bits ys from the head h on, and 0 beside them in its visible words
+pub record HoldsAlone {T O : Type 0} {g : _} (reading : Reading T) (v : BitVec T O g) (h : ℕ) (ys : List Bool)
+    : Type 0 where
+  pub bits : vec_bits reading v ≡ ys
+  pub head : vec_head v ≡ h
+  pub words : memory reading (visible reading v)
+      ≡ with_piece (replicate (length (visible reading v) * reading.bits) false) h ys
+
+-- v has one bit n times from its first word on, and its visible words are filled with it
+pub record Repeats {T O : Type 0} {g : _} (reading : Reading T) (v : BitVec T O g) (bit : Bool) (n : ℕ)
+    : Type 0 where
+  pub bits : vec_bits reading v ≡ replicate n bit
+  pub head : vec_head v ≡ 0
+  pub words : memory reading (visible reading v) ≡ replicate (length (visible reading v) * reading.bits) bit

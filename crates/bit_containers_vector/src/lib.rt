@@ -2,6 +2,7 @@
 #![tactic(auto)]
 
 mod grow;
+mod make;
 mod size;
 mod vector;
 mod words;

@@ -1,0 +1,18 @@
+use Rattle.std.proofs.Common.{◌≡◌, ℕ, ◌+◌, ◌-◌, ◌*◌, ◌<◌, ◌≤◌, Bool, List, length, take, replicate, ap, ap₂, sym, ◌∙◌}
+use Rattle.std.proofs.Common.{arith, refl, get_or}
+use Rattle.bit_addressing.specs.Memory.{memory, piece, read_by}
+use Rattle.bit_containers_vector.specs.Count.{words_for}
+use Rattle.bit_containers_vector.proofs.MadeLemmas.{holds_copy}
+use Rattle.bit_containers_vector.proofs.ZeroLemmas.{zero_digit}
+use Rattle.bit_containers_vector.proofs.vector.BitVec.clone.Goals as goal
+
+pub returns : goal.returns
+returns g c =
+    let reading = read_by g.T.BitRegister g.O.Positions.position in
+    let some : 0 < g.T.BitRegister.BITS = omega (arith, g.met.T.BitRegister.least_bits) in
+    let v = c.args.self.now in
+    let made = (c.in_ok-made.ensures) in
+    holds_copy reading reading g.T.BitRegister.ZERO _ (c.in_ok-made.made).words.items v.words.items v.head v.head v.len v.head
+    _ some some
+    (zero_digit g.T.BitRegister.number g.O.Positions.position g.T.BitRegister.ZERO g.met.T.BitRegister.zero_is)
+    made.words made.head made.len refl v.fits (rw (← c.as_slice.ensures.value) c.copy.ensures.copied) refl

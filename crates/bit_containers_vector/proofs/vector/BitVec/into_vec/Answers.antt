@@ -1,0 +1,13 @@
+use Rattle.std.proofs.Common.{◌≡◌, ℕ, ◌+◌, ◌-◌, ◌*◌, ◌<◌, ◌≤◌, Bool, List, length, take, replicate, ap, ap₂, sym, ◌∙◌}
+use Rattle.std.proofs.Common.{arith, refl, get_or}
+use Rattle.bit_addressing.specs.Memory.{memory, piece, read_by}
+use Rattle.bit_containers_vector.specs.Count.{words_for}
+use Rattle.bit_containers_vector.proofs.WordLemmas.{length-bits}
+use Rattle.bit_containers_vector.proofs.vector.BitVec.into_vec.Goals as goal
+
+pub returns : goal.returns
+returns g c =
+    let v = c.args.self in
+    let size = length-bits (read_by g.T.BitRegister g.O.Positions.position) v v.fits in
+    c.truncate.ensures.items ∙ ap (λ k. take k v.words.items) c.words_taken-count.ensures
+    ∙ ap (λ k. take (words_for g.T.BitRegister.BITS (v.head + k)) v.words.items) (sym size)

@@ -37,3 +37,7 @@ words_within b bits words some enough =
 pub words_more : (b bits more : ℕ) → 0 < b → words_for b bits ≤ words_for b (bits + more)
 words_more b bits more some =
     words_within b bits (words_for b (bits + more)) some (omega (arith, words_hold b (bits + more) some))
+
+-- they have fewer bits more than one word has
+pub words_below : (b bits : ℕ) → 0 < b → words_for b bits * b < bits + b
+words_below b bits some = (div_ceil_times bits b some).1

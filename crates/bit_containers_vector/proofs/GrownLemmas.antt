@@ -35,7 +35,7 @@ unfolding piece with_piece
 piece_longer xs ys h n m size fits = same_lists _ _ (grind (arith, places)) (λ k d inside. grind (arith, places))
 
 -- a piece of a beginning
-piece_front : (xs ys : List Bool) (h n : ℕ) → h + n ≤ length xs → piece (xs ++ ys) h n ≡ piece xs h n
+pub piece_front : (xs ys : List Bool) (h n : ℕ) → h + n ≤ length xs → piece (xs ++ ys) h n ≡ piece xs h n
 unfolding piece
 piece_front xs ys h n fits = same_lists _ _ (grind (arith, places)) (λ k d inside. grind (arith, places))
 

@@ -4,3 +4,5 @@ pub mod WordLemmas
 pub mod ZeroLemmas
 pub mod VectorLemmas
 pub mod MadeLemmas
+pub mod SetLemmas
+pub mod FillLemmas

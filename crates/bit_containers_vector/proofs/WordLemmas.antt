@@ -4,14 +4,15 @@ use Rattle.std.proofs.Common.{sym, ◌∙◌, refl, Result, Ok, Err, OnOk, if◌
 use Rattle.std.proofs.Math.Nat.{mul-le-mul_right}
 use Rattle.std.proofs.lemmas.List.{take_all, take-take, length-take-le, length-replicate}
 use Rattle.std.specs.Prelude.{vec_capacity}
-use Rattle.bit_addressing.specs.Memory.{Reading, memory, piece, Overwrites}
-use Rattle.bit_addressing_memory.proofs.MemoryLemmas.{length-memory, length-piece}
+use Rattle.bit_addressing.specs.Memory.{Reading, entry, memory, piece, Overwrites}
+use Rattle.bit_addressing_memory.proofs.MemoryLemmas.{length-memory, length-piece, get_or-piece, memory-append}
+use Rattle.bit_addressing_memory.proofs.WindowLemmas.{window_bit}
 use Rattle.bit_containers_vector.specs.Count.{words_for}
 use Rattle.bit_containers_vector.specs.Grown.{Extends, Lengthened}
 use Rattle.bit_containers_vector.specs.Vector.{IsAsBefore, IsSame, vec_bits, vec_words, visible}
 use Rattle.bit_containers_vector.specs.declared.vector.BitVec.{BitVec}
 use Rattle.bit_containers_vector.proofs.CountLemmas.{words_hold, words_within}
-use Rattle.bit_containers_vector.proofs.GrownLemmas.{piece_taken, grown_bits, grown_visible, grown_words}
+use Rattle.bit_containers_vector.proofs.GrownLemmas.{piece_front, piece_taken, grown_bits, grown_visible, grown_words}
 
 -- what `resize` leaves of a beginning of some words, where it succeeds
 pub extended : {R X E : Type 0} (r : Result X E) (words cut new : List R) (w n l k : ℕ) (z y : R)
@@ -101,3 +102,31 @@ extends reading zero old mid new after m now ys some none fits longer count same
           none fits refl longer.words count same written (visible reading old) (visible reading new)
           (length (vec_bits reading old)) was shown held;
     }
+
+-- a lengthened vector has the old bits where they were
+pub lengthened_bits : {T O : Type 0} {g : _} (reading : Reading T) (zero : T) (old mid : BitVec T O g) (m : ℕ)
+    → 0 < reading.bits → old.head + old.len ≤ length old.words.items * reading.bits → Lengthened reading zero old mid m
+    → piece (memory reading (vec_words mid)) old.head old.len ≡ vec_bits reading old
+lengthened_bits reading zero old mid m some fits longer =
+    let w : ℕ = words_for reading.bits (old.head + old.len) in
+    let within : w ≤ length old.words.items = words_within reading.bits _ _ some fits in
+    let hold : old.head + old.len ≤ w * reading.bits = words_hold reading.bits (old.head + old.len) some in
+    let size : length (take w old.words.items) ≡ w = length-take-le w old.words.items within in
+    let product : length (take w old.words.items) * reading.bits ≡ w * reading.bits = ap (λ k. k * reading.bits) size in
+    ap (λ ws. piece (memory reading ws) old.head old.len) longer.words
+    ∙ ap (λ xs. piece xs old.head old.len) (memory-append reading (take w old.words.items) _)
+    ∙ piece_front (memory reading (take w old.words.items)) _ old.head old.len
+    (omega (arith, hold, product, length-memory reading (take w old.words.items)))
+    ∙ piece_taken reading old.words.items w old.head old.len within hold
+
+-- one of its old bits
+pub lengthened_bit : {T O : Type 0} {g : _} (reading : Reading T) (zero : T) (old mid : BitVec T O g) (m from n k : ℕ)
+    → 0 < reading.bits → old.head + old.len ≤ length old.words.items * reading.bits → Lengthened reading zero old mid m
+    → from + n ≤ old.len → k < n
+    → entry reading (vec_words mid) (old.head + from + k) ≡ get_or (piece (vec_bits reading old) from n) k false
+lengthened_bit reading zero old mid m from n k some fits longer within low =
+    let at : old.head + from + k ≡ old.head + (from + k) = omega arith in
+    ap (entry reading (vec_words mid)) at
+    ∙ sym (window_bit reading (vec_words mid) old.head old.len (from + k) some (omega arith))
+    ∙ ap (λ xs. get_or xs (from + k) false) (lengthened_bits reading zero old mid m some fits longer)
+    ∙ sym (get_or-piece (vec_bits reading old) from n k false low)

@@ -1,3 +1,4 @@
 pub mod Count
 pub mod Vector
 pub mod Grown
+pub mod Fill

@@ -3,6 +3,8 @@
 -- Its list: `vec_bits`. Where it lies: `vec_words`, `vec_head`, `visible`. Its memory: `room`, `HasRoomFor`.
 use Rattle.std.specs.Prelude.{ℕ, ◌≡◌, ◌+◌, ◌-◌, ◌*◌, ◌≤◌, Bool, List, length, take, vec_capacity}
 use Rattle.bit_addressing.specs.Memory.{Reading, memory, piece}
+use Rattle.bit_slice_writes.specs.Combined.{combined}
+use Rattle.bit_slice_writes.specs.Frame.{Frame, frame_of}
 use Rattle.bit_containers_vector.specs.Count.{words_for}
 use Rattle.bit_containers_vector.specs.declared.vector.BitVec.{BitVec}
 
@@ -62,3 +64,13 @@ pub record Shows {T O : Type 0} {g : _} (reading : Reading T) (old new : BitVec 
   pub words : visible reading new ≡ take (words_for reading.bits (vec_head old + n)) (visible reading old)
   pub head : vec_head new ≡ vec_head old
   pub room : room reading new ≡ room reading old
+
+-- what no write of bits of the list changes: the memory, how many words there are, the head and the dead bits
+abbrev pub vec_frame : {T O : Type 0} {g : _} → Reading T → BitVec T O g → Frame ℕ
+vec_frame reading v = frame_of reading (vec_capacity v.words) v.words.items v.head (length (vec_bits reading v))
+
+-- after is before with each bit combined with another list's, and nothing beside the list changed
+pub record Combines {T O : Type 0} {g : _} (reading : Reading T) (how : Bool → Bool → Bool) (before : BitVec T O g)
+    (others : List Bool) (after : BitVec T O g) : Type 0 where
+  pub bits : vec_bits reading after ≡ combined how (vec_bits reading before) others
+  pub frame : vec_frame reading after ≡ vec_frame reading before

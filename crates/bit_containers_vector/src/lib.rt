@@ -1,9 +1,13 @@
 //! Bits that grow: a list of bits in a vector of words.
 #![tactic(auto)]
 
+mod compare;
+mod fill;
 mod grow;
 mod make;
+mod operators;
 mod size;
+mod text;
 mod vector;
 mod words;
 

@@ -1,12 +1,13 @@
 //! Vectors of words that grow and shrink by bits.
 
-ghost use Rattle.std.specs.Prelude.{◌≡◌, ◌+◌, ◌-◌, ◌*◌, ◌<◌, ◌≤◌, ◌^◌, ◌++◌, length, take, replicate, IsOk, OnOk, OnErr};
+ghost use Rattle.std.specs.Prelude.{◌≡◌, ◌+◌, ◌-◌, ◌*◌, ◌<◌, ◌≤◌, ◌^◌, ◌++◌, length, take, replicate, not, IsOk, OnOk, OnErr};
 ghost use Rattle.std.specs.Prelude.{vec_capacity};
-ghost use Rattle.bit_addressing.specs.Memory.{read_by, Copies, Overwrites, Writes};
+ghost use Rattle.bit_addressing.specs.Memory.{entry, read_by, Copies, Overwrites, Writes};
+ghost use Rattle.bit_addressing.specs.Moves.{Moves};
 ghost use Rattle.bit_containers_vector.specs.Count.{words_for};
 
 use bit_addressing::{BitOrder, BitRegister, copy_between, mem, write_entry};
-use bit_slice_changes::fill_in;
+use bit_slice_changes::{fill_in, move_words, not_in};
 use bit_slice_stores::BitStore;
 use std::alloc::AllocError;
 
@@ -77,4 +78,45 @@ pub(crate) fn copy<T: BitStore, O: BitOrder<T>, Q: BitRegister, P: BitOrder<Q>>(
     ensures capacity { vec_capacity words.new ≡ vec_capacity words.old }
 {
     copy_between::<Q, P, T, O>(others, source, words.as_mut_slice(), place, len);
+}
+
+// Makes `len` bits from `target` on what those from `source` on were.
+#[tactic(auto, using(crate::proofs::CountLemmas::refilled))]
+pub(crate) fn shift<T: BitStore, O: BitOrder<T>>(
+    words: &mut Vec<T>,
+    source: usize,
+    target: usize,
+    len: usize,
+)
+    requires source_within { source + len ≤ length words.old.items * T.BITS }
+    requires target_within { target + len ≤ length words.old.items * T.BITS }
+    requires source_ends { source + len < 2 ^ 64 }
+    requires target_ends { target + len < 2 ^ 64 }
+    ensures moved { Moves (read_by T.BitRegister O.position) words.old.items words.new.items source target len }
+    ensures capacity { vec_capacity words.new ≡ vec_capacity words.old }
+{
+    move_words::<T, O>(words.as_mut_slice(), source, target, len);
+}
+
+// Flips the first `len` bits.
+#[tactic(auto, using(crate::proofs::CountLemmas::refilled))]
+pub(crate) fn flip<T: BitStore, O: BitOrder<T>>(words: &mut Vec<T>, len: usize)
+    requires within { len ≤ length words.old.items * T.BITS }
+    requires ends { len < 2 ^ 64 }
+    ensures flipped { Overwrites (read_by T.BitRegister O.position) words.old.items words.new.items 0 len
+        (λ k. not (entry (read_by T.BitRegister O.position) words.old.items (0 + k))) }
+    ensures capacity { vec_capacity words.new ≡ vec_capacity words.old }
+{
+    not_in::<T, O>(words.as_mut_slice(), 0, len);
+}
+
+// Makes each word this one.
+#[tactic(auto, using(crate::proofs::SetLemmas::all_set))]
+pub(crate) fn set_words<T: BitStore>(words: &mut Vec<T>, word: T)
+    ensures items { words.new.items ≡ replicate (length words.old.items) word }
+    ensures capacity { vec_capacity words.new ≡ vec_capacity words.old }
+{
+    for i in 0..words.len() {
+        words[i] = word;
+    }
 }

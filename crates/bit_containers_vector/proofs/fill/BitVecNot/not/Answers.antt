@@ -1,0 +1,20 @@
+use Rattle.std.proofs.Common.{◌≡◌, ℕ, ◌+◌, ◌-◌, ◌*◌, ◌<◌, ◌≤◌, Bool, List, length, take, replicate, ap, ap₂, sym, ◌∙◌}
+use Rattle.std.proofs.Common.{arith, refl, get_or}
+use Rattle.bit_addressing.specs.Memory.{entry, memory, piece, read_by}
+use Rattle.bit_containers_vector.specs.Count.{words_for}
+use Rattle.std.proofs.lemmas.List.{length-take-le}
+use Rattle.bit_containers_vector.proofs.CountLemmas.{words_within}
+use Rattle.bit_containers_vector.proofs.FillLemmas.{words_flipped}
+use Rattle.bit_containers_vector.proofs.fill.BitVecNot.not.Goals as goal
+
+pub returns : goal.returns
+returns g c =
+    let v = c.args.self in
+    let cut = c.trim-all.ensures in
+    let some : 0 < g.T.BitRegister.BITS = omega (arith, g.met.T.BitRegister.least_bits) in
+    let size : length c.trim-all.new.self.words.items ≡ words_for g.T.BitRegister.BITS (v.head + v.len) =
+    ap length cut.words ∙ length-take-le (words_for g.T.BitRegister.BITS (v.head + v.len)) v.words.items
+    (words_within g.T.BitRegister.BITS (v.head + v.len) (length v.words.items) some v.fits) in
+    words_flipped (read_by g.T.BitRegister g.O.Positions.position) v _ some v.fits cut.head cut.len
+    (c.flip.ensures.capacity ∙ cut.capacity) (c.flip.ensures.flipped.words ∙ size) c.trim-all.new.self.words.items
+    c.trim-all.result cut.words (sym cut.count) c.flip.ensures.flipped

@@ -1,0 +1,17 @@
+//! The tests of numbers in windows by a digit rule: against a plain list of bits, rows, and what a user proves.
+#![tactic(auto)]
+
+#[cfg(test)]
+mod callers;
+#[cfg(test)]
+mod loads;
+#[cfg(test)]
+mod order;
+#[cfg(test)]
+mod orders;
+#[cfg(test)]
+mod plain;
+#[cfg(test)]
+mod rows;
+#[cfg(test)]
+mod stores;

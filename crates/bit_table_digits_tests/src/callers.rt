@@ -1,17 +1,19 @@
 //! What a user of `Digits` proves from its contracts alone.
 
-ghost use Rattle.std.specs.Prelude.{◌≡◌, ℕ, ◌+◌, ◌*◌, ◌^◌, ◌<◌, ◌≤◌, true, length};
+ghost use Rattle.std.specs.Prelude.{◌≡◌, ℕ, ◌+◌, ◌-◌, ◌*◌, ◌^◌, ◌<◌, ◌≤◌, true, length};
 ghost use Rattle.bit_addressing.specs.Memory.{memory, piece, read_by};
 ghost use Rattle.bit_slice_writes.specs.Frame.{KeepsBeside};
 ghost use Rattle.bit_table_digits.specs.Windows.{is_held};
 ghost use Rattle.bit_table_layout.specs.Rows.{field_bits};
+ghost use Rattle.bit_table_moves.specs.RowMoves.{rows_moved};
 ghost use Rattle.bit_table_layout.specs.declared.layout.Rule.TheVariants.{Low, High};
 
-use bit_addressing::{BitOrder, BitRegister, Lsb0};
+use bit_addressing::{BitIdx, BitOrder, BitRegister, Lsb0, Sweep, way_for};
 use bit_slice_paths::Steps;
 use bit_slice_views::Bits;
 use bit_slice_writes::{BitSliceMut, BitsMut};
 use bit_table_digits::{Digits, HiLo};
+use bit_table_moves::move_rows;
 
 // Stores a number in a window, the lowest digit first, and loads it again: it is the same one.
 #[tactic(auto, using(bit_table_digits::proofs::CallerLemmas::held_back))]
@@ -117,6 +119,28 @@ fn in_words(words: &mut [u16; 3], value: i128) -> i128
     back_in::<u16, HiLo>(words, 7, 33, value)
 }
 
+// Makes room for a row before row p of n rows of w bits from bit `head` on: the rows from p on stand one further.
+#[tactic(auto, using(bit_table_moves::proofs::RowLemmas::rows_below, bit_table_moves::proofs::RowLemmas::rows_join))]
+fn opened<R: BitRegister, O: BitOrder<R>>(
+    words: &mut [R],
+    head: BitIdx<R>,
+    p: usize,
+    n: usize,
+    w: usize,
+)
+    requires order { p ≤ n }
+    requires few { n < 2 ^ 63 }
+    requires within { head + (p + 1 + (n - p)) * w ≤ length words.old * R.BITS }
+    requires ends { head + (p + 1 + (n - p)) * w < 2 ^ 64 }
+    ensures { piece (memory (read_by R.BitRegister O.position) words.new) head ((p + 1 + (n - p)) * w)
+        ≡ rows_moved w (piece (memory (read_by R.BitRegister O.position) words.old) head ((p + 1 + (n - p)) * w))
+        p (p + 1) n }
+{
+    let first = head.into_inner() as usize;
+    let mut sweep = Sweep::new(words, way_for(first + p * w, first + (p + 1) * w));
+    move_rows::<R, O>(&mut sweep, head, p, p + 1, n, w);
+}
+
 #[test]
 fn a_number_comes_back(rt: HostRuntime) {
     let mut bytes = [0u8; 3];
@@ -125,4 +149,12 @@ fn a_number_comes_back(rt: HostRuntime) {
     assert!(rt; in_words(&mut words, 0x7654_3210) == 0x7654_3210);
     let mut view = BitSliceMut::<u8, Lsb0>::from_place_mut(&mut bytes, 1, 7);
     assert!(rt; back_low(&mut view, 77, false) == 77);
+}
+
+#[test]
+fn room_is_made_for_a_row(rt: HostRuntime) {
+    // rows of three bits, from the lowest digit on: 101, 011, then the first again behind it
+    let mut words = [0b0011_0101u8, 0];
+    opened::<u8, Lsb0>(&mut words, BitIdx::new_unchecked(0), 0, 2, 3);
+    assert!(rt; words == [0b1010_1101, 0b0000_0001]);
 }

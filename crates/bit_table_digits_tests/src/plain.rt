@@ -109,18 +109,25 @@ pub fn beside(list: &List, other: &List, place: usize, width: u32) -> bool {
     true
 }
 
-/// The most steps that a call may take: one for each word that its bits touch, or one a bit.
-pub fn most_steps(by_words: bool, bits: usize, place: usize, width: u32) -> u64 {
-    if !by_words || bits == 0 {
-        return width as u64;
-    }
-    let mut words = 0u64;
+/// How many words of `bits` bits have one of the bits from a place on.
+pub fn touched(bits: usize, place: usize, len: usize) -> usize {
+    let mut words = 0usize;
     for word in 0..200usize {
         let first = word.wrapping_mul(bits);
-        let end = first.wrapping_add(bits);
-        if first < place.wrapping_add(width as usize) && place < end {
+        let begin = first.max(place);
+        let end = first.wrapping_add(bits).min(place.wrapping_add(len));
+        if begin < end {
             words = words.wrapping_add(1);
         }
     }
     words
+}
+
+/// The most steps that a call may take: one for each word that its bits touch, or one a bit.
+pub fn most_steps(by_words: bool, bits: usize, place: usize, width: u32) -> u64 {
+    if by_words {
+        touched(bits, place, width as usize) as u64
+    } else {
+        width as u64
+    }
 }

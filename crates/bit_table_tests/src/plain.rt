@@ -136,7 +136,11 @@ impl Plain {
                 if *bit {
                     byte = byte.wrapping_add(weight);
                 }
-                weight = if self.high { weight / 2 } else { weight.wrapping_mul(2) };
+                weight = if self.high {
+                    weight / 2
+                } else {
+                    weight.wrapping_mul(2)
+                };
             }
             self.text.push(hexadecimal(byte / 16))?;
             self.text.push(hexadecimal(byte % 16))?;

@@ -98,7 +98,11 @@ impl Thrower {
             self.write(line)?;
             self.write(b"\n")?;
         }
-        let rule = if self.roll(2) == 0 { b"low".as_slice() } else { b"high".as_slice() };
+        let rule = if self.roll(2) == 0 {
+            b"low".as_slice()
+        } else {
+            b"high".as_slice()
+        };
         self.write(rule)?;
         for letter in b"abcd".iter().take(self.roll(4).wrapping_add(1)) {
             let bits = WIDTHS[self.roll(10)];

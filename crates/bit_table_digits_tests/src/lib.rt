@@ -1,5 +1,5 @@
-//! The tests of numbers in windows by a digit rule and of rows that move: against a plain list of bits, rows, and what a
-//! user proves.
+//! The tests of numbers in windows by a digit rule and of rows that move: against a plain list of bits, rows, and what
+//! a user proves.
 #![tactic(auto)]
 
 #[cfg(test)]

@@ -69,3 +69,5 @@ module _ {R : Type 0} (reading : Reading R) (before after : List R) (head p q n 
       let refl_target : head + q * w ≡ head + q * w = omega arith in
       window_copied reading before after head len (head + p * w) (head + q * w) (p * w) (q * w) ((n - p) * w) some
       fits refl_source refl_target (omega arith) (omega arith) is
+
+pub ruleset rows = (rows_join, rows_below, row_moved, list_moved)

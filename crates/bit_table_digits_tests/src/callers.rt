@@ -120,7 +120,7 @@ fn in_words(words: &mut [u16; 3], value: i128) -> i128
 }
 
 // Makes room for a row before row p of n rows of w bits from bit `head` on: the rows from p on stand one further.
-#[tactic(auto, using(bit_table_moves::proofs::RowLemmas::rows))]
+#[tactic(auto, using(bit_table_moves::proofs::RowLemmas::row_places))]
 fn opened<R: BitRegister, O: BitOrder<R>>(
     words: &mut [R],
     head: BitIdx<R>,

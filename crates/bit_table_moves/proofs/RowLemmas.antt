@@ -70,4 +70,6 @@ module _ {R : Type 0} (reading : Reading R) (before after : List R) (head p q n 
       window_copied reading before after head len (head + p * w) (head + q * w) (p * w) (q * w) ((n - p) * w) some
       fits refl_source refl_target (omega arith) (omega arith) is
 
+pub ruleset row_places = (rows_join, rows_below)
+
 pub ruleset rows = (rows_join, rows_below, row_moved, list_moved)

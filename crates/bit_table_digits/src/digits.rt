@@ -1,7 +1,7 @@
 //! Numbers in windows of bits by a digit rule.
 //!
-//! No method has a body here: an order whose two constants are false calls the functions of the same names in
-//! `digits_by_bits`.
+//! An order writes the calls that end in `_at`, which have no body here: one whose two constants are false calls the
+//! functions of the same names in `digits_by_bits`. Users make the calls over windows.
 
 ghost use Rattle.std.specs.Prelude.{◌≡◌, ℕ, ◌+◌, ◌*◌, ◌^◌, ◌<◌, ◌≤◌, Bool, true, false, length};
 ghost use Rattle.bit_addressing.specs.Memory.{memory, piece, read_by};

@@ -33,6 +33,16 @@ script-two_rows : script_answer (codes "low a:u3 b:i4\ninsert 0 5 -1\ninsert 1 2
 unfolding scripts_on_literals
 script-two_rows = refl
 
+-- the same under `high`, the first bit the highest
+script-one_row_high : script_answer (codes "high a:u3 b:u5\ninsert 0 5 17\nimage\n") ≡ codes "ok\nok\n1 b1\n"
+unfolding scripts_on_literals
+script-one_row_high = refl
+
+script-two_rows_high : script_answer (codes "high a:u3 b:i4\ninsert 0 5 -1\ninsert 1 2 3\nimage")
+    ≡ codes "ok\nok\nok\n2 be8c\n"
+unfolding scripts_on_literals
+script-two_rows_high = refl
+
 -- no row, and a row of zeros
 script-no_row : script_answer (codes "low f:u1\nimage\ninsert 0 0\nimage\n") ≡ codes "ok\n0\nok\n1 00\n"
 unfolding scripts_on_literals

@@ -92,9 +92,17 @@ no_layout-leading_zero : layout_of (codes "low a:u01") ≡ None
 unfolding layout_of
 no_layout-leading_zero = refl
 
-no_layout-high : layout_of (codes "high a:u3") ≡ None
+layout-high : layout_of (codes "high a:u3 b:i4") ≡ Some high_u3_i4
 unfolding layout_of
-no_layout-high = refl
+layout-high = refl
+
+no_layout-high_alone : layout_of (codes "high") ≡ None
+unfolding layout_of
+no_layout-high_alone = refl
+
+no_layout-both : layout_of (codes "high low a:u3") ≡ None
+unfolding layout_of
+no_layout-both = refl
 
 no_layout-no_bit : layout_of (codes "low a:u0") ≡ None
 unfolding layout_of

@@ -5,7 +5,7 @@ use Rattle.std.specs.Prelude.{option_map, if◌then◌else◌}
 use Rattle.std.specs.List.{list_any, list_all}
 use Rattle.std.specs.Str.{bytes_eq}
 use Rattle.bit_table_layout.specs.declared.layout.Rule.{Rule}
-use Rattle.bit_table_layout.specs.declared.layout.Rule.TheVariants.{Low}
+use Rattle.bit_table_layout.specs.declared.layout.Rule.TheVariants.{Low, High}
 use Rattle.bit_table_layout.specs.declared.layout.TheConstants.{MAX_ROW_BITS}
 use Rattle.bit_table_layout.specs.LineWords.{words}
 use Rattle.bit_table_layout.specs.Fields.{FieldShape, is_field, field_of}
@@ -42,9 +42,10 @@ abbrev pub fields_of : List (List ℕ) → Option (List FieldShape)
 fields_of [] = Some []
 fields_of (word ∷ rest) = option_and_then (λ f. option_map (λ fs. f ∷ fs) (fields_of rest)) (field_of word)
 
--- the digit rule that a word names; `high` is no layout word yet
+-- the digit rule that a word names
 abbrev pub rule_of : List ℕ → Option Rule
-rule_of word = if bytes_eq word (codes "low") then Some Low else None
+rule_of word =
+    if bytes_eq word (codes "low") then Some Low else (if bytes_eq word (codes "high") then Some High else None)
 
 -- the layout of a rule and fields, where they make one
 abbrev pub layout_from : Rule → List FieldShape → Option LayoutShape

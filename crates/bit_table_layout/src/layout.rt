@@ -59,7 +59,7 @@ impl Layout {
     ghost use Rattle.bit_table_layout.specs.Layouts.{row_width, is_layout, layout_of};
     ghost use Rattle.std.specs.Prelude.{IsTrue};
 
-    /// Reads a layout line: the word `low`, then one or more words `name:uN` or `name:iN`.
+    /// Reads a layout line: the word `low` or `high`, then one or more words `name:uN` or `name:iN`.
     ///
     /// Words stand apart by spaces, tabs and carriage returns; every other byte belongs to a word, a line feed too.
     /// A name has 1 to 16 bytes, a letter `a` to `z` followed by `a` to `z`, `0` to `9` or `_`, and no two fields
@@ -118,6 +118,8 @@ fn rule_of(word: &[u8]) -> Option<Rule>
 {
     if word == b"low".as_slice() {
         Some(Rule::Low)
+    } else if word == b"high".as_slice() {
+        Some(Rule::High)
     } else {
         None
     }

@@ -18,12 +18,22 @@ fn reads_a_layout_line(rt: HostRuntime) -> Result<(), Fail> {
 }
 
 #[test]
+fn reads_both_rules(rt: HostRuntime) -> Result<(), Fail> {
+    assert!(rt; Layout::parse(rt.alloc(), b"low a:u1")?.rule() == Rule::Low);
+    assert!(rt; Layout::parse(rt.alloc(), b"high a:u1")?.rule() == Rule::High);
+    Ok(())
+}
+
+#[test]
 fn refuses_other_lines(rt: HostRuntime) {
     let lines = [
         b"".as_slice(),
         b"low",
         b"a:u3",
-        b"high a:u1",
+        b"high",
+        b"High a:u1",
+        b"high low a:u1",
+        b"highs a:u1",
         b"Low a:u1",
         b"low low a:u1",
         b"insert 0 1",

@@ -9,10 +9,12 @@ struct PlainField {
     signed: bool,
 }
 
-// How far a script has come: no fields yet, or some and a list of rows; and what was answered.
+// How far a script has come: no fields yet, or some, whether their highest digits come first, and a list of rows; and
+// what was answered.
 #[derive(Drop)]
 struct Plain {
     alloc: Global,
+    high: bool,
     fields: Vec<PlainField>,
     rows: Vec<Vec<i128>>,
     text: Vec<u8>,
@@ -22,6 +24,7 @@ struct Plain {
 pub fn plain_answer(alloc: Global, script: &[u8]) -> Result<Vec<u8>, AllocError> {
     let mut plain = Plain {
         alloc,
+        high: false,
         fields: Vec::new(alloc),
         rows: Vec::new(alloc),
         text: Vec::new(alloc),
@@ -65,7 +68,8 @@ impl Plain {
     fn begin(&mut self, rule: &[u8], words: &[&[u8]]) -> Result<(), AllocError> {
         let mut fields = Vec::new(self.alloc);
         let mut row_bits = 0u128;
-        let mut is_layout = rule == b"low".as_slice();
+        let high = rule == b"high".as_slice();
+        let mut is_layout = high || rule == b"low".as_slice();
         for word in words {
             let Some(field) = field_of(self.alloc, word)? else {
                 is_layout = false;
@@ -79,6 +83,7 @@ impl Plain {
             return self.say("refused layout\n");
         }
         self.fields = fields;
+        self.high = high;
         self.say("ok\n")
     }
 
@@ -126,8 +131,16 @@ impl Plain {
         self.say(" ")?;
         for eight in self.bits()?.chunks(8) {
             let mut byte = 0u8;
-            for bit in eight.iter().rev() {
-                byte = byte.wrapping_mul(2).wrapping_add(u8::from(*bit));
+            let mut weight = if self.high { 128u8 } else { 1 };
+            for bit in eight {
+                if *bit {
+                    byte = byte.wrapping_add(weight);
+                }
+                weight = if self.high {
+                    weight / 2
+                } else {
+                    weight.wrapping_mul(2)
+                };
             }
             self.text.push(hexadecimal(byte / 16))?;
             self.text.push(hexadecimal(byte % 16))?;
@@ -135,12 +148,13 @@ impl Plain {
         self.say("\n")
     }
 
-    // The digits of all numbers, the lowest of each first.
+    // The digits of all numbers, the lowest of each first or the highest.
     fn bits(&self) -> Result<Vec<bool>, AllocError> {
         let mut bits = Vec::new(self.alloc);
         for row in &self.rows {
             for (field, number) in self.fields.iter().zip(row) {
-                for place in 0..field.bits {
+                for k in 0..field.bits {
+                    let place = if self.high { field.bits - 1 - k } else { k };
                     bits.push(halved(*number, place).rem_euclid(2) == 1)?;
                 }
             }

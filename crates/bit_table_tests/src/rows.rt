@@ -14,9 +14,11 @@ type LongRow = (&'static [u8], u8, &'static [u8], &'static [u8]);
 const TWO_ROWS: &[u8; 41] = b"low a:u3 b:i4\ninsert 0 5 -1\ninsert 1 2 3\n";
 
 // Scripts with their answers.
-const ROWS: [Row; 11] = [
+const ROWS: [Row; 17] = [
     // 5 and 17 are 101 and 10001, and the first bit is the lowest
     (b"low a:u3 b:u5\ninsert 0 5 17\nimage\n", b"ok\nok\n1 8d\n"),
+    // the same digits from the highest on, and the first bit is the highest
+    (b"high a:u3 b:u5\ninsert 0 5 17\nimage\n", b"ok\nok\n1 b1\n"),
     // no line has a word
     (b"", b""),
     (b" \n\t\n\r\n\n \t\r", b""),
@@ -24,6 +26,15 @@ const ROWS: [Row; 11] = [
     (
         b"low a:u3 b:i4\ninsert 0 5 -1\ninsert 1 2 3\nimage\n",
         b"ok\nok\nok\n2 7d0d\n",
+    ),
+    (
+        b"high a:u3 b:i4\ninsert 0 5 -1\ninsert 1 2 3\nimage\n",
+        b"ok\nok\nok\n2 be8c\n",
+    ),
+    // a row between them: 000 1000
+    (
+        b"high a:u3 b:i4\ninsert 0 5 -1\ninsert 1 2 3\ninsert 1 0 -8\nimage\n",
+        b"ok\nok\nok\nok\n3 be2118\n",
     ),
     // no rows have an image without bytes, and rows of zeros count
     (b"low f:u1\nimage\n", b"ok\n0\n"),
@@ -40,6 +51,15 @@ const ROWS: [Row; 11] = [
         b"low p:u3 q:u64\ninsert 0 7 18446744073709551615\nimage\n",
         b"ok\nok\n1 ffffffffffffffff07\n",
     ),
+    (
+        b"high p:u3 q:u64\ninsert 0 7 18446744073709551615\nimage\n",
+        b"ok\nok\n1 ffffffffffffffffe0\n",
+    ),
+    // the least number, and one more than the greatest
+    (
+        b"high n:i64\ninsert 0 -9223372036854775808\nimage\ninsert 0 9223372036854775808\n",
+        b"ok\nok\n1 8000000000000000\nrefused value\n",
+    ),
     // lines that are no layout
     (
         b"insert 0 1\nlow\nlow a:u65\nlow a:u1 a:u1\nlow a:u01\n",
@@ -48,6 +68,10 @@ const ROWS: [Row; 11] = [
     // a layout line behind one that was accepted, and a line of one byte
     (
         b"low a:u1\nlow a:u1\n\xfe\n",
+        b"ok\nrefused form\nrefused form\n",
+    ),
+    (
+        b"high a:u1\nhigh a:u1\nlow a:u1\n",
         b"ok\nrefused form\nrefused form\n",
     ),
     // a layout that is refused leaves the next line to be tried as one

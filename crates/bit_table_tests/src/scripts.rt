@@ -52,7 +52,7 @@ const NO_LAYOUTS: [&[u8]; 12] = [
     b"low a:u65",
     b"low a:u1 a:i2",
     b"low a:u64 b:u64 c:i64 d:i64 e:u1",
-    b"high a:u1",
+    b"high a:i0",
     b"low a:u1:u1",
     b"low 1a:u1",
     b"image",
@@ -98,7 +98,12 @@ impl Thrower {
             self.write(line)?;
             self.write(b"\n")?;
         }
-        self.write(b"low")?;
+        let rule = if self.roll(2) == 0 {
+            b"low".as_slice()
+        } else {
+            b"high".as_slice()
+        };
+        self.write(rule)?;
         for letter in b"abcd".iter().take(self.roll(4).wrapping_add(1)) {
             let bits = WIDTHS[self.roll(10)];
             let signed = self.roll(2) == 1;

@@ -6,3 +6,4 @@ pub mod VectorLemmas
 pub mod MadeLemmas
 pub mod SetLemmas
 pub mod FillLemmas
+pub mod EditLemmas

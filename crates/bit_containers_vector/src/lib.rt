@@ -2,6 +2,7 @@
 #![tactic(auto)]
 
 mod compare;
+mod edits;
 mod fill;
 mod grow;
 mod make;

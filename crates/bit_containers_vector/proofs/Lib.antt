@@ -7,3 +7,4 @@ pub mod MadeLemmas
 pub mod SetLemmas
 pub mod FillLemmas
 pub mod EditLemmas
+pub mod DrainLemmas

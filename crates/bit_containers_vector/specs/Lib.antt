@@ -2,3 +2,4 @@ pub mod Count
 pub mod Vector
 pub mod Grown
 pub mod Fill
+pub mod Drained

@@ -2,6 +2,7 @@
 #![tactic(auto)]
 
 mod compare;
+mod drain;
 mod edits;
 mod fill;
 mod grow;
@@ -12,4 +13,5 @@ mod text;
 mod vector;
 mod words;
 
+pub use drain::Drain;
 pub use vector::BitVec;

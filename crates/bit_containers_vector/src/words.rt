@@ -4,10 +4,11 @@ ghost use Rattle.std.specs.Prelude.{◌≡◌, ◌+◌, ◌-◌, ◌*◌, ◌<�
 ghost use Rattle.std.specs.Prelude.{vec_capacity};
 ghost use Rattle.bit_addressing.specs.Memory.{entry, read_by, Copies, Overwrites, Writes};
 ghost use Rattle.bit_addressing.specs.Moves.{Moves};
+ghost use Rattle.bit_slice_changes.specs.Rotations.{rotated_from};
 ghost use Rattle.bit_containers_vector.specs.Count.{words_for};
 
 use bit_addressing::{BitOrder, BitRegister, copy_between, mem, write_entry};
-use bit_slice_changes::{fill_in, move_words, not_in};
+use bit_slice_changes::{fill_in, move_words, not_in, rotate_left_in};
 use bit_slice_stores::BitStore;
 use std::alloc::AllocError;
 
@@ -119,4 +120,22 @@ pub(crate) fn set_words<T: BitStore>(words: &mut Vec<T>, word: T)
     for i in 0..words.len() {
         words[i] = word;
     }
+}
+
+// Rotates `len` bits from a place on to the left.
+#[tactic(auto, using(crate::proofs::CountLemmas::refilled))]
+pub(crate) fn turn<T: BitStore, O: BitOrder<T>>(
+    words: &mut Vec<T>,
+    place: usize,
+    len: usize,
+    by: usize,
+)
+    requires within { place + len ≤ length words.old.items * T.BITS }
+    requires ends { place + len < 2 ^ 64 }
+    requires most { by ≤ len }
+    ensures rotated { Overwrites (read_by T.BitRegister O.position) words.old.items words.new.items place len
+        (λ k. entry (read_by T.BitRegister O.position) words.old.items (place + rotated_from len by k)) }
+    ensures capacity { vec_capacity words.new ≡ vec_capacity words.old }
+{
+    rotate_left_in::<T, O>(words.as_mut_slice(), place, len, by);
 }

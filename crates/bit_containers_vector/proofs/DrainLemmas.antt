@@ -1,0 +1,89 @@
+-- Bits taken out of the middle of a list: turned behind the others, and cut off.
+use Rattle.std.proofs.Common.{◌≡◌, ℕ, ◌+◌, ◌-◌, ◌*◌, ◌<◌, ◌≤◌, Bool, List, ◌++◌, length, take, drop, arith, sym, ap, ap₂}
+use Rattle.std.proofs.Common.{◌∙◌, refl, inl}
+use Rattle.std.proofs.lemmas.List.{places, same_lists}
+use Rattle.std.specs.Prelude.{vec_capacity}
+use Rattle.bit_addressing.specs.Memory.{Reading, entry, memory, piece, Overwrites}
+use Rattle.bit_addressing_memory.proofs.WindowLemmas.{length-window, window_beside}
+use Rattle.bit_slice_changes.specs.Rotations.{rotated_from}
+use Rattle.bit_slice_changes.proofs.ListLemmas.{rotated_left_list}
+use Rattle.bit_containers_vector.specs.Drained.{Cut}
+use Rattle.bit_containers_vector.specs.Vector.{vec_bits}
+use Rattle.bit_containers_vector.specs.declared.vector.BitVec.{BitVec}
+use Rattle.bit_containers_vector.proofs.WordLemmas.{length-bits}
+
+-- the end of a piece
+piece_end : (xs : List Bool) (h n i : ℕ) → i ≤ n → piece xs (h + i) (n - i) ≡ drop i (piece xs h n)
+unfolding piece
+piece_end xs h n i inside = same_lists _ _ (grind (arith, places)) (λ k d here. grind (arith, places))
+
+-- its front
+piece_begin : (xs : List Bool) (h n i : ℕ) → i ≤ n → piece xs h i ≡ take i (piece xs h n)
+unfolding piece
+piece_begin xs h n i inside = same_lists _ _ (grind (arith, places)) (λ k d here. grind (arith, places))
+
+-- two pieces one behind the other
+piece_parts : (xs : List Bool) (h i m : ℕ) → piece xs h (i + m) ≡ piece xs h i ++ piece xs (h + i) m
+unfolding piece
+piece_parts xs h i m = same_lists _ _ (grind (arith, places)) (λ k d here. grind (arith, places))
+
+-- of bits that were turned, those that are kept and those that are gone
+kept_part : (xs : List Bool) (from upto : ℕ) → from ≤ upto → upto ≤ length xs
+    → take (length xs - upto) (drop (upto - from) (drop from xs) ++ take (upto - from) (drop from xs)) ≡ drop upto xs
+kept_part xs from upto ordered within = same_lists _ _ (grind (arith, places)) (λ k d here. grind (arith, places))
+
+gone_part : (xs : List Bool) (from upto : ℕ) → from ≤ upto → upto ≤ length xs
+    → drop (length xs - upto) (drop (upto - from) (drop from xs) ++ take (upto - from) (drop from xs))
+    ≡ piece xs from (upto - from)
+unfolding piece
+gone_part xs from upto ordered within = same_lists _ _ (grind (arith, places)) (λ k d here. grind (arith, places))
+
+-- a vector whose bits from a place on were turned, and that then shows fewer
+pub cut_off : {T O : Type 0} {g : _} (reading : Reading T) (old new : BitVec T O g) (from upto : ℕ) → 0 < reading.bits
+    → old.head + old.len ≤ length old.words.items * reading.bits → from ≤ upto → upto ≤ old.len
+    → new.head ≡ old.head → new.len ≡ old.len - (upto - from) → vec_capacity new.words ≡ vec_capacity old.words
+    → Overwrites reading old.words.items new.words.items (old.head + from) (old.len - from)
+    (λ k. entry reading old.words.items (old.head + from + rotated_from (old.len - from) (upto - from) k))
+    → Cut reading from upto old new
+cut_off reading old new from upto some fits ordered within head len capacity turned =
+    let h : ℕ = old.head in
+    let n : ℕ = old.len in
+    let by : ℕ = upto - from in
+    let was = memory reading old.words.items in
+    let now = memory reading new.words.items in
+    let xs = vec_bits reading old in
+    let size : length xs ≡ n = length-bits reading old fits in
+    let behind : piece now (h + from) (n - from) ≡ drop by (drop from xs) ++ take by (drop from xs) =
+    rotated_left_list reading old.words.items new.words.items (h + from) (n - from) some (omega (arith, fits)) by
+    (omega (arith, ordered, within)) turned
+    ∙ ap (λ ys. drop by ys ++ take by ys) (piece_end was h n from (omega (arith, ordered, within))) in
+    let front : piece now h from ≡ take from xs =
+    window_beside reading old.words.items new.words.items h from (h + from) (n - from) _ some (omega (arith, fits, within))
+    (inl (omega arith)) turned
+    ∙ piece_begin was h n from (omega (arith, ordered, within)) in
+    let left : ℕ = n - upto in
+    let few : new.len ≡ from + left = omega (arith, len, ordered, within) in
+    let keep : piece now (h + from) left ≡ drop upto xs =
+    piece_begin now (h + from) (n - from) left (omega (arith, ordered, within))
+    ∙ ap (take left) behind
+    ∙ ap (λ k. take (k - upto) (drop by (drop from xs) ++ take by (drop from xs))) (sym size)
+    ∙ kept_part xs from upto ordered (omega (arith, size, within)) in
+    let at : new.head + new.len ≡ h + from + left = omega (arith, head, few) in
+    let rest : by ≡ n - from - left = omega (arith, ordered, within) in
+    record {
+      cut = record {
+        bits = ap₂ (λ p k. piece now p k) head few ∙ piece_parts now h from left ∙ ap₂ (λ x y. x ++ y) front keep;
+        head = head;
+        room = ap₂ (λ c p. c * reading.bits - p) capacity head;
+      };
+      gone =
+          ap₂ (λ p k. piece now p k) at rest
+          ∙ piece_end now (h + from) (n - from) left (omega (arith, ordered, within))
+          ∙ ap (drop left) behind
+          ∙ ap (λ k. drop (k - upto) (drop by (drop from xs) ++ take by (drop from xs))) (sym size)
+          ∙ gone_part xs from upto ordered (omega (arith, size, within));
+      held =
+          let count : length new.words.items * reading.bits ≡ length old.words.items * reading.bits =
+          ap (λ k. k * reading.bits) turned.words in
+          omega (arith, at, count, fits, ordered, within);
+    }

@@ -8,3 +8,4 @@ pub mod SetLemmas
 pub mod FillLemmas
 pub mod EditLemmas
 pub mod DrainLemmas
+pub mod ElementLemmas

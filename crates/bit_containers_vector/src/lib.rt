@@ -6,6 +6,7 @@ mod drain;
 mod edits;
 mod fill;
 mod grow;
+mod items;
 mod make;
 mod operators;
 mod size;

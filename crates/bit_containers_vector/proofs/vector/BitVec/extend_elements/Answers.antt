@@ -1,0 +1,43 @@
+use Rattle.std.proofs.Common.{◌≡◌, ℕ, ◌+◌, ◌-◌, ◌*◌, ◌≤◌, length, arith, rules, refl, sym, ap, ◌∙◌, [], ◌∷◌, ◌++◌}
+use Rattle.std.specs.Iterator.{size}
+use Rattle.bit_addressing.specs.Memory.{memory, read_by}
+use Rattle.bit_addressing_span.specs.declared.span.TheConstants.{MAX_BITS}
+use Rattle.bit_containers_vector.specs.Vector.{vec_bits}
+use Rattle.bit_containers_vector.proofs.ElementLemmas.{no_words, one_word, one_less}
+use Rattle.bit_containers_vector.proofs.vector.BitVec.extend_elements.Goals as goal
+
+pub loop-word-init : goal.loop-word-init
+loop-word-init g c =
+    let reading = read_by g.T.BitRegister g.O.Positions.position in
+    let same = c.into_iter-word-iterator.ensures.into_iter_gives in
+    record {
+      can = search (rules, same, c.requires.can);
+      finite = search (rules, same, c.requires.finite);
+      bits = no_words reading (vec_bits reading c.args.self.now);
+      most = search (rules, same, c.requires.most);
+      head = refl;
+      room = omega arith;
+    }
+
+pub loop-word-preserved : goal.loop-word-preserved
+loop-word-preserved g c =
+    let reading = read_by g.T.BitRegister g.O.Positions.position in
+    let was = c.loop-word.invariant in
+    let grown = (c.in_ok-extend_from_raw_slice.ensures).ok in
+    record {
+      can = search rules;
+      finite = search rules;
+      bits =
+          one_word reading (vec_bits reading c.args.self.now) (vec_bits reading c.loop-word.self)
+          (vec_bits reading c.extend_from_raw_slice.new.self) c.loop-word.yielded c.from_ref.result.now c.in-Some.word
+          was.bits grown.bits c.from_ref.ensures.value;
+      most =
+          let less : size (g.I.Iterator.remaining c.next.new.self) + 1
+              ≤ size (g.I.Iterator.remaining c.loop-word.word-iterator) =
+          search (rules, arith) in
+          one_less reading (vec_bits reading c.loop-word.self) (vec_bits reading c.extend_from_raw_slice.new.self)
+          c.from_ref.result.now c.in-Some.word (size (g.I.Iterator.remaining c.loop-word.word-iterator))
+          (size (g.I.Iterator.remaining c.next.new.self)) MAX_BITS grown.bits c.from_ref.ensures.value less was.most;
+      head = grown.head ∙ was.head;
+      room = omega (arith, was.room, c.extend_from_raw_slice.ensures.room);
+    }

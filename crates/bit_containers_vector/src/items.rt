@@ -1,0 +1,134 @@
+//! Vectors of bits that take what an iterator or a closure gives.
+
+ghost use Rattle.std.specs.Prelude.{◌≡◌, ℕ, ◌+◌, ◌-◌, ◌*◌, ◌≤◌, ◌++◌, List, Bool, length, take, drop, IfOk, IsOk, OnErr, OnOk};
+ghost use Rattle.std.specs.Iterator.{Drains, Yields, IsFinite, size};
+ghost use Rattle.std.specs.List.{FoldsTo};
+ghost use Rattle.bit_addressing.specs.Memory.{memory, read_by};
+ghost use Rattle.bit_addressing_span.specs.declared.span.TheConstants.{MAX_BITS};
+ghost use Rattle.bit_containers_vector.specs.Vector.{vec_bits, vec_head, room, IsAsBefore};
+
+use crate::vector::BitVec;
+use bit_addressing::{BitOrder, BitRegister};
+use bit_slice_stores::BitStore;
+use bit_slice_views::Bits;
+use std::alloc::{AllocError, Global};
+
+impl<T: BitStore, O: BitOrder<T>> BitVec<T, O> {
+    // ---- bits of an iterator
+
+    /// Adds the bits that an iterator gives at the end.
+    ///
+    /// At a refusal the list has the first of them behind its own.
+    pub fn extend<I: Iterator<Item = bool>>(&mut self, items: I) -> Result<(), AllocError>
+        requires can { I.can_next items }
+        requires finite { IsFinite (I.remaining items) }
+        requires most { length (vec_bits (read_by T.BitRegister O.position) self.old) + size (I.remaining items)
+            ≤ MAX_BITS }
+        ensures ok { OnOk result ((xs : List Bool) × Drains I.next_gives items xs
+            × (vec_bits (read_by T.BitRegister O.position) self.new
+            ≡ vec_bits (read_by T.BitRegister O.position) self.old ++ xs)) }
+        ensures err { OnErr result ((xs : List Bool) × (rest : I) × Yields I.next_gives items xs rest
+            × (vec_bits (read_by T.BitRegister O.position) self.new
+            ≡ vec_bits (read_by T.BitRegister O.position) self.old ++ xs)) }
+        ensures head { vec_head self.new ≡ vec_head self.old }
+        ensures room { room (read_by T.BitRegister O.position) self.old
+            ≤ room (read_by T.BitRegister O.position) self.new }
+    {
+        for item in items {
+            self.push(item)?;
+        }
+        Ok(())
+    }
+
+    /// The bits that an iterator gives.
+    pub fn collect<I: Iterator<Item = bool>>(
+        alloc: Global,
+        items: I,
+    ) -> Result<BitVec<T, O>, AllocError>
+        requires can { I.can_next items }
+        requires finite { IsFinite (I.remaining items) }
+        requires most { size (I.remaining items) ≤ MAX_BITS }
+        ensures bits { IfOk result (λ made. (xs : List Bool) × Drains I.next_gives items xs
+            × (vec_bits (read_by T.BitRegister O.position) made ≡ xs)) }
+        ensures head { IfOk result (λ made. vec_head made ≡ 0) }
+    {
+        let mut made = BitVec::new(alloc);
+        made.extend(items)?;
+        Ok(made)
+    }
+
+    // ---- words of an iterator
+
+    /// Adds all bits of the words that an iterator gives at the end.
+    ///
+    /// At a refusal the list has those of the first words behind its own.
+    pub fn extend_elements<I: Iterator<Item = T>>(&mut self, items: I) -> Result<(), AllocError>
+        requires can { I.can_next items }
+        requires finite { IsFinite (I.remaining items) }
+        requires most { length (vec_bits (read_by T.BitRegister O.position) self.old)
+            + size (I.remaining items) * T.BITS ≤ MAX_BITS }
+        ensures ok { OnOk result ((xs : List T) × Drains I.next_gives items xs
+            × (vec_bits (read_by T.BitRegister O.position) self.new
+            ≡ vec_bits (read_by T.BitRegister O.position) self.old ++ memory (read_by T.BitRegister O.position) xs)) }
+        ensures err { OnErr result ((xs : List T) × (rest : I) × Yields I.next_gives items xs rest
+            × (vec_bits (read_by T.BitRegister O.position) self.new
+            ≡ vec_bits (read_by T.BitRegister O.position) self.old ++ memory (read_by T.BitRegister O.position) xs)) }
+        ensures head { vec_head self.new ≡ vec_head self.old }
+        ensures room { room (read_by T.BitRegister O.position) self.old
+            ≤ room (read_by T.BitRegister O.position) self.new }
+    {
+        for word in items {
+            self.extend_from_raw_slice(std::slice::from_ref(&word))?;
+        }
+        Ok(())
+    }
+
+    /// All bits of the words that an iterator gives.
+    pub fn collect_elements<I: Iterator<Item = T>>(
+        alloc: Global,
+        items: I,
+    ) -> Result<BitVec<T, O>, AllocError>
+        requires can { I.can_next items }
+        requires finite { IsFinite (I.remaining items) }
+        requires most { size (I.remaining items) * T.BITS ≤ MAX_BITS }
+        ensures bits { IfOk result (λ made. (xs : List T) × Drains I.next_gives items xs
+            × (vec_bits (read_by T.BitRegister O.position) made
+            ≡ memory (read_by T.BitRegister O.position) xs)) }
+        ensures head { IfOk result (λ made. vec_head made ≡ 0) }
+    {
+        let mut made = BitVec::new(alloc);
+        made.extend_elements(items)?;
+        Ok(made)
+    }
+
+    // Puts the bits that an iterator gives in at an index. At a refusal the first of them stand there.
+    pub(crate) fn insert_all<I: Iterator<Item = bool>>(
+        &mut self,
+        index: usize,
+        items: I,
+    ) -> Result<(), AllocError>
+        requires inside { index ≤ length (vec_bits (read_by T.BitRegister O.position) self.old) }
+        requires can { I.can_next items }
+        requires finite { IsFinite (I.remaining items) }
+        requires most { length (vec_bits (read_by T.BitRegister O.position) self.old) + size (I.remaining items)
+            ≤ MAX_BITS }
+        ensures ok { OnOk result ((xs : List Bool) × Drains I.next_gives items xs
+            × (vec_bits (read_by T.BitRegister O.position) self.new
+            ≡ take index (vec_bits (read_by T.BitRegister O.position) self.old) ++ xs
+            ++ drop index (vec_bits (read_by T.BitRegister O.position) self.old))) }
+        ensures err { OnErr result ((xs : List Bool) × (rest : I) × Yields I.next_gives items xs rest
+            × (vec_bits (read_by T.BitRegister O.position) self.new
+            ≡ take index (vec_bits (read_by T.BitRegister O.position) self.old) ++ xs
+            ++ drop index (vec_bits (read_by T.BitRegister O.position) self.old))) }
+        ensures head { vec_head self.new ≡ vec_head self.old }
+        ensures room { room (read_by T.BitRegister O.position) self.old
+            ≤ room (read_by T.BitRegister O.position) self.new }
+    {
+        let mut place = index;
+        for item in items {
+            self.insert(place, item)?;
+            place += 1;
+        }
+        Ok(())
+    }
+}

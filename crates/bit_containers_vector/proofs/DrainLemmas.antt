@@ -1,9 +1,11 @@
 -- Bits taken out of the middle of a list: turned behind the others, and cut off.
-use Rattle.std.proofs.Common.{◌≡◌, ℕ, ◌+◌, ◌-◌, ◌*◌, ◌<◌, ◌≤◌, Bool, List, ◌++◌, length, take, drop, arith, sym, ap, ap₂}
+use Rattle.std.proofs.Common.{◌≡◌, ℕ, ◌+◌, ◌-◌, ◌*◌, ◌<◌, ◌≤◌, Bool, List, [], ◌∷◌, ◌++◌, length, take, drop, arith, sym, ap, ap₂}
 use Rattle.std.proofs.Common.{◌∙◌, refl, inl}
 use Rattle.std.proofs.lemmas.List.{places, same_lists}
 use Rattle.std.specs.Prelude.{vec_capacity}
 use Rattle.bit_addressing.specs.Memory.{Reading, entry, memory, piece, Overwrites}
+use Rattle.bit_addressing_memory.proofs.MemoryLemmas.{length-memory, entry_memory}
+use Rattle.bit_slice_iterators.proofs.BitLemmas.{piece_one}
 use Rattle.bit_addressing_memory.proofs.WindowLemmas.{length-window, window_beside}
 use Rattle.bit_slice_changes.specs.Rotations.{rotated_from}
 use Rattle.bit_slice_changes.proofs.ListLemmas.{rotated_left_list}
@@ -87,3 +89,30 @@ cut_off reading old new from upto some fits ordered within head len capacity tur
           ap (λ k. k * reading.bits) turned.words in
           omega (arith, at, count, fits, ordered, within);
     }
+
+-- the first of the bits between two places, and the others
+pub first_gone : {R : Type 0} (reading : Reading R) (words : List R) (f t : ℕ) (x : Bool) → 0 < reading.bits → f < t
+    → t ≤ length words * reading.bits → x ≡ entry reading words f
+    → piece (memory reading words) f (t - f) ≡ x ∷ piece (memory reading words) (f + 1) (t - (f + 1))
+first_gone reading words f t x some low fits is =
+    let m = memory reading words in
+    let count : t - f ≡ 1 + (t - (f + 1)) = omega arith in
+    ap (piece m f) count
+    ∙ piece_parts m f 1 (t - (f + 1))
+    ∙ ap (λ ys. ys ++ piece m (f + 1) (t - (f + 1)))
+    (piece_one m f (omega (arith, length-memory reading words)) ∙ ap (λ y. y ∷ []) (entry_memory reading words f some ∙ sym is))
+
+-- the last of them, and the others
+pub last_gone : {R : Type 0} (reading : Reading R) (words : List R) (f t : ℕ) (x : Bool) → 0 < reading.bits → f < t
+    → t ≤ length words * reading.bits → x ≡ entry reading words (t - 1)
+    → piece (memory reading words) f (t - f) ≡ piece (memory reading words) f (t - 1 - f) ++ x ∷ []
+last_gone reading words f t x some low fits is =
+    let m = memory reading words in
+    let count : t - f ≡ t - 1 - f + 1 = omega arith in
+    let at : f + (t - 1 - f) ≡ t - 1 = omega arith in
+    ap (piece m f) count
+    ∙ piece_parts m f (t - 1 - f) 1
+    ∙ ap (λ p. piece m f (t - 1 - f) ++ piece m p 1) at
+    ∙ ap (λ ys. piece m f (t - 1 - f) ++ ys)
+    (piece_one m (t - 1) (omega (arith, length-memory reading words))
+    ∙ ap (λ y. y ∷ []) (entry_memory reading words (t - 1) some ∙ sym is))

@@ -3,3 +3,4 @@ pub mod Vector
 pub mod Grown
 pub mod Fill
 pub mod Drained
+pub mod Spliced

@@ -10,9 +10,11 @@ mod items;
 mod make;
 mod operators;
 mod size;
+mod splice;
 mod text;
 mod vector;
 mod words;
 
 pub use drain::Drain;
+pub use splice::Splice;
 pub use vector::BitVec;

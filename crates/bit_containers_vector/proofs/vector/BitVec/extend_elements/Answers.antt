@@ -33,7 +33,7 @@ loop-word-preserved g c =
           was.bits grown.bits c.from_ref.ensures.value;
       most =
           let less : size (g.I.Iterator.remaining c.next.new.self) + 1
-              ≤ size (g.I.Iterator.remaining c.loop-word.word-iterator) =
+          ≤ size (g.I.Iterator.remaining c.loop-word.word-iterator) =
           search (rules, arith) in
           one_less reading (vec_bits reading c.loop-word.self) (vec_bits reading c.extend_from_raw_slice.new.self)
           c.from_ref.result.now c.in-Some.word (size (g.I.Iterator.remaining c.loop-word.word-iterator))

@@ -4,3 +4,4 @@ pub mod Grown
 pub mod Fill
 pub mod Drained
 pub mod Spliced
+pub mod Answers

@@ -1,11 +1,11 @@
 //! Vectors of bits that take what an iterator or a closure gives.
 
-ghost use Rattle.std.specs.Prelude.{◌≡◌, ℕ, ◌+◌, ◌-◌, ◌*◌, ◌≤◌, ◌++◌, List, Bool, length, take, drop, IfOk, IsOk, OnErr, OnOk};
+ghost use Rattle.std.specs.Prelude.{◌≡◌, ℕ, ◌+◌, ◌-◌, ◌*◌, ◌≤◌, ◌++◌, ◌∷◌, [], List, Bool, length, take, drop, IfOk, IsOk, OnErr, OnOk};
 ghost use Rattle.std.specs.Iterator.{Drains, Yields, IsFinite, size};
-ghost use Rattle.std.specs.List.{FoldsTo};
 ghost use Rattle.bit_addressing.specs.Memory.{memory, read_by};
 ghost use Rattle.bit_addressing_span.specs.declared.span.TheConstants.{MAX_BITS};
-ghost use Rattle.bit_containers_vector.specs.Vector.{vec_bits, vec_head, room, IsAsBefore};
+ghost use Rattle.bit_containers_vector.specs.Answers.{Answers};
+ghost use Rattle.bit_containers_vector.specs.Vector.{vec_bits, vec_head, room, HasRoomFor, IsAsBefore};
 
 use crate::vector::BitVec;
 use bit_addressing::{BitOrder, BitRegister};
@@ -99,6 +99,54 @@ impl<T: BitStore, O: BitOrder<T>> BitVec<T, O> {
         let mut made = BitVec::new(alloc);
         made.extend_elements(items)?;
         Ok(made)
+    }
+
+    // ---- bits of a closure
+
+    /// Makes the list `len` bits long: it is cut as by `truncate`, or what `f` answers at each new index comes behind
+    /// it, ascending. The memory is taken first.
+    ///
+    /// A refusal leaves all as it was, and does not call `f`.
+    pub fn resize_with<F: FnMut(usize) -> bool + Drop>(
+        &mut self,
+        len: usize,
+        mut f: F,
+    ) -> Result<(), AllocError>
+        requires can { F.IsAlwaysCallable f }
+        requires most { len ≤ MAX_BITS }
+        ensures bits { OnOk result ((ys : List Bool) × (last : F)
+            × (vec_bits (read_by T.BitRegister O.position) self.new
+            ≡ take len (vec_bits (read_by T.BitRegister O.position) self.old) ++ ys)
+            × Answers F.step f (length (vec_bits (read_by T.BitRegister O.position) self.old)) len ys last) }
+        ensures head { vec_head self.new ≡ vec_head self.old }
+        ensures err { OnErr result (IsAsBefore (read_by T.BitRegister O.position) self.old self.new) }
+        ensures succeeds { len ≤ room (read_by T.BitRegister O.position) self.old → IsOk result }
+        ensures room { room (read_by T.BitRegister O.position) self.old
+            ≤ room (read_by T.BitRegister O.position) self.new }
+    {
+        let old = self.len();
+        if len <= old {
+            self.truncate(len);
+            return Ok(());
+        }
+        self.reserve(len - old)?;
+        for i in old..len {
+            self.push_within(f(i));
+        }
+        Ok(())
+    }
+
+    // Adds a bit at the end, for which there is room.
+    fn push_within(&mut self, bit: bool)
+        requires room { HasRoomFor (read_by T.BitRegister O.position) self.old 1 }
+        requires most { length (vec_bits (read_by T.BitRegister O.position) self.old) + 1 ≤ MAX_BITS }
+        ensures bits { vec_bits (read_by T.BitRegister O.position) self.new
+            ≡ vec_bits (read_by T.BitRegister O.position) self.old ++ bit ∷ [] }
+        ensures head { vec_head self.new ≡ vec_head self.old }
+        ensures room { room (read_by T.BitRegister O.position) self.old
+            ≤ room (read_by T.BitRegister O.position) self.new }
+    {
+        let _room_was_reserved = self.push(bit);
     }
 
     // Puts the bits that an iterator gives in at an index. At a refusal the first of them stand there.

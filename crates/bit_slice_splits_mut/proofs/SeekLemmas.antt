@@ -13,7 +13,7 @@ pub parts_of : {F R : Type 0} (way : SplitWay) (g : Mut F (ℕ × (Bor Bool × U
     → after ≡ words → start + size ≤ count → rest + rest_size ≤ count
     → Parts way g
     (record { bits = piece (piece (memory reading words) head len) from count; callee = f; done = done })
-    (piece (piece (memory reading words) head len) (from + start) size)
+    (piece (piece (memory reading after) head len) (from + start) size)
     (record { bits = piece (piece (memory reading after) head len) (from + rest) rest_size; callee = f'; done = last })
 parts_of way g reading words after head len from count f start size rest rest_size last f' done going by same inside
     rest_inside =
@@ -23,7 +23,8 @@ parts_of way g reading words after head len from count f start size rest rest_si
       asked = by.asked;
       within = by.within;
       asks = by.asks;
-      part_is = sym (piece_piece whole from count start size inside) ∙ rw (by.start_is, by.size_is) refl;
+      part_is = rw same (
+          sym (piece_piece whole from count start size inside) ∙ rw (by.start_is, by.size_is) refl);
       rest_is = rw same (
           sym (piece_piece whole from count rest rest_size rest_inside) ∙ rw (by.rest_is, by.rest_size_is) refl);
       done_is = by.last_is;

@@ -4,12 +4,12 @@ ghost use Rattle.std.specs.Prelude.{◌≡◌, ◌+◌, ◌*◌, ◌<◌, ◌≤
 ghost use Rattle.std.specs.Borrow.{sem};
 ghost use Rattle.bit_addressing.specs.Memory.{memory, piece, read_by};
 ghost use Rattle.bit_addressing_span.specs.declared.span.TheConstants.{MAX_BITS};
-ghost use Rattle.bit_slice_splits.specs.Ways.{Ends, Parts};
+ghost use Rattle.bit_slice_splits.specs.Ways.{Ends, GivesPart, Parts};
 ghost use Rattle.bit_slice_splits_mut.specs.Lending.{LendsPart};
 ghost use Rattle.bit_slice_splits_mut.specs.SplitsMut.{parts_around, parts_found_len, parts_found_start, parts_left};
-ghost use Rattle.bit_slice_splits_mut.specs.SplitsMut.{parts_callee, parts_count, parts_done, PartsBy};
+ghost use Rattle.bit_slice_splits_mut.specs.SplitsMut.{parts_callee, parts_count, parts_done, parts_found, parts_most};
 ghost use Rattle.bit_slice_splits_mut.specs.SplitsMut.{parts_len, parts_loan, parts_place, parts_view, parts_whole};
-ghost use Rattle.bit_slice_splits_mut.specs.SplitsMut.{KeepsWindow, LiesIn};
+ghost use Rattle.bit_slice_splits_mut.specs.SplitsMut.{KeepsWindow, LiesIn, PartsBy};
 
 use bit_addressing::BitRegister;
 use bit_slice_splits::{
@@ -22,7 +22,7 @@ use std::marker::PhantomData;
 /// The parts of a writable window that were not lent yet: `seek` looks for the next one, and `part_mut` lends it.
 ///
 /// When this ends, the window shows all its bits again.
-pub struct SplitsMut<'s, V: BitsMut, F: Drop, A: Way, B: Way> {
+pub struct SplitsMut<'s, V: BitsMut, F: Drop, A, B> {
     of: &'s mut V,
     head: usize,
     len: usize,
@@ -32,6 +32,7 @@ pub struct SplitsMut<'s, V: BitsMut, F: Drop, A: Way, B: Way> {
     size: usize,
     f: F,
     done: bool,
+    pub(crate) most: usize,
     ways: PhantomData<(A, B)>,
 }
 
@@ -45,7 +46,7 @@ pub type RSplitMut<'s, V, F> = SplitsMut<'s, V, F, FromBack, FromFront>;
 pub type SplitInclusiveMut<'s, V, F> = SplitsMut<'s, V, F, InclusiveFront, InclusiveBack>;
 
 #[tactic(auto, using(bit_slice_access::proofs::PartLemmas::shows_all, bit_slice_access::proofs::PartLemmas::framed_all))]
-impl<V: BitsMut, F: Drop, A: Way, B: Way> Drop for SplitsMut<'_, V, F, A, B> {
+impl<V: BitsMut, F: Drop, A, B> Drop for SplitsMut<'_, V, F, A, B> {
     fn drop(self)
         requires fits { self.head + self.len ≤ length (V.words self.of.now) * V.Store.BITS }
         requires short { self.len ≤ MAX_BITS }
@@ -65,13 +66,14 @@ impl<V: BitsMut, F: Drop, A: Way, B: Way> Drop for SplitsMut<'_, V, F, A, B> {
             size: _,
             f: _,
             done: _,
+            most: _,
             ways: _,
         } = self;
         of.show(head, len);
     }
 }
 
-impl<'s, V: BitsMut, F: Drop, A: Way, B: Way> SplitsMut<'s, V, F, A, B> {
+impl<'s, V: BitsMut, F: Drop, A, B> SplitsMut<'s, V, F, A, B> {
     // ---- make
 
     /// The parts of a window, none where `done` is true.
@@ -101,6 +103,7 @@ impl<'s, V: BitsMut, F: Drop, A: Way, B: Way> SplitsMut<'s, V, F, A, B> {
             size: 0,
             f,
             done,
+            most: 0,
             ways: PhantomData,
         }
     }
@@ -112,11 +115,11 @@ impl<'s, V: BitsMut, F: Drop, A: Way, B: Way> SplitsMut<'s, V, F, A, B> {
         requires { LiesIn V.Store.BITS V.words self.old }
         ensures found { IsTrue result
             ↔ ((parts_left (read_by V.Store.BitRegister V.Order.position) V.words self.old).done ≡ false) }
-        ensures ends { IsTrue result → Ends
+        ensures ends { GivesPart (λ part. part) Ends
             (parts_left (read_by V.Store.BitRegister V.Order.position) V.words self.old)
-            (piece (parts_whole (read_by V.Store.BitRegister V.Order.position) V.words self.old)
-            (parts_found_start self.new) (parts_found_len self.new))
+            (parts_found (read_by V.Store.BitRegister V.Order.position) V.words result self.new)
             (parts_left (read_by V.Store.BitRegister V.Order.position) V.words self.new) }
+        ensures most { parts_most self.new ≡ parts_most self.old }
         ensures keeps { KeepsWindow V.lender V.words self.old self.new }
         ensures lies_still { LiesIn V.Store.BITS V.words self.new }
     {
@@ -162,10 +165,9 @@ impl<'s, V: BitsMut, F: FnMut(usize, &bool) -> bool + Drop, A: Way, B: Way> Spli
         requires lies { LiesIn V.Store.BITS V.words self.old }
         ensures found { IsTrue result
             ↔ ((parts_left (read_by V.Store.BitRegister V.Order.position) V.words self.old).done ≡ false) }
-        ensures parts { IsTrue result → Parts A.way F.FnMut
+        ensures parts { GivesPart (λ part. part) (Parts A.way F.FnMut)
             (parts_left (read_by V.Store.BitRegister V.Order.position) V.words self.old)
-            (piece (parts_whole (read_by V.Store.BitRegister V.Order.position) V.words self.old)
-            (parts_found_start self.new) (parts_found_len self.new))
+            (parts_found (read_by V.Store.BitRegister V.Order.position) V.words result self.new)
             (parts_left (read_by V.Store.BitRegister V.Order.position) V.words self.new) }
         ensures keeps { KeepsWindow V.lender V.words self.old self.new }
         ensures callable_still { F.IsAlwaysCallable (parts_callee self.new) }
@@ -183,10 +185,9 @@ impl<'s, V: BitsMut, F: FnMut(usize, &bool) -> bool + Drop, A: Way, B: Way> Spli
         requires lies { LiesIn V.Store.BITS V.words self.old }
         ensures found { IsTrue result
             ↔ ((parts_left (read_by V.Store.BitRegister V.Order.position) V.words self.old).done ≡ false) }
-        ensures parts { IsTrue result → Parts B.way F.FnMut
+        ensures parts { GivesPart (λ part. part) (Parts B.way F.FnMut)
             (parts_left (read_by V.Store.BitRegister V.Order.position) V.words self.old)
-            (piece (parts_whole (read_by V.Store.BitRegister V.Order.position) V.words self.old)
-            (parts_found_start self.new) (parts_found_len self.new))
+            (parts_found (read_by V.Store.BitRegister V.Order.position) V.words result self.new)
             (parts_left (read_by V.Store.BitRegister V.Order.position) V.words self.new) }
         ensures keeps { KeepsWindow V.lender V.words self.old self.new }
         ensures callable_still { F.IsAlwaysCallable (parts_callee self.new) }
@@ -197,18 +198,20 @@ impl<'s, V: BitsMut, F: FnMut(usize, &bool) -> bool + Drop, A: Way, B: Way> Spli
     {
         self.seek_by::<B>()
     }
+}
 
+impl<'s, V: BitsMut, F: FnMut(usize, &bool) -> bool + Drop, A, B> SplitsMut<'s, V, F, A, B> {
     // Looks for the next part at one end.
-    fn seek_by<W: Way>(&mut self) -> bool
+    pub(crate) fn seek_by<W: Way>(&mut self) -> bool
         requires callable { F.IsAlwaysCallable (parts_callee self.old) }
         requires lies { LiesIn V.Store.BITS V.words self.old }
         ensures found { IsTrue result
             ↔ ((parts_left (read_by V.Store.BitRegister V.Order.position) V.words self.old).done ≡ false) }
-        ensures parts { IsTrue result → Parts W.way F.FnMut
+        ensures parts { GivesPart (λ part. part) (Parts W.way F.FnMut)
             (parts_left (read_by V.Store.BitRegister V.Order.position) V.words self.old)
-            (piece (parts_whole (read_by V.Store.BitRegister V.Order.position) V.words self.old)
-            (parts_found_start self.new) (parts_found_len self.new))
+            (parts_found (read_by V.Store.BitRegister V.Order.position) V.words result self.new)
             (parts_left (read_by V.Store.BitRegister V.Order.position) V.words self.new) }
+        ensures most { parts_most self.new ≡ parts_most self.old }
         ensures keeps { KeepsWindow V.lender V.words self.old self.new }
         ensures callable_still { F.IsAlwaysCallable (parts_callee self.new) }
         ensures lies_still { LiesIn V.Store.BITS V.words self.new }

@@ -3,7 +3,7 @@ use Rattle.bit_addressing.specs.Memory.{read_by}
 use Rattle.bit_slice_splits_mut.proofs.splits_mut.SplitsMut.seek_by.Goals as goal
 
 pub returns-clause-parts : goal.returns-clause-parts
-returns-clause-parts g c _ =
+returns-clause-parts g c =
     let reading = read_by g.V.Store.BitRegister g.V.Order.Positions.position in
     let p = c.args.self.now in
     let r = c.parted-part in

@@ -1,0 +1,78 @@
+//! So many parts of a writable window at most, of which one is lent at a time.
+
+ghost use Rattle.std.specs.Prelude.{◌≡◌, ◌<◌, ◌↔◌, length, false, IsTrue};
+ghost use Rattle.bit_addressing.specs.Memory.{read_by};
+ghost use Rattle.bit_slice_splits.specs.Ways.{PartsUpTo};
+ghost use Rattle.bit_slice_splits_mut.specs.SplitsMut.{parts_around, parts_callee, parts_found, parts_left, parts_len};
+ghost use Rattle.bit_slice_splits_mut.specs.SplitsMut.{parts_loan, parts_most, parts_place, parts_up_to, parts_view};
+ghost use Rattle.bit_slice_splits_mut.specs.SplitsMut.{parts_whole, KeepsWindow, LiesIn};
+
+use crate::splits_mut::SplitsMut;
+use bit_addressing::BitRegister;
+use bit_slice_splits::{FromBack, FromFront, Way};
+use bit_slice_views::Bits;
+use bit_slice_writes::BitsMut;
+
+/// Stands for the other end where so many parts come at most, all from one end.
+pub struct AtMost;
+
+/// So many parts at most from the front on, the last of which has all that is left.
+pub type SplitNMut<'s, V, F> = SplitsMut<'s, V, F, FromFront, AtMost>;
+
+/// The same from the back on.
+pub type RSplitNMut<'s, V, F> = SplitsMut<'s, V, F, FromBack, AtMost>;
+
+impl<'s, V: BitsMut, F: FnMut(usize, &bool) -> bool + Drop, A: Way> SplitsMut<'s, V, F, A, AtMost> {
+    // ---- make
+
+    /// At most `count` parts of a window.
+    pub fn up_to(of: &'s mut V, count: usize, f: F) -> SplitsMut<'s, V, F, A, AtMost>
+        ensures same_reference { parts_loan result ≡ of.entry.ghost_name }
+        ensures value { parts_view result ≡ of.old }
+        ensures whole { parts_whole (read_by V.Store.BitRegister V.Order.position) V.words result ≡ V.bits of.old }
+        ensures around { parts_around (read_by V.Store.BitRegister V.Order.position) V.lender V.words result
+            ≡ V.frame of.old }
+        ensures place { parts_place result ≡ V.place of.old }
+        ensures len { parts_len result ≡ length (V.bits of.old) }
+        ensures bits { (parts_left (read_by V.Store.BitRegister V.Order.position) V.words result).bits
+            ≡ V.bits of.old }
+        ensures callee { parts_callee result ≡ f }
+        ensures done { (parts_left (read_by V.Store.BitRegister V.Order.position) V.words result).done ≡ false }
+        ensures count { parts_most result ≡ count }
+        ensures lies { LiesIn V.Store.BITS V.words result }
+    {
+        let mut parts = SplitsMut::new(of, f, false);
+        parts.most = count;
+        parts
+    }
+
+    // ---- look for
+
+    /// Looks for the next part, and tells whether there is one: `part_mut` lends it then. The last that may come has all
+    /// that is left.
+    pub fn seek(&mut self) -> bool
+        requires callable { F.IsAlwaysCallable (parts_callee self.old) }
+        requires lies { LiesIn V.Store.BITS V.words self.old }
+        ensures parts { PartsUpTo (λ part. part) A.way F.FnMut
+            (parts_up_to (read_by V.Store.BitRegister V.Order.position) V.words self.old)
+            (parts_found (read_by V.Store.BitRegister V.Order.position) V.words result self.new)
+            (parts_up_to (read_by V.Store.BitRegister V.Order.position) V.words self.new) }
+        ensures keeps { KeepsWindow V.lender V.words self.old self.new }
+        ensures callable_still { F.IsAlwaysCallable (parts_callee self.new) }
+        ensures lies_still { LiesIn V.Store.BITS V.words self.new }
+
+        // Fewer may come each time, so a search comes to its end.
+        ensures fewer { IsTrue result → parts_most self.new < parts_most self.old }
+    {
+        let most = self.most;
+        if most == 0 {
+            return false;
+        }
+        self.most = most - 1;
+        if most == 1 {
+            self.seek_rest()
+        } else {
+            self.seek_by::<A>()
+        }
+    }
+}

@@ -56,21 +56,29 @@ abbrev pub parts_around : {V F A B S O X : Type 0} → Reading S → (V → X) �
 parts_around reading lender words parts =
     frame_of reading (lender parts.of.now) (words parts.of.now) parts.head parts.len
 
--- what is left: the bits not yet split, the predicate, and whether no part is left
-abbrev pub parts_left : {V F A B S O : Type 0} → Reading S → (V → List S) → SplitsMut V F A B S O → SplitLeft F
-parts_left reading words parts = record {
-  bits = piece (piece (memory reading (words parts.of.now)) parts.head parts.len) parts.from parts.count;
+-- what is left, by words that may be older: the bits not yet split, the predicate, and whether no part is left
+abbrev pub parts_left_by : {V F A B S O : Type 0} → Reading S → List S → SplitsMut V F A B S O → SplitLeft F
+parts_left_by reading words parts = record {
+  bits = piece (piece (memory reading words) parts.head parts.len) parts.from parts.count;
   callee = parts.f;
   done = parts.done;
 }
+
+-- what is left
+abbrev pub parts_left : {V F A B S O : Type 0} → Reading S → (V → List S) → SplitsMut V F A B S O → SplitLeft F
+parts_left reading words parts = parts_left_by reading (words parts.of.now) parts
 
 -- how many parts may still come, where so many come at most
 abbrev pub parts_most : {V F A B S O : Type 0} → SplitsMut V F A B S O → ℕ
 parts_most parts = parts.most
 
+-- what is left then, by words that may be older
+abbrev pub parts_up_to_by : {V F A B S O : Type 0} → Reading S → List S → SplitsMut V F A B S O → SplitNLeft F
+parts_up_to_by reading words parts = record { parts = parts_left_by reading words parts; count = parts.most }
+
 -- what is left then
 abbrev pub parts_up_to : {V F A B S O : Type 0} → Reading S → (V → List S) → SplitsMut V F A B S O → SplitNLeft F
-parts_up_to reading words parts = record { parts = parts_left reading words parts; count = parts.most }
+parts_up_to reading words parts = parts_up_to_by reading (words parts.of.now) parts
 
 -- the bits of the part that was found last, where a search found one
 abbrev pub parts_found : {V F A B S O : Type 0} → Reading S → (V → List S) → Bool → SplitsMut V F A B S O

@@ -1,11 +1,11 @@
 //! The parts of a writable window between the places where a predicate answers true, of which one is lent at a time.
 
-ghost use Rattle.std.specs.Prelude.{◌≡◌, ◌+◌, ◌*◌, ◌<◌, ◌≤◌, ◌^◌, ◌↔◌, length, true, false, IsTrue};
+ghost use Rattle.std.specs.Prelude.{◌≡◌, ◌+◌, ◌*◌, ◌<◌, ◌≤◌, ◌^◌, ◌↔◌, length, true, false, IsTrue, IsSome, IfSome};
 ghost use Rattle.std.specs.Borrow.{sem};
 ghost use Rattle.bit_addressing.specs.Memory.{memory, piece, read_by};
 ghost use Rattle.bit_addressing_span.specs.declared.span.TheConstants.{MAX_BITS};
 ghost use Rattle.bit_slice_splits.specs.Ways.{Ends, GivesPart, Parts};
-ghost use Rattle.bit_slice_splits_mut.specs.Lending.{LendsPart};
+ghost use Rattle.bit_slice_splits_mut.specs.Lending.{LendsNext, LendsPart, TakesPart};
 ghost use Rattle.bit_slice_splits_mut.specs.SplitsMut.{parts_around, parts_found_len, parts_found_start, parts_left};
 ghost use Rattle.bit_slice_splits_mut.specs.SplitsMut.{parts_callee, parts_count, parts_done, parts_found, parts_most};
 ghost use Rattle.bit_slice_splits_mut.specs.SplitsMut.{parts_len, parts_loan, parts_place, parts_view, parts_whole};
@@ -197,6 +197,46 @@ impl<'s, V: BitsMut, F: FnMut(usize, &bool) -> bool + Drop, A: Way, B: Way> Spli
         ensures shorter { IsTrue result → parts_count self.old ≤ parts_count self.new → parts_done self.new ≡ true }
     {
         self.seek_by::<B>()
+    }
+
+    // ---- lend
+
+    /// The next part from the front, to write.
+    pub fn next_mut(&mut self) -> Option<&mut V>
+        requires callable { F.IsAlwaysCallable (parts_callee self.old) }
+        requires lies { LiesIn V.Store.BITS V.words self.old }
+        ensures variant { IsSome result
+            ↔ ((parts_left (read_by V.Store.BitRegister V.Order.position) V.words self.old).done ≡ false) }
+        ensures words { IfSome result (λ part. V.words part.now ≡ V.words (parts_view self.old)) }
+        ensures lender { IfSome result (λ part. V.lender part.now ≡ V.lender (parts_view self.old)) }
+        ensures* lends { sem 𝓛 (LendsNext V.row F.row A.row B.row V.Store.row V.Order.row V.lender V.words V.place
+            V.bits F.FnMut (TakesPart (read_by V.Store.BitRegister V.Order.position) V.words A.way F.FnMut)
+            self.entry result) }
+    {
+        if self.seek() {
+            Some(self.part_mut())
+        } else {
+            None
+        }
+    }
+
+    /// The next part from the back, to write.
+    pub fn next_back_mut(&mut self) -> Option<&mut V>
+        requires callable { F.IsAlwaysCallable (parts_callee self.old) }
+        requires lies { LiesIn V.Store.BITS V.words self.old }
+        ensures variant { IsSome result
+            ↔ ((parts_left (read_by V.Store.BitRegister V.Order.position) V.words self.old).done ≡ false) }
+        ensures words { IfSome result (λ part. V.words part.now ≡ V.words (parts_view self.old)) }
+        ensures lender { IfSome result (λ part. V.lender part.now ≡ V.lender (parts_view self.old)) }
+        ensures* lends { sem 𝓛 (LendsNext V.row F.row A.row B.row V.Store.row V.Order.row V.lender V.words V.place
+            V.bits F.FnMut (TakesPart (read_by V.Store.BitRegister V.Order.position) V.words B.way F.FnMut)
+            self.entry result) }
+    {
+        if self.seek_back() {
+            Some(self.part_mut())
+        } else {
+            None
+        }
     }
 }
 

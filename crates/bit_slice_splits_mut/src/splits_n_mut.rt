@@ -1,8 +1,10 @@
 //! So many parts of a writable window at most, of which one is lent at a time.
 
-ghost use Rattle.std.specs.Prelude.{◌≡◌, ◌<◌, ◌↔◌, length, false, IsTrue};
+ghost use Rattle.std.specs.Prelude.{◌≡◌, ◌<◌, length, false, IsTrue, IfSome};
+ghost use Rattle.std.specs.Borrow.{sem};
 ghost use Rattle.bit_addressing.specs.Memory.{read_by};
 ghost use Rattle.bit_slice_splits.specs.Ways.{PartsUpTo};
+ghost use Rattle.bit_slice_splits_mut.specs.Lending.{at_most_row, LendsNext, TakesUpTo};
 ghost use Rattle.bit_slice_splits_mut.specs.SplitsMut.{parts_around, parts_callee, parts_found, parts_left, parts_len};
 ghost use Rattle.bit_slice_splits_mut.specs.SplitsMut.{parts_loan, parts_most, parts_place, parts_up_to, parts_view};
 ghost use Rattle.bit_slice_splits_mut.specs.SplitsMut.{parts_whole, KeepsWindow, LiesIn};
@@ -73,6 +75,25 @@ impl<'s, V: BitsMut, F: FnMut(usize, &bool) -> bool + Drop, A: Way> SplitsMut<'s
             self.seek_rest()
         } else {
             self.seek_by::<A>()
+        }
+    }
+
+    // ---- lend
+
+    /// The next part, to write. The last that may come has all that is left.
+    pub fn next_mut(&mut self) -> Option<&mut V>
+        requires callable { F.IsAlwaysCallable (parts_callee self.old) }
+        requires lies { LiesIn V.Store.BITS V.words self.old }
+        ensures words { IfSome result (λ part. V.words part.now ≡ V.words (parts_view self.old)) }
+        ensures lender { IfSome result (λ part. V.lender part.now ≡ V.lender (parts_view self.old)) }
+        ensures* lends { sem 𝓛 (LendsNext V.row F.row A.row at_most_row V.Store.row V.Order.row V.lender V.words V.place
+            V.bits F.FnMut (TakesUpTo (read_by V.Store.BitRegister V.Order.position) V.words A.way F.FnMut)
+            self.entry result) }
+    {
+        if self.seek() {
+            Some(self.part_mut())
+        } else {
+            None
         }
     }
 }

@@ -2,7 +2,7 @@
 --
 -- Which indices are tried, and what comes off: `SplitWay`, and `from_front`, `from_back`, `inclusive_front`,
 -- `inclusive_back`. What the predicate is handed and answers: `Asked`, `Asks`. A part that comes off: `Parts`, `Ends`,
--- `GivesPart`, and of so many at most `PartsUpTo`. What an iterator has left: `SplitLeft`, `SplitNLeft`.
+-- `GivesPart`, and of so many at most `CountsDown`, `PartsUpTo`. What an iterator has left: `SplitLeft`, `SplitNLeft`.
 use Rattle.std.proofs.Common.{◌≡◌, ℕ, ◌+◌, ◌-◌, ◌≤◌, Bool, true, false, cond, List, length, get_or, nat_eq, nat_lt, Bor, Option}
 use Rattle.std.proofs.Common.{None, ◌<◌}
 use Rattle.std.specs.Fn.{Called, Mut}
@@ -123,11 +123,16 @@ pub record SplitNLeft (F : Type 0) : Type 0 where
   pub parts : SplitLeft F
   pub count : ℕ
 
+-- so many at most: while more than one may come, the next one does; the last that may come is what is left
+pub record CountsDown {S R : Type 0} (count : S → ℕ) (next rest : S → Option R → S → Type 0) (before : S) (r : Option R)
+    (after : S) : Type 0 where
+  pub none : count before ≡ 0 → (r ≡ None) × (after ≡ before)
+  pub one : count before ≡ 1 → (count after ≡ 0) × rest before r after
+  pub more : 1 < count before → (count after + 1 ≡ count before) × next before r after
+
 -- while more than one part may come, the next one does; the last that may come has all bits that are left
-pub record PartsUpTo {F A : Type 0} (view : A → List Bool) (way : SplitWay)
-    (g : Mut F (ℕ × (Bor Bool × Unit {0})) Bool) (before : SplitNLeft F) (r : Option A) (after : SplitNLeft F)
-    : Type 0 where
-  pub none : before.count ≡ 0 → (r ≡ None) × (after ≡ before)
-  pub one : before.count ≡ 1 → (after.count ≡ 0) × GivesPart view Ends before.parts r after.parts
-  pub more : 1 < before.count
-      → (after.count + 1 ≡ before.count) × GivesPart view (Parts way g) before.parts r after.parts
+abbrev pub PartsUpTo : {F A : Type 0} → (A → List Bool) → SplitWay → Mut F (ℕ × (Bor Bool × Unit {0})) Bool
+    → SplitNLeft F → Option A → SplitNLeft F → Type 0
+PartsUpTo view way g =
+    CountsDown (λ left. left.count) (λ before r after. GivesPart view (Parts way g) before.parts r after.parts)
+    (λ before r after. GivesPart view Ends before.parts r after.parts)

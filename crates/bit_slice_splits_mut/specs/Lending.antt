@@ -1,17 +1,16 @@
 -- What parts end as of which one was lent.
 --
--- The part that a search found: `LendsPart`. The next part, looked for and lent at once: `LendsNext`, of what a call takes
--- off, `TakesPart` or `TakesUpTo`; what it has lent, `HasLent`.
+-- The part that a search found: `LendsPart`. The next part, looked for and lent at once: `LendsNext`, of what the search
+-- takes off; what it has lent, `HasLent`.
 use Rattle.std.specs.Prelude.{[], ℕ, ◌≡◌, ◌+◌, ◌≤◌, List, Bool, length, Option, Some, None, IfSome, IfNone}
 use Rattle.std.specs.Borrow.{Lends, LendsSo, MutBor, Bor, Fml, RattleType}
 use Rattle.std.specs.Fn.{Mut}
 use denote.Param.Always.{always_mut}
 use mir.Syntax.{named}
-use Rattle.bit_addressing.specs.Memory.{Reading}
-use Rattle.bit_slice_splits.specs.Ways.{GivesPart, Parts, PartsUpTo, SplitWay}
-use Rattle.bit_slice_splits_mut.specs.SplitsMut.{parts_found_len, parts_found_start, parts_left_by, parts_len, parts_loan}
-use Rattle.bit_slice_splits_mut.specs.SplitsMut.{parts_place, parts_up_to_by, parts_view, parts_callee, parts_from}
+use Rattle.bit_slice_splits_mut.specs.SplitsMut.{parts_found_len, parts_found_start, parts_len, parts_loan}
+use Rattle.bit_slice_splits_mut.specs.SplitsMut.{parts_callee, parts_from, parts_place, parts_view}
 use Rattle.bit_slice_splits_mut.specs.SplitsMut.{parts_count, KeepsWindow}
+use Rattle.bit_slice_splits_mut.specs.Takes.{parts_state, PartsState}
 use Rattle.bit_slice_splits_mut.specs.declared.splits_mut.SplitsMut.{SplitsMut}
 use Rattle.bit_slice_splits_mut.specs.contracts.splits_mut.SplitsMut as parts
 use Rattle.bit_slice_splits_mut.specs.contracts.splits_n_mut.AtMost as most
@@ -22,24 +21,6 @@ abbrev pub LendsPart : (V F A B S O : RattleType)
 LendsPart V F A B S O p r =
     Lends (parts.the_row (record { mir = named 1; lft = [] }) V F A B S O) V p r
     (λ w. record p.now { of = record p.now.of { now = w } })
-
--- what a call took off from before, a list's bits or nothing, so that after is left, where no bit was written yet
-abbrev pub Taking : (V F A B S O : Type 0) → Type 1
-Taking V F A B S O = SplitsMut V F A B S O → Option (List Bool) → SplitsMut V F A B S O → Type 0
-
--- one part, in a way
-abbrev pub TakesPart : {V F A B S O : Type 0} → Reading S → (V → List S) → SplitWay
-    → Mut F (ℕ × (Bor Bool × Unit {0})) Bool → Taking V F A B S O
-TakesPart reading words way g before r after =
-    GivesPart (λ part. part) (Parts way g) (parts_left_by reading (words (parts_view before)) before) r
-    (parts_left_by reading (words (parts_view before)) after)
-
--- one of so many parts at most
-abbrev pub TakesUpTo : {V F A B S O : Type 0} → Reading S → (V → List S) → SplitWay
-    → Mut F (ℕ × (Bor Bool × Unit {0})) Bool → Taking V F A B S O
-TakesUpTo reading words way g before r after =
-    PartsUpTo (λ part. part) way g (parts_up_to_by reading (words (parts_view before)) before) r
-    (parts_up_to_by reading (words (parts_view before)) after)
 
 -- after is before with the lent part taken off, and the window as the part's borrower left it
 pub record HasLent {V F A B S O : Type 0} (place : V → ℕ) (bits : V → List Bool)
@@ -55,16 +36,16 @@ pub record HasLent {V F A B S O : Type 0} (place : V → ℕ) (bits : V → List
   pub lent_within : parts_found_start after + parts_found_len after ≤ parts_len after
   pub callable : always_mut g (parts_callee after)
 
--- they end with the part taken off and the window as its borrower left it; where none is left, as they were
+-- they end with the part taken off and the window as its borrower left it; where none is left, with no bit written
 abbrev pub LendsNext : (V F A B S O : RattleType) → {X : Type 0} → (V.Denot → X) → (V.Denot → List S.Denot)
     → (V.Denot → ℕ) → (V.Denot → List Bool) → Mut F.Denot (ℕ × (Bor Bool × Unit {0})) Bool
-    → Taking V.Denot F.Denot A.Denot B.Denot S.Denot O.Denot
+    → (PartsState F.Denot → Option (List Bool) → PartsState F.Denot → Type 0)
     → MutBor (SplitsMut V.Denot F.Denot A.Denot B.Denot S.Denot O.Denot) → Option (MutBor V.Denot) → Fml
 LendsNext V F A B S O lender words place bits g takes p r =
     LendsSo (parts.the_row (record { mir = named 1; lft = [] }) V F A B S O) V p r
     (λ after left. IfSome r (λ part. HasLent place bits g p.now part.now after left
-    × takes p.now (Some (bits part.now)) after))
-    (λ after. IfNone r (KeepsWindow lender words p.now after × takes p.now None after))
+    × takes (parts_state p.now) (Some (bits part.now)) (parts_state after)))
+    (λ after. IfNone r (KeepsWindow lender words p.now after × takes (parts_state p.now) None (parts_state after)))
 
 -- the type that stands for the other end of so many parts at most
 abbrev pub at_most_row : RattleType

@@ -2,7 +2,7 @@
 --
 -- The window, as its last borrower left it: `parts_view`, `parts_loan`; where it lies when it shows all its bits:
 -- `parts_place`, `parts_len`; its bits and its frame as they are then: `parts_whole`, `parts_around`. What is left to be
--- split: `parts_left`, and where so many parts come at most, `parts_up_to`. The part that was found:
+-- split: `parts_left`; how many parts may still come: `parts_most`. The part that was found:
 -- `parts_found_start`, `parts_found_len`, `parts_found`. Calls: `KeepsWindow`.
 use Rattle.std.specs.Prelude.{ℕ, ◌≡◌, ◌+◌, ◌*◌, ◌<◌, ◌≤◌, ◌^◌, List, Bool, length, Option, Some, None}
 use Rattle.std.proofs.Common.{cond}
@@ -11,7 +11,7 @@ use Rattle.bit_addressing_span.specs.declared.span.TheConstants.{MAX_BITS}
 use Rattle.bit_slice_writes.specs.Frame.{Frame, frame_of}
 use Rattle.std.specs.Borrow.{Bor}
 use Rattle.std.specs.Fn.{Mut}
-use Rattle.bit_slice_splits.specs.Ways.{Asks, SplitLeft, SplitNLeft, SplitWay}
+use Rattle.bit_slice_splits.specs.Ways.{Asks, SplitLeft, SplitWay}
 use Rattle.bit_slice_splits_mut.specs.declared.splits_mut.SplitsMut.{SplitsMut}
 
 -- the window, as it is now, and the loan of it
@@ -56,29 +56,17 @@ abbrev pub parts_around : {V F A B S O X : Type 0} → Reading S → (V → X) �
 parts_around reading lender words parts =
     frame_of reading (lender parts.of.now) (words parts.of.now) parts.head parts.len
 
--- what is left, by words that may be older: the bits not yet split, the predicate, and whether no part is left
-abbrev pub parts_left_by : {V F A B S O : Type 0} → Reading S → List S → SplitsMut V F A B S O → SplitLeft F
-parts_left_by reading words parts = record {
-  bits = piece (piece (memory reading words) parts.head parts.len) parts.from parts.count;
+-- what is left
+abbrev pub parts_left : {V F A B S O : Type 0} → Reading S → (V → List S) → SplitsMut V F A B S O → SplitLeft F
+parts_left reading words parts = record {
+  bits = piece (piece (memory reading (words parts.of.now)) parts.head parts.len) parts.from parts.count;
   callee = parts.f;
   done = parts.done;
 }
 
--- what is left
-abbrev pub parts_left : {V F A B S O : Type 0} → Reading S → (V → List S) → SplitsMut V F A B S O → SplitLeft F
-parts_left reading words parts = parts_left_by reading (words parts.of.now) parts
-
 -- how many parts may still come, where so many come at most
 abbrev pub parts_most : {V F A B S O : Type 0} → SplitsMut V F A B S O → ℕ
 parts_most parts = parts.most
-
--- what is left then, by words that may be older
-abbrev pub parts_up_to_by : {V F A B S O : Type 0} → Reading S → List S → SplitsMut V F A B S O → SplitNLeft F
-parts_up_to_by reading words parts = record { parts = parts_left_by reading words parts; count = parts.most }
-
--- what is left then
-abbrev pub parts_up_to : {V F A B S O : Type 0} → Reading S → (V → List S) → SplitsMut V F A B S O → SplitNLeft F
-parts_up_to reading words parts = parts_up_to_by reading (words parts.of.now) parts
 
 -- the bits of the part that was found last, where a search found one
 abbrev pub parts_found : {V F A B S O : Type 0} → Reading S → (V → List S) → Bool → SplitsMut V F A B S O

@@ -4,12 +4,12 @@ ghost use Rattle.std.specs.Prelude.{◌≡◌, ◌+◌, ◌*◌, ◌<◌, ◌≤
 ghost use Rattle.std.specs.Borrow.{sem};
 ghost use Rattle.bit_addressing.specs.Memory.{memory, piece, read_by};
 ghost use Rattle.bit_addressing_span.specs.declared.span.TheConstants.{MAX_BITS};
-ghost use Rattle.bit_slice_splits.specs.Ways.{Ends, GivesPart, Parts};
-ghost use Rattle.bit_slice_splits_mut.specs.Lending.{LendsNext, LendsPart, TakesPart};
+ghost use Rattle.bit_slice_splits_mut.specs.Lending.{LendsNext, LendsPart};
 ghost use Rattle.bit_slice_splits_mut.specs.SplitsMut.{parts_around, parts_found_len, parts_found_start, parts_left};
 ghost use Rattle.bit_slice_splits_mut.specs.SplitsMut.{parts_callee, parts_count, parts_done, parts_found, parts_most};
 ghost use Rattle.bit_slice_splits_mut.specs.SplitsMut.{parts_len, parts_loan, parts_place, parts_view, parts_whole};
 ghost use Rattle.bit_slice_splits_mut.specs.SplitsMut.{KeepsWindow, LiesIn, PartsBy};
+ghost use Rattle.bit_slice_splits_mut.specs.Takes.{parts_state, TakesPart, TakesRest};
 
 use bit_addressing::BitRegister;
 use bit_slice_splits::{
@@ -115,10 +115,9 @@ impl<'s, V: BitsMut, F: Drop, A, B> SplitsMut<'s, V, F, A, B> {
         requires { LiesIn V.Store.BITS V.words self.old }
         ensures found { IsTrue result
             ↔ ((parts_left (read_by V.Store.BitRegister V.Order.position) V.words self.old).done ≡ false) }
-        ensures ends { GivesPart (λ part. part) Ends
-            (parts_left (read_by V.Store.BitRegister V.Order.position) V.words self.old)
-            (parts_found (read_by V.Store.BitRegister V.Order.position) V.words result self.new)
-            (parts_left (read_by V.Store.BitRegister V.Order.position) V.words self.new) }
+        ensures ends { TakesRest (read_by V.Store.BitRegister V.Order.position) (V.words (parts_view self.old))
+            (parts_state self.old) (parts_found (read_by V.Store.BitRegister V.Order.position) V.words result self.new)
+            (parts_state self.new) }
         ensures most { parts_most self.new ≡ parts_most self.old }
         ensures keeps { KeepsWindow V.lender V.words self.old self.new }
         ensures lies_still { LiesIn V.Store.BITS V.words self.new }
@@ -165,10 +164,9 @@ impl<'s, V: BitsMut, F: FnMut(usize, &bool) -> bool + Drop, A: Way, B: Way> Spli
         requires lies { LiesIn V.Store.BITS V.words self.old }
         ensures found { IsTrue result
             ↔ ((parts_left (read_by V.Store.BitRegister V.Order.position) V.words self.old).done ≡ false) }
-        ensures parts { GivesPart (λ part. part) (Parts A.way F.FnMut)
-            (parts_left (read_by V.Store.BitRegister V.Order.position) V.words self.old)
-            (parts_found (read_by V.Store.BitRegister V.Order.position) V.words result self.new)
-            (parts_left (read_by V.Store.BitRegister V.Order.position) V.words self.new) }
+        ensures parts { TakesPart (read_by V.Store.BitRegister V.Order.position) (V.words (parts_view self.old))
+            A.way F.FnMut (parts_state self.old)
+            (parts_found (read_by V.Store.BitRegister V.Order.position) V.words result self.new) (parts_state self.new) }
         ensures keeps { KeepsWindow V.lender V.words self.old self.new }
         ensures callable_still { F.IsAlwaysCallable (parts_callee self.new) }
         ensures lies_still { LiesIn V.Store.BITS V.words self.new }
@@ -185,10 +183,9 @@ impl<'s, V: BitsMut, F: FnMut(usize, &bool) -> bool + Drop, A: Way, B: Way> Spli
         requires lies { LiesIn V.Store.BITS V.words self.old }
         ensures found { IsTrue result
             ↔ ((parts_left (read_by V.Store.BitRegister V.Order.position) V.words self.old).done ≡ false) }
-        ensures parts { GivesPart (λ part. part) (Parts B.way F.FnMut)
-            (parts_left (read_by V.Store.BitRegister V.Order.position) V.words self.old)
-            (parts_found (read_by V.Store.BitRegister V.Order.position) V.words result self.new)
-            (parts_left (read_by V.Store.BitRegister V.Order.position) V.words self.new) }
+        ensures parts { TakesPart (read_by V.Store.BitRegister V.Order.position) (V.words (parts_view self.old))
+            B.way F.FnMut (parts_state self.old)
+            (parts_found (read_by V.Store.BitRegister V.Order.position) V.words result self.new) (parts_state self.new) }
         ensures keeps { KeepsWindow V.lender V.words self.old self.new }
         ensures callable_still { F.IsAlwaysCallable (parts_callee self.new) }
         ensures lies_still { LiesIn V.Store.BITS V.words self.new }
@@ -210,7 +207,8 @@ impl<'s, V: BitsMut, F: FnMut(usize, &bool) -> bool + Drop, A: Way, B: Way> Spli
         ensures words { IfSome result (λ part. V.words part.now ≡ V.words (parts_view self.old)) }
         ensures lender { IfSome result (λ part. V.lender part.now ≡ V.lender (parts_view self.old)) }
         ensures* lends { sem 𝓛 (LendsNext V.row F.row A.row B.row V.Store.row V.Order.row V.lender V.words V.place
-            V.bits F.FnMut (TakesPart (read_by V.Store.BitRegister V.Order.position) V.words A.way F.FnMut)
+            V.bits F.FnMut (TakesPart (read_by V.Store.BitRegister V.Order.position)
+            (V.words (parts_view self.old)) A.way F.FnMut)
             self.entry result) }
     {
         if self.seek() {
@@ -229,7 +227,8 @@ impl<'s, V: BitsMut, F: FnMut(usize, &bool) -> bool + Drop, A: Way, B: Way> Spli
         ensures words { IfSome result (λ part. V.words part.now ≡ V.words (parts_view self.old)) }
         ensures lender { IfSome result (λ part. V.lender part.now ≡ V.lender (parts_view self.old)) }
         ensures* lends { sem 𝓛 (LendsNext V.row F.row A.row B.row V.Store.row V.Order.row V.lender V.words V.place
-            V.bits F.FnMut (TakesPart (read_by V.Store.BitRegister V.Order.position) V.words B.way F.FnMut)
+            V.bits F.FnMut (TakesPart (read_by V.Store.BitRegister V.Order.position)
+            (V.words (parts_view self.old)) B.way F.FnMut)
             self.entry result) }
     {
         if self.seek_back() {
@@ -247,10 +246,9 @@ impl<'s, V: BitsMut, F: FnMut(usize, &bool) -> bool + Drop, A, B> SplitsMut<'s, 
         requires lies { LiesIn V.Store.BITS V.words self.old }
         ensures found { IsTrue result
             ↔ ((parts_left (read_by V.Store.BitRegister V.Order.position) V.words self.old).done ≡ false) }
-        ensures parts { GivesPart (λ part. part) (Parts W.way F.FnMut)
-            (parts_left (read_by V.Store.BitRegister V.Order.position) V.words self.old)
-            (parts_found (read_by V.Store.BitRegister V.Order.position) V.words result self.new)
-            (parts_left (read_by V.Store.BitRegister V.Order.position) V.words self.new) }
+        ensures parts { TakesPart (read_by V.Store.BitRegister V.Order.position) (V.words (parts_view self.old))
+            W.way F.FnMut (parts_state self.old)
+            (parts_found (read_by V.Store.BitRegister V.Order.position) V.words result self.new) (parts_state self.new) }
         ensures most { parts_most self.new ≡ parts_most self.old }
         ensures keeps { KeepsWindow V.lender V.words self.old self.new }
         ensures callable_still { F.IsAlwaysCallable (parts_callee self.new) }

@@ -3,11 +3,11 @@
 ghost use Rattle.std.specs.Prelude.{◌≡◌, ◌<◌, length, false, IsTrue, IfSome};
 ghost use Rattle.std.specs.Borrow.{sem};
 ghost use Rattle.bit_addressing.specs.Memory.{read_by};
-ghost use Rattle.bit_slice_splits.specs.Ways.{PartsUpTo};
-ghost use Rattle.bit_slice_splits_mut.specs.Lending.{at_most_row, LendsNext, TakesUpTo};
+ghost use Rattle.bit_slice_splits_mut.specs.Lending.{at_most_row, LendsNext};
 ghost use Rattle.bit_slice_splits_mut.specs.SplitsMut.{parts_around, parts_callee, parts_found, parts_left, parts_len};
-ghost use Rattle.bit_slice_splits_mut.specs.SplitsMut.{parts_loan, parts_most, parts_place, parts_up_to, parts_view};
+ghost use Rattle.bit_slice_splits_mut.specs.SplitsMut.{parts_loan, parts_most, parts_place, parts_view};
 ghost use Rattle.bit_slice_splits_mut.specs.SplitsMut.{parts_whole, KeepsWindow, LiesIn};
+ghost use Rattle.bit_slice_splits_mut.specs.Takes.{parts_state, TakesUpTo};
 
 use crate::splits_mut::SplitsMut;
 use bit_addressing::BitRegister;
@@ -55,10 +55,9 @@ impl<'s, V: BitsMut, F: FnMut(usize, &bool) -> bool + Drop, A: Way> SplitsMut<'s
     pub fn seek(&mut self) -> bool
         requires callable { F.IsAlwaysCallable (parts_callee self.old) }
         requires lies { LiesIn V.Store.BITS V.words self.old }
-        ensures parts { PartsUpTo (λ part. part) A.way F.FnMut
-            (parts_up_to (read_by V.Store.BitRegister V.Order.position) V.words self.old)
-            (parts_found (read_by V.Store.BitRegister V.Order.position) V.words result self.new)
-            (parts_up_to (read_by V.Store.BitRegister V.Order.position) V.words self.new) }
+        ensures parts { TakesUpTo (read_by V.Store.BitRegister V.Order.position) (V.words (parts_view self.old))
+            A.way F.FnMut (parts_state self.old)
+            (parts_found (read_by V.Store.BitRegister V.Order.position) V.words result self.new) (parts_state self.new) }
         ensures keeps { KeepsWindow V.lender V.words self.old self.new }
         ensures callable_still { F.IsAlwaysCallable (parts_callee self.new) }
         ensures lies_still { LiesIn V.Store.BITS V.words self.new }
@@ -87,7 +86,8 @@ impl<'s, V: BitsMut, F: FnMut(usize, &bool) -> bool + Drop, A: Way> SplitsMut<'s
         ensures words { IfSome result (λ part. V.words part.now ≡ V.words (parts_view self.old)) }
         ensures lender { IfSome result (λ part. V.lender part.now ≡ V.lender (parts_view self.old)) }
         ensures* lends { sem 𝓛 (LendsNext V.row F.row A.row at_most_row V.Store.row V.Order.row V.lender V.words V.place
-            V.bits F.FnMut (TakesUpTo (read_by V.Store.BitRegister V.Order.position) V.words A.way F.FnMut)
+            V.bits F.FnMut (TakesUpTo (read_by V.Store.BitRegister V.Order.position)
+            (V.words (parts_view self.old)) A.way F.FnMut)
             self.entry result) }
     {
         if self.seek() {

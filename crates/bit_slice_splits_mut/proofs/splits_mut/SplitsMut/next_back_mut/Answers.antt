@@ -1,7 +1,6 @@
-use Rattle.std.proofs.Common.{◌+◌, length, refl, rules, ap, ◌∙◌}
+use Rattle.std.proofs.Common.{◌+◌, length, refl, rules, ap, sym, ◌∙◌}
 use Rattle.bit_addressing.specs.Memory.{read_by}
-use Rattle.bit_slice_splits.specs.Ways.{GivesPart, Parts}
-use Rattle.bit_slice_splits_mut.specs.SplitsMut.{parts_left, parts_left_by}
+use Rattle.bit_slice_splits_mut.specs.Takes.{parts_state, TakesPart}
 use Rattle.bit_slice_splits_mut.proofs.SeekLemmas.{taken_by}
 use Rattle.bit_slice_splits_mut.proofs.splits_mut.SplitsMut.next_back_mut.Goals as goal
 
@@ -14,11 +13,11 @@ returns-then-seek_back g c =
     let lent = c.part_mut.result.now in
     let kept = c.seek_back.ensures.keeps in
     let lies = c.seek_back.ensures.lies_still in
-    let took = taken_by (λ r ws. GivesPart (λ part. part) (Parts g.B.Way.way g.F.FnMut) (parts_left reading words p) r
-    (parts_left_by reading ws q)) c.seek_back.result reading (words p.of.now) (words q.of.now) (words lent)
-    (g.V.BitsMut.place lent) (length (g.V.Bits.bits lent)) q.head q.len q.start q.size (g.V.Bits.bits lent)
-    c.if-seek_back.true kept.words_are (g.met.V.BitsMut.window lent) c.part_mut.ensures.words c.part_mut.ensures.place
-    c.part_mut.ensures.len lies.found c.seek_back.ensures.parts in (
+    let took = taken_by (λ r. TakesPart reading (words p.of.now) g.B.Way.way g.F.FnMut (parts_state p) r (parts_state q))
+    c.seek_back.result reading (words q.of.now) (words lent) (g.V.BitsMut.place lent)
+    (length (g.V.Bits.bits lent)) q.head q.len q.start q.size (g.V.Bits.bits lent) c.if-seek_back.true
+    (g.met.V.BitsMut.window lent) c.part_mut.ensures.words c.part_mut.ensures.place c.part_mut.ensures.len lies.found
+    c.seek_back.ensures.parts in (
       (
         refl,
         (λ w. (

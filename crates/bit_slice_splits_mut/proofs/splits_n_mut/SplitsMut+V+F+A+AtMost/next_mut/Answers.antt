@@ -1,7 +1,6 @@
-use Rattle.std.proofs.Common.{◌+◌, length, refl, rules, ap, ◌∙◌}
+use Rattle.std.proofs.Common.{◌+◌, length, refl, rules, ap, sym, ◌∙◌}
 use Rattle.bit_addressing.specs.Memory.{read_by}
-use Rattle.bit_slice_splits.specs.Ways.{PartsUpTo}
-use Rattle.bit_slice_splits_mut.specs.SplitsMut.{parts_up_to, parts_up_to_by}
+use Rattle.bit_slice_splits_mut.specs.Takes.{parts_state, TakesUpTo}
 use Rattle.bit_slice_splits_mut.proofs.SeekLemmas.{taken_by}
 use Rattle.bit_slice_splits_mut.proofs.splits_n_mut.SplitsMut+V+F+A+AtMost.next_mut.Goals as goal
 
@@ -14,11 +13,11 @@ returns-then-seek g c =
     let lent = c.part_mut.result.now in
     let kept = c.seek.ensures.keeps in
     let lies = c.seek.ensures.lies_still in
-    let took = taken_by (λ r ws. PartsUpTo (λ part. part) g.A.Way.way g.F.FnMut (parts_up_to reading words p) r
-    (parts_up_to_by reading ws q)) c.seek.result reading (words p.of.now) (words q.of.now) (words lent)
-    (g.V.BitsMut.place lent) (length (g.V.Bits.bits lent)) q.head q.len q.start q.size (g.V.Bits.bits lent)
-    c.if-seek.true kept.words_are (g.met.V.BitsMut.window lent) c.part_mut.ensures.words c.part_mut.ensures.place
-    c.part_mut.ensures.len lies.found c.seek.ensures.parts in (
+    let took = taken_by (λ r. TakesUpTo reading (words p.of.now) g.A.Way.way g.F.FnMut (parts_state p) r (parts_state q))
+    c.seek.result reading (words q.of.now) (words lent) (g.V.BitsMut.place lent)
+    (length (g.V.Bits.bits lent)) q.head q.len q.start q.size (g.V.Bits.bits lent) c.if-seek.true
+    (g.met.V.BitsMut.window lent) c.part_mut.ensures.words c.part_mut.ensures.place c.part_mut.ensures.len lies.found
+    c.seek.ensures.parts in (
       (
         refl,
         (λ w. (

@@ -3,7 +3,7 @@
 -- The window, as its last borrower left it: `parts_view`, `parts_loan`; where it lies when it shows all its bits:
 -- `parts_place`, `parts_len`; its bits and its frame as they are then: `parts_whole`, `parts_around`. What is left to be
 -- split: `parts_left`; how many parts may still come: `parts_most`. The part that was found:
--- `parts_found_start`, `parts_found_len`, `parts_found`. Calls: `KeepsWindow`.
+-- `parts_found_start`, `parts_found_len`, `parts_found`. Freshly made: `SplitsAll`. Calls: `KeepsWindow`.
 use Rattle.std.specs.Prelude.{ℕ, ◌≡◌, ◌+◌, ◌*◌, ◌<◌, ◌≤◌, ◌^◌, List, Bool, length, Option, Some, None}
 use Rattle.std.proofs.Common.{cond}
 use Rattle.bit_addressing.specs.Memory.{Reading, memory, piece}
@@ -107,3 +107,17 @@ pub record KeepsWindow {V F A B S O X : Type 0} (lender : V → X) (words : V �
   pub len_is : parts_len after ≡ parts_len before
   pub words_are : words (parts_view after) ≡ words (parts_view before)
   pub lender_is : lender (parts_view after) ≡ lender (parts_view before)
+
+-- these are all parts of the window v by a predicate, and none was looked for yet
+pub record SplitsAll {V F A B S O X : Type 0} (reading : Reading S) (lender : V → X) (words : V → List S) (place : V → ℕ)
+    (bits : V → List Bool) (frame : V → Frame X) (v : V) (f : F) (parts : SplitsMut V F A B S O) : Type 0 where
+  pub value : parts_view parts ≡ v
+  pub place_is : parts_place parts ≡ place v
+  pub len : parts_len parts ≡ length (bits v)
+  pub whole : parts_whole reading words parts ≡ bits v
+  pub around : parts_around reading lender words parts ≡ frame v
+  pub from_is : parts_from parts ≡ 0
+  pub count_is : parts_count parts ≡ length (bits v)
+  pub left : (parts_left reading words parts).bits ≡ bits v
+  pub callee_is : parts_callee parts ≡ f
+  pub lies : LiesIn reading.bits words parts

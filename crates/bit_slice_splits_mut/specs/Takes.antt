@@ -2,7 +2,7 @@
 --
 -- Where the parts stand: `PartsState`, `state_left`. One part, in a way: `TakesPart`; all that is left: `TakesRest`; of so
 -- many at most: `TakesUpTo`.
-use Rattle.std.specs.Prelude.{ℕ, ◌≡◌, ◌+◌, List, Bool, true, length, Option}
+use Rattle.std.specs.Prelude.{ℕ, ◌≡◌, ◌+◌, List, Bool, true, Option}
 use Rattle.std.specs.Borrow.{Bor}
 use Rattle.std.specs.Fn.{Mut}
 use Rattle.std.specs.Option.{MatchOption}

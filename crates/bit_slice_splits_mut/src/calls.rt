@@ -2,8 +2,7 @@
 
 ghost use Rattle.std.specs.Prelude.{◌≡◌, ◌↔◌, false, length, IsTrue};
 ghost use Rattle.bit_addressing.specs.Memory.{read_by};
-ghost use Rattle.bit_slice_splits_mut.specs.SplitsMut.{parts_around, parts_callee, parts_left, parts_loan, parts_most};
-ghost use Rattle.bit_slice_splits_mut.specs.SplitsMut.{parts_view, parts_whole, LiesIn};
+ghost use Rattle.bit_slice_splits_mut.specs.SplitsMut.{parts_done, parts_loan, parts_most, SplitsAll};
 
 use crate::splits_mut::{RSplitMut, SplitInclusiveMut, SplitMut};
 use crate::splits_n_mut::{RSplitNMut, SplitNMut};
@@ -21,17 +20,9 @@ pub trait BitsSplitsMut: BitsMut {
         f: F,
     ) -> SplitMut<'_, Self, F>
         ensures same_reference { parts_loan result ≡ self.entry.ghost_name }
-        ensures value { parts_view result ≡ self.old }
-        ensures whole { parts_whole (read_by Self.Store.BitRegister Self.Order.position) Self.words result
-            ≡ Self.bits self.old }
-        ensures around { parts_around (read_by Self.Store.BitRegister Self.Order.position) Self.lender Self.words
-            result ≡ Self.frame self.old }
-        ensures bits { (parts_left (read_by Self.Store.BitRegister Self.Order.position) Self.words result).bits
-            ≡ Self.bits self.old }
-        ensures callee { parts_callee result ≡ f }
-        ensures done { (parts_left (read_by Self.Store.BitRegister Self.Order.position) Self.words result).done
-            ≡ false }
-        ensures lies { LiesIn Self.Store.BITS Self.words result }
+        ensures parts { SplitsAll (read_by Self.Store.BitRegister Self.Order.position) Self.lender Self.words Self.place
+            Self.bits Self.frame self.old f result }
+        ensures done { parts_done result ≡ false }
     {
         SplitMut::new(self, f, false)
     }
@@ -42,17 +33,9 @@ pub trait BitsSplitsMut: BitsMut {
         f: F,
     ) -> SplitInclusiveMut<'_, Self, F>
         ensures same_reference { parts_loan result ≡ self.entry.ghost_name }
-        ensures value { parts_view result ≡ self.old }
-        ensures whole { parts_whole (read_by Self.Store.BitRegister Self.Order.position) Self.words result
-            ≡ Self.bits self.old }
-        ensures around { parts_around (read_by Self.Store.BitRegister Self.Order.position) Self.lender Self.words
-            result ≡ Self.frame self.old }
-        ensures bits { (parts_left (read_by Self.Store.BitRegister Self.Order.position) Self.words result).bits
-            ≡ Self.bits self.old }
-        ensures callee { parts_callee result ≡ f }
-        ensures done { IsTrue (parts_left (read_by Self.Store.BitRegister Self.Order.position) Self.words result).done
-            ↔ (length (Self.bits self.old) ≡ 0) }
-        ensures lies { LiesIn Self.Store.BITS Self.words result }
+        ensures parts { SplitsAll (read_by Self.Store.BitRegister Self.Order.position) Self.lender Self.words Self.place
+            Self.bits Self.frame self.old f result }
+        ensures done { IsTrue (parts_done result) ↔ (length (Self.bits self.old) ≡ 0) }
     {
         let done = self.is_empty();
         SplitInclusiveMut::new(self, f, done)
@@ -64,17 +47,9 @@ pub trait BitsSplitsMut: BitsMut {
         f: F,
     ) -> RSplitMut<'_, Self, F>
         ensures same_reference { parts_loan result ≡ self.entry.ghost_name }
-        ensures value { parts_view result ≡ self.old }
-        ensures whole { parts_whole (read_by Self.Store.BitRegister Self.Order.position) Self.words result
-            ≡ Self.bits self.old }
-        ensures around { parts_around (read_by Self.Store.BitRegister Self.Order.position) Self.lender Self.words
-            result ≡ Self.frame self.old }
-        ensures bits { (parts_left (read_by Self.Store.BitRegister Self.Order.position) Self.words result).bits
-            ≡ Self.bits self.old }
-        ensures callee { parts_callee result ≡ f }
-        ensures done { (parts_left (read_by Self.Store.BitRegister Self.Order.position) Self.words result).done
-            ≡ false }
-        ensures lies { LiesIn Self.Store.BITS Self.words result }
+        ensures parts { SplitsAll (read_by Self.Store.BitRegister Self.Order.position) Self.lender Self.words Self.place
+            Self.bits Self.frame self.old f result }
+        ensures done { parts_done result ≡ false }
     {
         RSplitMut::new(self, f, false)
     }
@@ -86,18 +61,10 @@ pub trait BitsSplitsMut: BitsMut {
         f: F,
     ) -> SplitNMut<'_, Self, F>
         ensures same_reference { parts_loan result ≡ self.entry.ghost_name }
-        ensures value { parts_view result ≡ self.old }
-        ensures whole { parts_whole (read_by Self.Store.BitRegister Self.Order.position) Self.words result
-            ≡ Self.bits self.old }
-        ensures around { parts_around (read_by Self.Store.BitRegister Self.Order.position) Self.lender Self.words
-            result ≡ Self.frame self.old }
-        ensures bits { (parts_left (read_by Self.Store.BitRegister Self.Order.position) Self.words result).bits
-            ≡ Self.bits self.old }
-        ensures callee { parts_callee result ≡ f }
-        ensures done { (parts_left (read_by Self.Store.BitRegister Self.Order.position) Self.words result).done
-            ≡ false }
+        ensures parts { SplitsAll (read_by Self.Store.BitRegister Self.Order.position) Self.lender Self.words Self.place
+            Self.bits Self.frame self.old f result }
+        ensures done { parts_done result ≡ false }
         ensures count { parts_most result ≡ count }
-        ensures lies { LiesIn Self.Store.BITS Self.words result }
     {
         SplitNMut::up_to(self, count, f)
     }
@@ -109,18 +76,10 @@ pub trait BitsSplitsMut: BitsMut {
         f: F,
     ) -> RSplitNMut<'_, Self, F>
         ensures same_reference { parts_loan result ≡ self.entry.ghost_name }
-        ensures value { parts_view result ≡ self.old }
-        ensures whole { parts_whole (read_by Self.Store.BitRegister Self.Order.position) Self.words result
-            ≡ Self.bits self.old }
-        ensures around { parts_around (read_by Self.Store.BitRegister Self.Order.position) Self.lender Self.words
-            result ≡ Self.frame self.old }
-        ensures bits { (parts_left (read_by Self.Store.BitRegister Self.Order.position) Self.words result).bits
-            ≡ Self.bits self.old }
-        ensures callee { parts_callee result ≡ f }
-        ensures done { (parts_left (read_by Self.Store.BitRegister Self.Order.position) Self.words result).done
-            ≡ false }
+        ensures parts { SplitsAll (read_by Self.Store.BitRegister Self.Order.position) Self.lender Self.words Self.place
+            Self.bits Self.frame self.old f result }
+        ensures done { parts_done result ≡ false }
         ensures count { parts_most result ≡ count }
-        ensures lies { LiesIn Self.Store.BITS Self.words result }
     {
         RSplitNMut::up_to(self, count, f)
     }

@@ -8,7 +8,7 @@ ghost use Rattle.bit_slice_splits_mut.specs.Lending.{LendsNext, LendsPart};
 ghost use Rattle.bit_slice_splits_mut.specs.SplitsMut.{parts_around, parts_found_len, parts_found_start, parts_left};
 ghost use Rattle.bit_slice_splits_mut.specs.SplitsMut.{parts_callee, parts_count, parts_done, parts_found, parts_most};
 ghost use Rattle.bit_slice_splits_mut.specs.SplitsMut.{parts_len, parts_loan, parts_place, parts_view, parts_whole};
-ghost use Rattle.bit_slice_splits_mut.specs.SplitsMut.{KeepsWindow, LiesIn, PartsBy};
+ghost use Rattle.bit_slice_splits_mut.specs.SplitsMut.{KeepsWindow, LiesIn, PartsBy, SplitsAll};
 ghost use Rattle.bit_slice_splits_mut.specs.Takes.{parts_state, TakesPart, TakesRest};
 
 use bit_addressing::BitRegister;
@@ -79,17 +79,9 @@ impl<'s, V: BitsMut, F: Drop, A, B> SplitsMut<'s, V, F, A, B> {
     /// The parts of a window, none where `done` is true.
     pub fn new(of: &'s mut V, f: F, done: bool) -> SplitsMut<'s, V, F, A, B>
         ensures same_reference { parts_loan result ≡ of.entry.ghost_name }
-        ensures value { parts_view result ≡ of.old }
-        ensures whole { parts_whole (read_by V.Store.BitRegister V.Order.position) V.words result ≡ V.bits of.old }
-        ensures around { parts_around (read_by V.Store.BitRegister V.Order.position) V.lender V.words result
-            ≡ V.frame of.old }
-        ensures place { parts_place result ≡ V.place of.old }
-        ensures len { parts_len result ≡ length (V.bits of.old) }
-        ensures bits { (parts_left (read_by V.Store.BitRegister V.Order.position) V.words result).bits
-            ≡ V.bits of.old }
-        ensures callee { parts_callee result ≡ f }
-        ensures done { (parts_left (read_by V.Store.BitRegister V.Order.position) V.words result).done ≡ done }
-        ensures lies { LiesIn V.Store.BITS V.words result }
+        ensures parts { SplitsAll (read_by V.Store.BitRegister V.Order.position) V.lender V.words V.place
+            V.bits V.frame of.old f result }
+        ensures done { parts_done result ≡ done }
     {
         let head = of.first_place();
         let len = of.len();
@@ -113,8 +105,7 @@ impl<'s, V: BitsMut, F: Drop, A, B> SplitsMut<'s, V, F, A, B> {
     /// Takes all bits that are left as the last part, and tells whether there is one: `part_mut` lends it then.
     pub fn seek_rest(&mut self) -> bool
         requires { LiesIn V.Store.BITS V.words self.old }
-        ensures found { IsTrue result
-            ↔ ((parts_left (read_by V.Store.BitRegister V.Order.position) V.words self.old).done ≡ false) }
+        ensures found { IsTrue result ↔ (parts_done self.old ≡ false) }
         ensures ends { TakesRest (read_by V.Store.BitRegister V.Order.position) (V.words (parts_view self.old))
             (parts_state self.old) (parts_found (read_by V.Store.BitRegister V.Order.position) V.words result self.new)
             (parts_state self.new) }
@@ -162,8 +153,7 @@ impl<'s, V: BitsMut, F: FnMut(usize, &bool) -> bool + Drop, A: Way, B: Way> Spli
     pub fn seek(&mut self) -> bool
         requires callable { F.IsAlwaysCallable (parts_callee self.old) }
         requires lies { LiesIn V.Store.BITS V.words self.old }
-        ensures found { IsTrue result
-            ↔ ((parts_left (read_by V.Store.BitRegister V.Order.position) V.words self.old).done ≡ false) }
+        ensures found { IsTrue result ↔ (parts_done self.old ≡ false) }
         ensures parts { TakesPart (read_by V.Store.BitRegister V.Order.position) (V.words (parts_view self.old))
             A.way F.FnMut (parts_state self.old)
             (parts_found (read_by V.Store.BitRegister V.Order.position) V.words result self.new) (parts_state self.new) }
@@ -181,8 +171,7 @@ impl<'s, V: BitsMut, F: FnMut(usize, &bool) -> bool + Drop, A: Way, B: Way> Spli
     pub fn seek_back(&mut self) -> bool
         requires callable { F.IsAlwaysCallable (parts_callee self.old) }
         requires lies { LiesIn V.Store.BITS V.words self.old }
-        ensures found { IsTrue result
-            ↔ ((parts_left (read_by V.Store.BitRegister V.Order.position) V.words self.old).done ≡ false) }
+        ensures found { IsTrue result ↔ (parts_done self.old ≡ false) }
         ensures parts { TakesPart (read_by V.Store.BitRegister V.Order.position) (V.words (parts_view self.old))
             B.way F.FnMut (parts_state self.old)
             (parts_found (read_by V.Store.BitRegister V.Order.position) V.words result self.new) (parts_state self.new) }
@@ -202,8 +191,7 @@ impl<'s, V: BitsMut, F: FnMut(usize, &bool) -> bool + Drop, A: Way, B: Way> Spli
     pub fn next_mut(&mut self) -> Option<&mut V>
         requires callable { F.IsAlwaysCallable (parts_callee self.old) }
         requires lies { LiesIn V.Store.BITS V.words self.old }
-        ensures variant { IsSome result
-            ↔ ((parts_left (read_by V.Store.BitRegister V.Order.position) V.words self.old).done ≡ false) }
+        ensures variant { IsSome result ↔ (parts_done self.old ≡ false) }
         ensures words { IfSome result (λ part. V.words part.now ≡ V.words (parts_view self.old)) }
         ensures lender { IfSome result (λ part. V.lender part.now ≡ V.lender (parts_view self.old)) }
         ensures* lends { sem 𝓛 (LendsNext V.row F.row A.row B.row V.Store.row V.Order.row V.lender V.words V.place
@@ -222,8 +210,7 @@ impl<'s, V: BitsMut, F: FnMut(usize, &bool) -> bool + Drop, A: Way, B: Way> Spli
     pub fn next_back_mut(&mut self) -> Option<&mut V>
         requires callable { F.IsAlwaysCallable (parts_callee self.old) }
         requires lies { LiesIn V.Store.BITS V.words self.old }
-        ensures variant { IsSome result
-            ↔ ((parts_left (read_by V.Store.BitRegister V.Order.position) V.words self.old).done ≡ false) }
+        ensures variant { IsSome result ↔ (parts_done self.old ≡ false) }
         ensures words { IfSome result (λ part. V.words part.now ≡ V.words (parts_view self.old)) }
         ensures lender { IfSome result (λ part. V.lender part.now ≡ V.lender (parts_view self.old)) }
         ensures* lends { sem 𝓛 (LendsNext V.row F.row A.row B.row V.Store.row V.Order.row V.lender V.words V.place
@@ -244,8 +231,7 @@ impl<'s, V: BitsMut, F: FnMut(usize, &bool) -> bool + Drop, A, B> SplitsMut<'s, 
     pub(crate) fn seek_by<W: Way>(&mut self) -> bool
         requires callable { F.IsAlwaysCallable (parts_callee self.old) }
         requires lies { LiesIn V.Store.BITS V.words self.old }
-        ensures found { IsTrue result
-            ↔ ((parts_left (read_by V.Store.BitRegister V.Order.position) V.words self.old).done ≡ false) }
+        ensures found { IsTrue result ↔ (parts_done self.old ≡ false) }
         ensures parts { TakesPart (read_by V.Store.BitRegister V.Order.position) (V.words (parts_view self.old))
             W.way F.FnMut (parts_state self.old)
             (parts_found (read_by V.Store.BitRegister V.Order.position) V.words result self.new) (parts_state self.new) }

@@ -4,9 +4,8 @@ ghost use Rattle.std.specs.Prelude.{◌≡◌, ◌<◌, length, false, IsTrue, I
 ghost use Rattle.std.specs.Borrow.{sem};
 ghost use Rattle.bit_addressing.specs.Memory.{read_by};
 ghost use Rattle.bit_slice_splits_mut.specs.Lending.{at_most_row, LendsNext};
-ghost use Rattle.bit_slice_splits_mut.specs.SplitsMut.{parts_around, parts_callee, parts_found, parts_left, parts_len};
-ghost use Rattle.bit_slice_splits_mut.specs.SplitsMut.{parts_loan, parts_most, parts_place, parts_view};
-ghost use Rattle.bit_slice_splits_mut.specs.SplitsMut.{parts_whole, KeepsWindow, LiesIn};
+ghost use Rattle.bit_slice_splits_mut.specs.SplitsMut.{parts_callee, parts_done, parts_found, parts_loan, parts_most};
+ghost use Rattle.bit_slice_splits_mut.specs.SplitsMut.{parts_view, KeepsWindow, LiesIn, SplitsAll};
 ghost use Rattle.bit_slice_splits_mut.specs.Takes.{parts_state, TakesUpTo};
 
 use crate::splits_mut::SplitsMut;
@@ -30,18 +29,10 @@ impl<'s, V: BitsMut, F: FnMut(usize, &bool) -> bool + Drop, A: Way> SplitsMut<'s
     /// At most `count` parts of a window.
     pub fn up_to(of: &'s mut V, count: usize, f: F) -> SplitsMut<'s, V, F, A, AtMost>
         ensures same_reference { parts_loan result ≡ of.entry.ghost_name }
-        ensures value { parts_view result ≡ of.old }
-        ensures whole { parts_whole (read_by V.Store.BitRegister V.Order.position) V.words result ≡ V.bits of.old }
-        ensures around { parts_around (read_by V.Store.BitRegister V.Order.position) V.lender V.words result
-            ≡ V.frame of.old }
-        ensures place { parts_place result ≡ V.place of.old }
-        ensures len { parts_len result ≡ length (V.bits of.old) }
-        ensures bits { (parts_left (read_by V.Store.BitRegister V.Order.position) V.words result).bits
-            ≡ V.bits of.old }
-        ensures callee { parts_callee result ≡ f }
-        ensures done { (parts_left (read_by V.Store.BitRegister V.Order.position) V.words result).done ≡ false }
+        ensures parts { SplitsAll (read_by V.Store.BitRegister V.Order.position) V.lender V.words V.place
+            V.bits V.frame of.old f result }
+        ensures done { parts_done result ≡ false }
         ensures count { parts_most result ≡ count }
-        ensures lies { LiesIn V.Store.BITS V.words result }
     {
         let mut parts = SplitsMut::new(of, f, false);
         parts.most = count;

@@ -1,4 +1,4 @@
-use Rattle.std.proofs.Common.{◌+◌, length, refl, rules, ap, sym, ◌∙◌}
+use Rattle.std.proofs.Common.{◌+◌, length, refl, ap, ◌∙◌}
 use Rattle.bit_addressing.specs.Memory.{read_by}
 use Rattle.bit_slice_splits_mut.specs.Takes.{parts_state, TakesUpTo}
 use Rattle.bit_slice_splits_mut.proofs.SeekLemmas.{taken_by}

@@ -3,5 +3,6 @@
 
 pub mod callers;
 pub mod pieces;
+pub mod split_callers;
 pub mod store_callers;
 pub mod word_callers;

@@ -1,7 +1,7 @@
 -- How a list of bits is split by a predicate.
 --
 -- Which indices are tried, and what comes off: `SplitWay`, and `from_front`, `from_back`, `inclusive_front`,
--- `inclusive_back`. What the predicate is handed and answers: `Asked`, `Asks`. A part that comes off: `Parts`, `Ends`,
+-- `inclusive_back`. What the predicate is handed and answers: `Asked`, `Asks`, `AnswersBit`. A part that comes off: `Parts`, `Ends`,
 -- `GivesPart`, and of so many at most `CountsDown`, `PartsUpTo`. What an iterator has left: `SplitLeft`, `SplitNLeft`.
 use Rattle.std.proofs.Common.{◌≡◌, ℕ, ◌+◌, ◌-◌, ◌≤◌, Bool, true, false, cond, List, length, get_or, nat_eq, nat_lt, Bor, Option}
 use Rattle.std.proofs.Common.{None, ◌<◌}
@@ -74,6 +74,10 @@ inclusive_back = record {
 -- the predicate, asked of index i and a bit, answers r and becomes f'
 abbrev pub Asked : {F : Type 0} → Mut F (ℕ × (Bor Bool × Unit {0})) Bool → F → ℕ → Bool → Bool → F → Type 0
 Asked g f i bit r f' = (b : Bor Bool) × (b.now ≡ bit) × Called g f (i, (b, tt)) r f'
+
+-- each answer of the predicate is the bit that it was handed
+abbrev pub AnswersBit : {F : Type 0} → Mut F (ℕ × (Bor Bool × Unit {0})) Bool → Type 0
+AnswersBit {F} g = (p : F) (i : ℕ) (bit r : Bool) (q : F) → Asked g p i bit r q → r ≡ bit
 
 -- the predicate was asked of each index in turn, with the bit there: it answered false m times, and then true, unless
 -- all that are tried were asked

@@ -1,0 +1,30 @@
+//! Callers of splits, each with a contract that follows from those of its calls.
+
+ghost use Rattle.std.specs.Prelude.{◌≡◌, length, replicate, true};
+ghost use Rattle.bit_slice_splits.specs.Ways.{AnswersBit};
+
+use bit_slice_splits_mut::BitsSplitsMut;
+use bit_slice_views::Bits;
+use bit_slice_writes::BitsMut;
+
+/// The parts between the bits where the predicate answers true filled, where it answers what the bit is: all bits are 1
+/// then.
+pub fn fill_parts<V: BitsMut, F: FnMut(usize, &bool) -> bool + Drop>(view: &mut V, f: F)
+    requires callable { F.IsAlwaysCallable f }
+    requires answers { AnswersBit F.FnMut }
+    ensures bits { V.bits view.new ≡ replicate (length (V.bits view.old)) true }
+    ensures frame { V.frame view.new ≡ V.frame view.old }
+{
+    let mut parts = view.split_mut(f);
+    while let Some(part) = parts.next_mut() {
+        part.fill(true);
+    }
+}
+
+/// The parts between the bits that are 1 filled: all bits are 1 then.
+pub fn fill_between_ones<V: BitsMut>(view: &mut V)
+    ensures bits { V.bits view.new ≡ replicate (length (V.bits view.old)) true }
+    ensures frame { V.frame view.new ≡ V.frame view.old }
+{
+    fill_parts(view, |_i, bit| *bit);
+}

@@ -26,8 +26,8 @@ module _ {V X S F A B O : Type 0} (of : Windows V X S) (g : Mut F (ℕ × (Bor B
       let inside : after.start + after.size ≤ before.len = omega (arith, took.lent_within, took.len_is) in
       let many : length (of.bits last) ≡ after.size = size ∙ took.lent_len in
       rw (took.view_is, took.place_is, took.len_is) (
-          lent_written of before.of.now lent last before.head before.len after.start after.size part kept many inside
-          lies.fits)
+      lent_written of before.of.now lent last before.head before.len after.start after.size part kept many inside
+      lies.fits)
 
   -- and the parts lie in it still
   pub next_lies : LiesIn of.reading.bits of.words after

@@ -2,14 +2,14 @@
 --
 -- The part that a search found: `LendsPart`. The next part, looked for and lent at once: `LendsNext`, of what the search
 -- takes off; what it has lent, `HasLent`.
-use Rattle.std.specs.Prelude.{[], ℕ, ◌≡◌, ◌+◌, ◌≤◌, List, Bool, length, Option, Some, None, IfSome, IfNone}
+use Rattle.std.specs.Prelude.{[], ℕ, ◌≡◌, ◌+◌, ◌≤◌, List, Bool, true, length, Option, Some, None, IfSome, IfNone}
 use Rattle.std.specs.Borrow.{Lends, LendsSo, MutBor, Bor, Fml, RattleType}
 use Rattle.std.specs.Fn.{Mut}
 use denote.Param.Always.{always_mut}
 use mir.Syntax.{named}
 use Rattle.bit_slice_splits_mut.specs.SplitsMut.{parts_found_len, parts_found_start, parts_len, parts_loan}
 use Rattle.bit_slice_splits_mut.specs.SplitsMut.{parts_callee, parts_from, parts_place, parts_view}
-use Rattle.bit_slice_splits_mut.specs.SplitsMut.{parts_count, KeepsWindow}
+use Rattle.bit_slice_splits_mut.specs.SplitsMut.{parts_count, parts_done, KeepsWindow}
 use Rattle.bit_slice_splits_mut.specs.Takes.{parts_state, PartsState}
 use Rattle.bit_slice_splits_mut.specs.declared.splits_mut.SplitsMut.{SplitsMut}
 use Rattle.bit_slice_splits_mut.specs.contracts.splits_mut.SplitsMut as parts
@@ -34,6 +34,8 @@ pub record HasLent {V F A B S O : Type 0} (place : V → ℕ) (bits : V → List
   pub lent_len : length (bits lent) ≡ parts_found_len after
   pub left_within : parts_from after + parts_count after ≤ parts_len after
   pub lent_within : parts_found_start after + parts_found_len after ≤ parts_len after
+  -- fewer bits are left, or no part is, so that the parts come to their end
+  pub shorter : parts_count before ≤ parts_count after → parts_done after ≡ true
   pub callable : always_mut g (parts_callee after)
 
 -- they end with the part taken off and the window as its borrower left it; where none is left, with no bit written

@@ -5,9 +5,9 @@ ghost use Rattle.std.specs.Borrow.{sem};
 ghost use Rattle.bit_addressing.specs.Memory.{memory, piece, read_by};
 ghost use Rattle.bit_addressing_span.specs.declared.span.TheConstants.{MAX_BITS};
 ghost use Rattle.bit_slice_splits_mut.specs.Lending.{LendsNext, LendsPart};
-ghost use Rattle.bit_slice_splits_mut.specs.SplitsMut.{parts_around, parts_found_len, parts_found_start, parts_left};
+ghost use Rattle.bit_slice_splits_mut.specs.SplitsMut.{parts_around, parts_found_len, parts_found_start};
 ghost use Rattle.bit_slice_splits_mut.specs.SplitsMut.{parts_callee, parts_count, parts_done, parts_found, parts_most};
-ghost use Rattle.bit_slice_splits_mut.specs.SplitsMut.{parts_len, parts_loan, parts_place, parts_view, parts_whole};
+ghost use Rattle.bit_slice_splits_mut.specs.SplitsMut.{parts_loan, parts_place, parts_view, parts_whole};
 ghost use Rattle.bit_slice_splits_mut.specs.SplitsMut.{KeepsWindow, LiesIn, PartsBy, SplitsAll};
 ghost use Rattle.bit_slice_splits_mut.specs.Takes.{parts_state, TakesPart, TakesRest};
 
@@ -19,7 +19,7 @@ use bit_slice_views::Bits;
 use bit_slice_writes::BitsMut;
 use std::marker::PhantomData;
 
-/// The parts of a writable window that were not lent yet: `seek` looks for the next one, and `part_mut` lends it.
+/// The parts of a writable window that were not lent yet, of which one is lent at a time.
 ///
 /// When this ends, the window shows all its bits again.
 pub struct SplitsMut<'s, V: BitsMut, F: Drop, A, B> {
@@ -102,14 +102,15 @@ impl<'s, V: BitsMut, F: Drop, A, B> SplitsMut<'s, V, F, A, B> {
 
     // ---- look for
 
-    /// Takes all bits that are left as the last part, and tells whether there is one: `part_mut` lends it then.
-    pub fn seek_rest(&mut self) -> bool
+    // Takes all bits that are left as the last part, and tells whether there is one.
+    pub(crate) fn seek_rest(&mut self) -> bool
         requires { LiesIn V.Store.BITS V.words self.old }
         ensures found { IsTrue result ↔ (parts_done self.old ≡ false) }
         ensures ends { TakesRest (read_by V.Store.BitRegister V.Order.position) (V.words (parts_view self.old))
             (parts_state self.old) (parts_found (read_by V.Store.BitRegister V.Order.position) V.words result self.new)
             (parts_state self.new) }
         ensures most { parts_most self.new ≡ parts_most self.old }
+        ensures shorter { IsTrue result → parts_done self.new ≡ true }
         ensures keeps { KeepsWindow V.lender V.words self.old self.new }
         ensures lies_still { LiesIn V.Store.BITS V.words self.new }
     {
@@ -124,8 +125,8 @@ impl<'s, V: BitsMut, F: Drop, A, B> SplitsMut<'s, V, F, A, B> {
 
     // ---- lend
 
-    /// The part that was found last, to write; no bits before the first search.
-    pub fn part_mut(&mut self) -> &mut V
+    // The part that was found last, to write.
+    pub(crate) fn part_mut(&mut self) -> &mut V
         requires { LiesIn V.Store.BITS V.words self.old }
         ensures words { V.words result.now ≡ V.words (parts_view self.old) }
         ensures lender { V.lender result.now ≡ V.lender (parts_view self.old) }
@@ -147,44 +148,6 @@ impl<'s, V: BitsMut, F: FnMut(usize, &bool) -> bool + Drop, A: Way, B: Way> Spli
     A,
     B,
 > {
-    // ---- look for
-
-    /// Looks for the next part from the front, and tells whether there is one: `part_mut` lends it then.
-    pub fn seek(&mut self) -> bool
-        requires callable { F.IsAlwaysCallable (parts_callee self.old) }
-        requires lies { LiesIn V.Store.BITS V.words self.old }
-        ensures found { IsTrue result ↔ (parts_done self.old ≡ false) }
-        ensures parts { TakesPart (read_by V.Store.BitRegister V.Order.position) (V.words (parts_view self.old))
-            A.way F.FnMut (parts_state self.old)
-            (parts_found (read_by V.Store.BitRegister V.Order.position) V.words result self.new) (parts_state self.new) }
-        ensures keeps { KeepsWindow V.lender V.words self.old self.new }
-        ensures callable_still { F.IsAlwaysCallable (parts_callee self.new) }
-        ensures lies_still { LiesIn V.Store.BITS V.words self.new }
-
-        // Fewer bits are left, or no part is, so a search comes to its end.
-        ensures shorter { IsTrue result → parts_count self.old ≤ parts_count self.new → parts_done self.new ≡ true }
-    {
-        self.seek_by::<A>()
-    }
-
-    /// Looks for the next part from the back, and tells whether there is one: `part_mut` lends it then.
-    pub fn seek_back(&mut self) -> bool
-        requires callable { F.IsAlwaysCallable (parts_callee self.old) }
-        requires lies { LiesIn V.Store.BITS V.words self.old }
-        ensures found { IsTrue result ↔ (parts_done self.old ≡ false) }
-        ensures parts { TakesPart (read_by V.Store.BitRegister V.Order.position) (V.words (parts_view self.old))
-            B.way F.FnMut (parts_state self.old)
-            (parts_found (read_by V.Store.BitRegister V.Order.position) V.words result self.new) (parts_state self.new) }
-        ensures keeps { KeepsWindow V.lender V.words self.old self.new }
-        ensures callable_still { F.IsAlwaysCallable (parts_callee self.new) }
-        ensures lies_still { LiesIn V.Store.BITS V.words self.new }
-
-        // Fewer bits are left, or no part is, so a search comes to its end.
-        ensures shorter { IsTrue result → parts_count self.old ≤ parts_count self.new → parts_done self.new ≡ true }
-    {
-        self.seek_by::<B>()
-    }
-
     // ---- lend
 
     /// The next part from the front, to write.
@@ -199,7 +162,7 @@ impl<'s, V: BitsMut, F: FnMut(usize, &bool) -> bool + Drop, A: Way, B: Way> Spli
             (V.words (parts_view self.old)) A.way F.FnMut)
             self.entry result) }
     {
-        if self.seek() {
+        if self.seek::<A>() {
             Some(self.part_mut())
         } else {
             None
@@ -218,7 +181,7 @@ impl<'s, V: BitsMut, F: FnMut(usize, &bool) -> bool + Drop, A: Way, B: Way> Spli
             (V.words (parts_view self.old)) B.way F.FnMut)
             self.entry result) }
     {
-        if self.seek_back() {
+        if self.seek::<B>() {
             Some(self.part_mut())
         } else {
             None
@@ -227,8 +190,8 @@ impl<'s, V: BitsMut, F: FnMut(usize, &bool) -> bool + Drop, A: Way, B: Way> Spli
 }
 
 impl<'s, V: BitsMut, F: FnMut(usize, &bool) -> bool + Drop, A, B> SplitsMut<'s, V, F, A, B> {
-    // Looks for the next part at one end.
-    pub(crate) fn seek_by<W: Way>(&mut self) -> bool
+    // Looks for the next part at one end, and tells whether there is one: `part_mut` lends it then.
+    pub(crate) fn seek<W: Way>(&mut self) -> bool
         requires callable { F.IsAlwaysCallable (parts_callee self.old) }
         requires lies { LiesIn V.Store.BITS V.words self.old }
         ensures found { IsTrue result ↔ (parts_done self.old ≡ false) }

@@ -1,11 +1,11 @@
 //! So many parts of a writable window at most, of which one is lent at a time.
 
-ghost use Rattle.std.specs.Prelude.{◌≡◌, ◌<◌, length, false, IsTrue, IfSome};
+ghost use Rattle.std.specs.Prelude.{◌≡◌, ◌<◌, ◌≤◌, ◌↔◌, true, false, IsTrue, IsSome, IfSome};
 ghost use Rattle.std.specs.Borrow.{sem};
 ghost use Rattle.bit_addressing.specs.Memory.{read_by};
 ghost use Rattle.bit_slice_splits_mut.specs.Lending.{at_most_row, LendsNext};
-ghost use Rattle.bit_slice_splits_mut.specs.SplitsMut.{parts_callee, parts_done, parts_found, parts_loan, parts_most};
-ghost use Rattle.bit_slice_splits_mut.specs.SplitsMut.{parts_view, KeepsWindow, LiesIn, SplitsAll};
+ghost use Rattle.bit_slice_splits_mut.specs.SplitsMut.{parts_callee, parts_count, parts_done, parts_found};
+ghost use Rattle.bit_slice_splits_mut.specs.SplitsMut.{parts_loan, parts_most, parts_view, KeepsWindow, LiesIn, SplitsAll};
 ghost use Rattle.bit_slice_splits_mut.specs.Takes.{parts_state, TakesUpTo};
 
 use crate::splits_mut::SplitsMut;
@@ -41,20 +41,18 @@ impl<'s, V: BitsMut, F: FnMut(usize, &bool) -> bool + Drop, A: Way> SplitsMut<'s
 
     // ---- look for
 
-    /// Looks for the next part, and tells whether there is one: `part_mut` lends it then. The last that may come has all
-    /// that is left.
-    pub fn seek(&mut self) -> bool
+    // Looks for the next part, and tells whether there is one: `part_mut` lends it then.
+    fn seek_next(&mut self) -> bool
         requires callable { F.IsAlwaysCallable (parts_callee self.old) }
         requires lies { LiesIn V.Store.BITS V.words self.old }
         ensures parts { TakesUpTo (read_by V.Store.BitRegister V.Order.position) (V.words (parts_view self.old))
             A.way F.FnMut (parts_state self.old)
             (parts_found (read_by V.Store.BitRegister V.Order.position) V.words result self.new) (parts_state self.new) }
+        ensures found { IsTrue result ↔ ((0 < parts_most self.old) × (parts_done self.old ≡ false)) }
+        ensures shorter { IsTrue result → parts_count self.old ≤ parts_count self.new → parts_done self.new ≡ true }
         ensures keeps { KeepsWindow V.lender V.words self.old self.new }
         ensures callable_still { F.IsAlwaysCallable (parts_callee self.new) }
         ensures lies_still { LiesIn V.Store.BITS V.words self.new }
-
-        // Fewer may come each time, so a search comes to its end.
-        ensures fewer { IsTrue result → parts_most self.new < parts_most self.old }
     {
         let most = self.most;
         if most == 0 {
@@ -64,7 +62,7 @@ impl<'s, V: BitsMut, F: FnMut(usize, &bool) -> bool + Drop, A: Way> SplitsMut<'s
         if most == 1 {
             self.seek_rest()
         } else {
-            self.seek_by::<A>()
+            self.seek::<A>()
         }
     }
 
@@ -74,6 +72,7 @@ impl<'s, V: BitsMut, F: FnMut(usize, &bool) -> bool + Drop, A: Way> SplitsMut<'s
     pub fn next_mut(&mut self) -> Option<&mut V>
         requires callable { F.IsAlwaysCallable (parts_callee self.old) }
         requires lies { LiesIn V.Store.BITS V.words self.old }
+        ensures variant { IsSome result ↔ ((0 < parts_most self.old) × (parts_done self.old ≡ false)) }
         ensures words { IfSome result (λ part. V.words part.now ≡ V.words (parts_view self.old)) }
         ensures lender { IfSome result (λ part. V.lender part.now ≡ V.lender (parts_view self.old)) }
         ensures* lends { sem 𝓛 (LendsNext V.row F.row A.row at_most_row V.Store.row V.Order.row V.lender V.words V.place
@@ -81,7 +80,7 @@ impl<'s, V: BitsMut, F: FnMut(usize, &bool) -> bool + Drop, A: Way> SplitsMut<'s
             (V.words (parts_view self.old)) A.way F.FnMut)
             self.entry result) }
     {
-        if self.seek() {
+        if self.seek_next() {
             Some(self.part_mut())
         } else {
             None

@@ -30,6 +30,7 @@ returns-then-seek g c =
             lent_len = c.part_mut.ensures.len;
             left_within = lies.left;
             lent_within = lies.found;
+            shorter = c.seek.ensures.shorter c.if-seek.true;
             callable = c.seek.ensures.callable_still;
           },
           took,

@@ -1,7 +1,7 @@
 use Rattle.bit_addressing.specs.Memory.{read_by}
 use Rattle.bit_slice_splits_mut.specs.Takes.{parts_state}
 use Rattle.bit_slice_splits_mut.proofs.SeekLemmas.{length-left, part_lies}
-use Rattle.bit_slice_splits_mut.proofs.splits_mut.SplitsMut.seek_by.Goals as goal
+use Rattle.bit_slice_splits_mut.proofs.splits_mut.SplitsMut.seek.Goals as goal
 
 pub returns-clause-parts : goal.returns-clause-parts
 returns-clause-parts g c =

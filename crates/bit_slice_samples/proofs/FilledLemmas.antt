@@ -7,10 +7,10 @@ use Rattle.std.proofs.lemmas.List.{ext_get_or, get_or-replicate, length-replicat
 use Rattle.bit_addressing.specs.Memory.{piece, with_piece}
 use Rattle.bit_addressing_memory.proofs.MemoryLemmas.{get_or-piece, with_piece_above, with_piece_below, with_piece_inside}
 
-same_number : (m n : ℕ) → m ≡ n → nat_eq m n ≡ true
+pub same_number : (m n : ℕ) → m ≡ n → nat_eq m n ≡ true
 same_number m n same = grind (arith, nat_tests)
 
-other_number : (m n : ℕ) → m < n → nat_eq m n ≡ false
+pub other_number : (m n : ℕ) → m < n → nat_eq m n ≡ false
 other_number m n low = grind (arith, nat_tests)
 
 -- one more part is filled, and the bit behind it, if there is one, is a one

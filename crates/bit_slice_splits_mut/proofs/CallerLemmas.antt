@@ -1,8 +1,9 @@
 -- For callers.
 --
 -- What the writes of a part that `next_mut` lent make of the whole window: `next_written`; that the parts still lie in it:
--- `next_lies`.
-use Rattle.std.proofs.Common.{◌≡◌, ℕ, ◌+◌, ◌*◌, ◌≤◌, Bool, length, sym, ap, ◌∙◌, arith, rules, Bor}
+-- `next_lies`; that they come to their end: `next_fewer`.
+use Rattle.std.proofs.Common.{◌≡◌, ℕ, ◌+◌, ◌*◌, ◌<◌, ◌≤◌, Bool, true, false, cond, true≢false, List, inl, inr, length, sym, ap, ◌∙◌, arith, rules, Bor}
+use Rattle.std.proofs.lemmas.Bool.{cases_lt}
 use Rattle.std.specs.Fn.{Mut}
 use Rattle.bit_addressing.specs.Memory.{with_piece}
 use Rattle.bit_slice_writes.specs.Parts.{IsPart, Windows}
@@ -41,3 +42,19 @@ module _ {V X S F A B O : Type 0} (of : Windows V X S) (g : Mut F (ℕ × (Bor B
         short = rw took.len_is lies.short;
         small = rw (took.place_is, took.len_is) lies.small;
       }
+
+-- fewer bits are left then, or no part is
+pub next_fewer : {V F A B S O : Type 0} (place : V → ℕ) (bits : V → List Bool)
+    (g : Mut F (ℕ × (Bor Bool × Unit {0})) Bool) (before after : SplitsMut V F A B S O) (lent last : V)
+    → before.done ≡ false → HasLent place bits g before lent after last
+    → cond after.done 0 (after.count + 1) < cond before.done 0 (before.count + 1)
+next_fewer place bits g before after lent last going took = fewer before.done after.done going took.shorter
+  where
+    fewer : {n left : ℕ} (was is : Bool) → was ≡ false → (n ≤ left → is ≡ true)
+        → cond is 0 (left + 1) < cond was 0 (n + 1)
+    fewer true is going shorter = absurd (true≢false going)
+    fewer false true going shorter = omega arith
+    fewer {n} {left} false false going shorter = elim (cases_lt left n) [
+      | inl less ↦ omega arith
+      | inr more ↦ absurd (true≢false (sym (shorter more)))
+    ]

@@ -158,24 +158,38 @@ fn bits_are_found_by_their_number(rt: HostRuntime) {
     assert!(rt; zeros.nth_back(3) == Some(1) && zeros.nth_back(0).is_none() && zeros.len() == 0);
 }
 
+// Whether the clones of iterators go on from where these stand, and leave them there.
+fn clones_go_on(view: BitSlice<'_, u8, Lsb0>) -> bool {
+    let mut bits = view.iter();
+    bits.next();
+    let Ok(copy) = bits.clone() else { return false };
+    let shown = shows(&copy.as_bitslice(), 1, 9) && bits.len() == 9;
+    let mut values = bits.by_vals();
+    let Ok(mut copy) = values.clone() else {
+        return false
+    };
+    let valued = copy.next_back() == Some(false)
+        && copy.len() == 8
+        && values.len() == 9
+        && values.next() == Some(false);
+    let mut references = view.iter().by_refs();
+    references.next();
+    let Ok(copy) = references.clone() else {
+        return false
+    };
+    let referred = copy.len() == 9 && references.next().is_some() && references.len() == 8;
+    let mut zeros = view.iter_zeros();
+    zeros.next();
+    let Ok(mut copy) = zeros.clone() else {
+        return false
+    };
+    shown && valued && referred && copy.next() == Some(4) && zeros.next() == Some(4)
+}
+
 #[test]
 fn iterators_are_cloned(rt: HostRuntime) {
     let view = BitSlice::<u8, Lsb0>::from_place(&BYTES, 3, 10);
-    let mut bits = view.iter();
-    bits.next();
-    let Ok(mut copy) = bits.clone() else { return };
-    assert!(rt; shows(&copy.as_bitslice(), 1, 9) && copy.nth(8).is_some() && bits.len() == 9);
-    let mut values = bits.by_vals();
-    let Ok(mut copy) = values.clone() else { return };
-    assert!(rt; copy.next_back() == Some(false) && copy.len() == 8 && values.next() == Some(false));
-    let mut references = view.iter().by_refs();
-    references.next();
-    let Ok(copy) = references.clone() else { return };
-    assert!(rt; copy.len() == 9 && references.next().is_some() && references.len() == 8);
-    let mut zeros = view.iter_zeros();
-    zeros.next();
-    let Ok(mut copy) = zeros.clone() else { return };
-    assert!(rt; copy.next() == Some(4) && zeros.next() == Some(4));
+    assert!(rt; clones_go_on(view));
 }
 
 #[test]

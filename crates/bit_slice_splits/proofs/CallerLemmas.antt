@@ -4,7 +4,7 @@
 -- the cut is at a one: `zeros_before`, `one_there`.
 use Rattle.std.proofs.Common.{◌≡◌, ℕ, zero, suc, ◌+◌, ◌<◌, ◌≤◌, Bool, true, false, List, get_or, length, arith, sym, subst, inl, inr, Bor}
 use Rattle.std.proofs.lemmas.Bool.{cases_lt, lt-ltb}
-use Rattle.std.specs.Fn.{Called, Mut}
+use Rattle.std.specs.Fn.{Mut}
 use Rattle.std.specs.List.{FoldsTo, range_with_len}
 use Rattle.bit_slice_splits.specs.Ways.{AnswersBit, Asked, Asks, SplitWay}
 

@@ -1,10 +1,11 @@
 -- How a list of bits is split by a predicate.
 --
 -- Which indices are tried, and what comes off: `SplitWay`, and `from_front`, `from_back`, `inclusive_front`,
--- `inclusive_back`. What the predicate is handed and answers: `Asked`, `Asks`, `AnswersBit`. A part that comes off: `Parts`, `Ends`,
--- `GivesPart`, and of so many at most `CountsDown`, `PartsUpTo`. What an iterator has left: `SplitLeft`, `SplitNLeft`.
-use Rattle.std.proofs.Common.{◌≡◌, ℕ, ◌+◌, ◌-◌, ◌≤◌, Bool, true, false, cond, List, length, get_or, nat_eq, nat_lt, Bor, Option}
-use Rattle.std.proofs.Common.{None, ◌<◌}
+-- `inclusive_back`. What the predicate is handed and answers: `Asked`, `Asks`, `AnswersBit`. A part that comes off:
+-- `Parts`, `Ends`, `GivesPart`, and of so many at most `CountsDown`, `PartsUpTo`. What an iterator has left:
+-- `SplitLeft`, `SplitNLeft`.
+use Rattle.std.proofs.Common.{◌≡◌, ℕ, ◌+◌, ◌-◌, ◌≤◌, Bool, true, false, cond, List, length, get_or, nat_eq}
+use Rattle.std.proofs.Common.{nat_lt, Bor, Option, None, ◌<◌}
 use Rattle.std.specs.Fn.{Called, Mut}
 use Rattle.std.specs.Bool.{MatchBool}
 use Rattle.std.specs.Option.{MatchOption}

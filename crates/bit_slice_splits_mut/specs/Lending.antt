@@ -1,7 +1,7 @@
 -- What parts end as of which one was lent.
 --
--- The part that a search found: `LendsPart`. The next part, looked for and lent at once: `LendsNext`, of what the search
--- takes off; what it has lent, `HasLent`.
+-- The part that a search found: `LendsPart`. The next part, looked for and lent at once: `LendsNext`, of what the
+-- search takes off; what it has lent, `HasLent`.
 use Rattle.std.specs.Prelude.{[], ℕ, ◌≡◌, ◌+◌, ◌≤◌, List, Bool, true, length, Option, Some, None, IfSome, IfNone}
 use Rattle.std.specs.Borrow.{Lends, LendsSo, MutBor, Bor, Fml, RattleType}
 use Rattle.std.specs.Fn.{Mut}

@@ -1,8 +1,8 @@
 -- The parts of a writable window that are looked for and lent in turn, as contracts see them.
 --
 -- The window, as its last borrower left it: `parts_view`, `parts_loan`; where it lies when it shows all its bits:
--- `parts_place`, `parts_len`; its bits and its frame as they are then: `parts_whole`, `parts_around`. What is left to be
--- split: `parts_left`; how many parts may still come: `parts_most`. The part that was found:
+-- `parts_place`, `parts_len`; its bits and its frame as they are then: `parts_whole`, `parts_around`. What is left to
+-- be split: `parts_left`; how many parts may still come: `parts_most`. The part that was found:
 -- `parts_found_start`, `parts_found_len`, `parts_found`. Freshly made: `SplitsAll`. Calls: `KeepsWindow`.
 use Rattle.std.specs.Prelude.{ℕ, ◌≡◌, ◌+◌, ◌*◌, ◌<◌, ◌≤◌, ◌^◌, List, Bool, length, Option, Some, None}
 use Rattle.std.proofs.Common.{cond}
@@ -72,7 +72,7 @@ parts_most parts = parts.most
 abbrev pub parts_found : {V F A B S O : Type 0} → Reading S → (V → List S) → Bool → SplitsMut V F A B S O
     → Option (List Bool)
 parts_found reading words found parts =
-    cond found (Some (piece (piece (memory reading (words parts.of.now)) parts.head parts.len) parts.start parts.size)) None
+    cond found (Some (piece (parts_whole reading words parts) parts.start parts.size)) None
 
 -- the predicate
 abbrev pub parts_callee : {V F A B S O : Type 0} → SplitsMut V F A B S O → F
@@ -109,8 +109,9 @@ pub record KeepsWindow {V F A B S O X : Type 0} (lender : V → X) (words : V �
   pub lender_is : lender (parts_view after) ≡ lender (parts_view before)
 
 -- these are all parts of the window v by a predicate, and none was looked for yet
-pub record SplitsAll {V F A B S O X : Type 0} (reading : Reading S) (lender : V → X) (words : V → List S) (place : V → ℕ)
-    (bits : V → List Bool) (frame : V → Frame X) (v : V) (f : F) (parts : SplitsMut V F A B S O) : Type 0 where
+pub record SplitsAll {V F A B S O X : Type 0} (reading : Reading S) (lender : V → X) (words : V → List S)
+    (place : V → ℕ) (bits : V → List Bool) (frame : V → Frame X) (v : V) (f : F) (parts : SplitsMut V F A B S O)
+    : Type 0 where
   pub value : parts_view parts ≡ v
   pub place_is : parts_place parts ≡ place v
   pub len : parts_len parts ≡ length (bits v)

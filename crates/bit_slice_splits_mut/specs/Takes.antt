@@ -1,7 +1,7 @@
 -- What a call takes off the parts of a writable window: what the shared splits give, and where it lies.
 --
--- Where the parts stand: `PartsState`, `state_left`. One part, in a way: `TakesPart`; all that is left: `TakesRest`; of so
--- many at most: `TakesUpTo`.
+-- Where the parts stand: `PartsState`, `state_left`. One part, in a way: `TakesPart`; all that is left: `TakesRest`; of
+-- so many at most: `TakesUpTo`.
 use Rattle.std.specs.Prelude.{ℕ, ◌≡◌, ◌+◌, List, Bool, true, Option}
 use Rattle.std.specs.Borrow.{Bor}
 use Rattle.std.specs.Fn.{Mut}
@@ -10,9 +10,9 @@ use Rattle.bit_addressing.specs.Memory.{Reading, memory, piece}
 use Rattle.bit_slice_splits.specs.Ways.{CountsDown, Ends, Parts, SplitLeft, SplitWay}
 use Rattle.bit_slice_splits_mut.specs.declared.splits_mut.SplitsMut.{SplitsMut}
 
--- where the parts of a window stand: the place and the length of the window; where in it the bits not yet split begin, and
--- how many they are; the same of the part that was found last; the predicate, whether no part is left, and how many may
--- come where so many come at most
+-- where the parts of a window stand: the place and the length of the window; where in it the bits not yet split begin,
+-- and how many they are; the same of the part that was found last; the predicate, whether no part is left, and how many
+-- may come where so many come at most
 pub record PartsState (F : Type 0) : Type 0 where
   pub place : ℕ
   pub len : ℕ
@@ -77,5 +77,6 @@ TakesRest reading words before r after =
 abbrev pub TakesUpTo : {F S : Type 0} → Reading S → List S → SplitWay → Mut F (ℕ × (Bor Bool × Unit {0})) Bool
     → PartsState F → Option (List Bool) → PartsState F → Type 0
 TakesUpTo reading words way g =
-    CountsDown (λ s. s.most) (λ before r after. TakesPart reading words way g before r (record after { most = before.most }))
+    CountsDown (λ s. s.most)
+    (λ before r after. TakesPart reading words way g before r (record after { most = before.most }))
     (λ before r after. TakesRest reading words before r (record after { most = before.most }))

@@ -197,7 +197,8 @@ impl<'s, V: BitsMut, F: FnMut(usize, &bool) -> bool + Drop, A, B> SplitsMut<'s, 
         ensures found { IsTrue result ↔ (parts_done self.old ≡ false) }
         ensures parts { TakesPart (read_by V.Store.BitRegister V.Order.position) (V.words (parts_view self.old))
             W.way F.FnMut (parts_state self.old)
-            (parts_found (read_by V.Store.BitRegister V.Order.position) V.words result self.new) (parts_state self.new) }
+            (parts_found (read_by V.Store.BitRegister V.Order.position) V.words result self.new)
+            (parts_state self.new) }
         ensures most { parts_most self.new ≡ parts_most self.old }
         ensures keeps { KeepsWindow V.lender V.words self.old self.new }
         ensures callable_still { F.IsAlwaysCallable (parts_callee self.new) }

@@ -4,8 +4,8 @@ ghost use Rattle.std.specs.Prelude.{◌≡◌, ◌<◌, ◌≤◌, ◌↔◌, tr
 ghost use Rattle.std.specs.Borrow.{sem};
 ghost use Rattle.bit_addressing.specs.Memory.{read_by};
 ghost use Rattle.bit_slice_splits_mut.specs.Lending.{at_most_row, LendsNext};
-ghost use Rattle.bit_slice_splits_mut.specs.SplitsMut.{parts_callee, parts_count, parts_done, parts_found};
-ghost use Rattle.bit_slice_splits_mut.specs.SplitsMut.{parts_loan, parts_most, parts_view, KeepsWindow, LiesIn, SplitsAll};
+ghost use Rattle.bit_slice_splits_mut.specs.SplitsMut.{parts_callee, parts_count, parts_done, parts_found, parts_loan};
+ghost use Rattle.bit_slice_splits_mut.specs.SplitsMut.{parts_most, parts_view, KeepsWindow, LiesIn, SplitsAll};
 ghost use Rattle.bit_slice_splits_mut.specs.Takes.{parts_state, TakesUpTo};
 
 use crate::splits_mut::SplitsMut;
@@ -47,7 +47,8 @@ impl<'s, V: BitsMut, F: FnMut(usize, &bool) -> bool + Drop, A: Way> SplitsMut<'s
         requires lies { LiesIn V.Store.BITS V.words self.old }
         ensures parts { TakesUpTo (read_by V.Store.BitRegister V.Order.position) (V.words (parts_view self.old))
             A.way F.FnMut (parts_state self.old)
-            (parts_found (read_by V.Store.BitRegister V.Order.position) V.words result self.new) (parts_state self.new) }
+            (parts_found (read_by V.Store.BitRegister V.Order.position) V.words result self.new)
+            (parts_state self.new) }
         ensures found { IsTrue result ↔ ((0 < parts_most self.old) × (parts_done self.old ≡ false)) }
         ensures shorter { IsTrue result → parts_count self.old ≤ parts_count self.new → parts_done self.new ≡ true }
         ensures keeps { KeepsWindow V.lender V.words self.old self.new }

@@ -1,4 +1,5 @@
-use Rattle.std.proofs.Common.{◌≡◌, ℕ, ◌+◌, ◌*◌, ◌<◌, ◌≤◌, length, true, false, get_or, replicate, rules, refl, arith, ap, sym, ◌∙◌}
+use Rattle.std.proofs.Common.{◌≡◌, ℕ, ◌<◌, length, true, false, get_or}
+use Rattle.std.proofs.Common.{replicate, rules, refl, arith, ap, sym, ◌∙◌}
 use Rattle.bit_addressing.specs.Memory.{read_by, memory, piece, with_piece}
 use Rattle.bit_addressing_memory.proofs.MemoryLemmas.{length-memory, length-piece}
 use Rattle.bit_slice_splits.specs.Ways.{from_front}

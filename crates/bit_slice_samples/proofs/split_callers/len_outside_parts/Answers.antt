@@ -1,4 +1,5 @@
-use Rattle.std.proofs.Common.{true≢false, ◌≡◌, ℕ, ◌+◌, ◌<◌, ◌≤◌, true, false, not, [], length, get_or, count_by, rules, arith, ap, sym, ◌∙◌}
+use Rattle.std.proofs.Common.{true≢false, ◌≡◌, ◌+◌, true, false, not}
+use Rattle.std.proofs.Common.{length, count_by, rules, arith, ap, sym, ◌∙◌}
 use Rattle.bit_addressing_memory.proofs.MemoryLemmas.{length-piece}
 use Rattle.bit_slice_scans.proofs.OnesLemmas.{trues-falses}
 use Rattle.bit_slice_splits.specs.Ways.{from_front}

@@ -17,6 +17,13 @@ pub trait BitsIter: Bits {
         Iter::new(self.as_bitslice())
     }
 
+    /// What `iter` does.
+    final fn into_iter(&self) -> Iter<'_, Self::Store, Self::Order>
+        ensures { result ≡ Self.bits self.now }
+    {
+        self.iter()
+    }
+
     /// The indices of the bits that are 1, ascending.
     final fn iter_ones(&self) -> IterOnes<'_, Self::Store, Self::Order>
         ensures { result ≡ indices (is_bit true) 0 (Self.bits self.now) }

@@ -94,6 +94,25 @@ fn by_turns<V: BitsWindow>(view: &mut V) -> bool
     last && first && second && third && pieces.next_mut().is_none()
 }
 
+// Whether the first piece of each kind is lent, of a window of ten bits.
+fn first_of_each<V: BitsWindow>(view: &mut V) -> bool
+    requires { length (V.bits view.old) ≡ 10 }
+{
+    let forward = match view.chunks_exact_mut(4).next_back_mut() {
+        Some(piece) => shows(piece, 4, 4),
+        None => false,
+    };
+    let backward = match view.rchunks_mut(4).next_back_mut() {
+        Some(piece) => shows(piece, 0, 2),
+        None => false,
+    };
+    let whole = match view.rchunks_exact_mut(4).next_mut() {
+        Some(piece) => shows(piece, 6, 4),
+        None => false,
+    };
+    forward && backward && whole
+}
+
 // Whether the bits in no piece are lent once; they are flipped.
 fn takes<V: BitsWindow, C: ExactCuts>(view: &mut V, by: usize, start: usize, size: usize) -> bool
     requires { 0 < by }
@@ -189,6 +208,12 @@ fn pieces_of_each_kind_are_written(rt: HostRuntime) {
     };
     // 101 100 111 0 becomes 111 100 000 1
     assert!(rt; agrees && words == [0x7f, 0xf0]);
+    let mut words = BYTES;
+    let agrees = {
+        let mut view = BitSliceMut::<u8, Lsb0>::from_place_mut(&mut words, 3, 10);
+        first_of_each(&mut view)
+    };
+    assert!(rt; agrees && words == BYTES);
     let mut marked = [0u8, 0, 0];
     mark_words::<u8, Lsb0>(&mut marked, 5);
     assert!(rt; marked == [0x21, 0x84, 0x10]);

@@ -6,6 +6,7 @@ use crate::list::{BYTES, bit, shows};
 use bit_addressing::Lsb0;
 use bit_slice_iterators::{BitValIter, BitsIter, IterOnes, IterZeros};
 use bit_slice_pieces_mut::BitsPiecesMut;
+use bit_slice_samples::iter_callers::{ones_from_both_ends, third_one};
 use bit_slice_views::{BitSlice, Bits};
 use bit_slice_writes::{BitSliceMut, BitsMut, BitsWindow};
 
@@ -105,4 +106,96 @@ fn bits_are_written_one_by_one(rt: HostRuntime) {
     };
     // 1 01100111 0 becomes 0 11100110 1
     assert!(rt; agrees && words == [0x77, 0xf6]);
+}
+
+// The same by the other names of these calls.
+fn flips_ends_too<V: BitsWindow>(view: &mut V) -> bool
+    requires { length (V.bits view.old) ≡ 10 }
+{
+    let mut bits = view.iter_mut();
+    let left = bits.as_slice();
+    let all = shows(left, 0, 10);
+    left.set(0, false);
+    let mut rest = bits.into_slice();
+    rest.set(9, true);
+    all
+}
+
+#[test]
+fn bits_are_written_by_other_names(rt: HostRuntime) {
+    let mut words = BYTES;
+    let agrees = {
+        let mut view = BitSliceMut::<u8, Lsb0>::from_place_mut(&mut words, 3, 10);
+        flips_ends_too(&mut view)
+    };
+    // 1 01100111 0 becomes 0 01100111 1
+    assert!(rt; agrees && words == [0x67, 0xfe]);
+}
+
+#[test]
+fn bits_are_found_by_their_number(rt: HostRuntime) {
+    // 1011001110
+    let view = BitSlice::<u8, Lsb0>::from_place(&BYTES, 3, 10);
+    let mut bits = view.into_iter();
+    assert!(rt; bits.len() == 10);
+    let third = bits.nth_back(2);
+    assert!(rt; matches!(third, Some(b) if *b) && bits.len() == 7);
+    let none = bits.nth(7);
+    assert!(rt; none.is_none() && bits.len() == 0 && bits.next_back().is_none());
+    let mut values = view.iter().by_vals();
+    assert!(rt;
+        values.nth(3) == Some(true) && values.nth_back(1) == Some(true) && values.len() == 4
+    );
+    let mut references = view.iter().by_refs();
+    let fifth = references.nth(4);
+    let third = references.nth_back(2);
+    assert!(rt; matches!(fifth, Some(b) if !*b) && matches!(third, Some(b) if *b));
+    assert!(rt; references.len() == 2);
+    let mut ones = view.iter_ones();
+    assert!(rt; ones.nth(2) == Some(3) && ones.nth_back(1) == Some(7) && ones.next() == Some(6));
+    assert!(rt; ones.nth(0).is_none() && ones.size_hint() == (0, Some(0)));
+    let mut zeros = view.iter_zeros();
+    assert!(rt; zeros.nth_back(3) == Some(1) && zeros.nth_back(0).is_none() && zeros.len() == 0);
+}
+
+// Whether the clones of iterators go on from where these stand, and leave them there.
+fn clones_go_on(view: BitSlice<'_, u8, Lsb0>) -> bool {
+    let mut bits = view.iter();
+    bits.next();
+    let Ok(copy) = bits.clone() else { return false };
+    let shown = shows(&copy.as_bitslice(), 1, 9) && bits.len() == 9;
+    let mut values = bits.by_vals();
+    let Ok(mut copy) = values.clone() else {
+        return false
+    };
+    let valued = copy.next_back() == Some(false)
+        && copy.len() == 8
+        && values.len() == 9
+        && values.next() == Some(false);
+    let mut references = view.iter().by_refs();
+    references.next();
+    let Ok(copy) = references.clone() else {
+        return false
+    };
+    let referred = copy.len() == 9 && references.next().is_some() && references.len() == 8;
+    let mut zeros = view.iter_zeros();
+    zeros.next();
+    let Ok(mut copy) = zeros.clone() else {
+        return false
+    };
+    shown && valued && referred && copy.next() == Some(4) && zeros.next() == Some(4)
+}
+
+#[test]
+fn iterators_are_cloned(rt: HostRuntime) {
+    let view = BitSlice::<u8, Lsb0>::from_place(&BYTES, 3, 10);
+    assert!(rt; clones_go_on(view));
+}
+
+#[test]
+fn callers_go_through_bits(rt: HostRuntime) {
+    let view = BitSlice::<u8, Lsb0>::from_place(&BYTES, 3, 10);
+    assert!(rt; third_one(&view) == Some(3) && ones_from_both_ends(&view) == 6);
+    let few = BitSlice::<u8, Lsb0>::from_place(&BYTES, 3, 3);
+    assert!(rt; third_one(&few).is_none() && ones_from_both_ends(&few) == 2);
 }

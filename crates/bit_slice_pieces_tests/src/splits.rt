@@ -90,3 +90,45 @@ fn a_predicate_counts_its_calls(rt: HostRuntime) {
     // 0 and 1 from the front, 0 and 1 from the back, the two between
     assert!(rt; calls == 6);
 }
+
+#[test]
+fn a_part_is_found_by_its_number(rt: HostRuntime) {
+    // the bits 0, 1, 0, 0, 1, 0
+    let words = [0xd2u8];
+    let view = BitSlice::<u8, Lsb0>::from_place(&words, 0, 6);
+    let mut parts = view.split(|_i, bit| *bit);
+    assert!(rt; row(parts.nth(1)) == 0b100 && row(parts.next()) == 0b10 && row(parts.nth(0)) == 0);
+    let mut parts = view.rsplit(|_i, bit| *bit);
+    assert!(rt; row(parts.nth_back(1)) == 0b100 && row(parts.nth_back(1)) == 0);
+    let mut parts = view.split_inclusive(|_i, bit| *bit);
+    assert!(rt; row(parts.nth_back(2)) == 0b101 && row(parts.next_back()) == 0);
+    let mut parts = view.splitn(2, |_i, bit| *bit);
+    assert!(rt; parts.size_hint() == (0, Some(2)) && row(parts.nth(1)) == 0b10010);
+    assert!(rt; parts.size_hint() == (0, Some(0)) && row(parts.next()) == 0);
+}
+
+#[test]
+fn so_many_parts_come_at_most(rt: HostRuntime) {
+    let words = [0xd2u8];
+    let view = BitSlice::<u8, Lsb0>::from_place(&words, 0, 6);
+    let mut parts = view.splitn(1, |_i, bit| *bit);
+    assert!(rt; row(parts.next()) == 0b1010010 && row(parts.next()) == 0);
+    let mut parts = view.rsplitn(1, |_i, bit| *bit);
+    assert!(rt; row(parts.next()) == 0b1010010 && row(parts.next()) == 0);
+    let mut parts = view.splitn(9, |_i, bit| *bit);
+    assert!(rt;
+        row(parts.next()) == 0b10 && row(parts.next()) == 0b100 && row(parts.next()) == 0b10
+    );
+    assert!(rt; row(parts.next()) == 0);
+    // the last part that may come has no predicate
+    let mut calls = 0usize;
+    {
+        let mut parts = view.rsplitn(2, |_i, bit| {
+            calls = calls.wrapping_add(1);
+            *bit
+        });
+        assert!(rt; row(parts.next()) == 0b10 && row(parts.next()) == 0b10100);
+        assert!(rt; row(parts.next()) == 0);
+    }
+    assert!(rt; calls == 2);
+}

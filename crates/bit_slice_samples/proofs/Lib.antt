@@ -1,2 +1,4 @@
+pub mod FilledLemmas
 pub mod HalfLemmas
 pub mod MarkedLemmas
+pub mod RunLemmas

@@ -2,6 +2,8 @@
 #![tactic(auto)]
 
 pub mod callers;
+pub mod iter_callers;
 pub mod pieces;
+pub mod split_callers;
 pub mod store_callers;
 pub mod word_callers;

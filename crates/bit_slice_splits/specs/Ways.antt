@@ -1,10 +1,11 @@
 -- How a list of bits is split by a predicate.
 --
 -- Which indices are tried, and what comes off: `SplitWay`, and `from_front`, `from_back`, `inclusive_front`,
--- `inclusive_back`. What the predicate is handed and answers: `Asked`, `Asks`. A part that comes off: `Parts`, `Ends`,
--- `GivesPart`, and of so many at most `PartsUpTo`. What an iterator has left: `SplitLeft`, `SplitNLeft`.
-use Rattle.std.proofs.Common.{◌≡◌, ℕ, ◌+◌, ◌-◌, ◌≤◌, Bool, true, false, cond, List, length, get_or, nat_eq, nat_lt, Bor, Option}
-use Rattle.std.proofs.Common.{None, ◌<◌}
+-- `inclusive_back`. What the predicate is handed and answers: `Asked`, `Asks`, `AnswersBit`. A part that comes off:
+-- `Parts`, `Ends`, `GivesPart`, and of so many at most `CountsDown`, `PartsUpTo`. What an iterator has left:
+-- `SplitLeft`, `SplitNLeft`.
+use Rattle.std.proofs.Common.{◌≡◌, ℕ, ◌+◌, ◌-◌, ◌≤◌, Bool, true, false, cond, List, length, get_or, nat_eq}
+use Rattle.std.proofs.Common.{nat_lt, Bor, Option, None, ◌<◌}
 use Rattle.std.specs.Fn.{Called, Mut}
 use Rattle.std.specs.Bool.{MatchBool}
 use Rattle.std.specs.Option.{MatchOption}
@@ -75,6 +76,10 @@ inclusive_back = record {
 abbrev pub Asked : {F : Type 0} → Mut F (ℕ × (Bor Bool × Unit {0})) Bool → F → ℕ → Bool → Bool → F → Type 0
 Asked g f i bit r f' = (b : Bor Bool) × (b.now ≡ bit) × Called g f (i, (b, tt)) r f'
 
+-- each answer of the predicate is the bit that it was handed
+abbrev pub AnswersBit : {F : Type 0} → Mut F (ℕ × (Bor Bool × Unit {0})) Bool → Type 0
+AnswersBit {F} g = (p : F) (i : ℕ) (bit r : Bool) (q : F) → Asked g p i bit r q → r ≡ bit
+
 -- the predicate was asked of each index in turn, with the bit there: it answered false m times, and then true, unless
 -- all that are tried were asked
 pub record Asks {F : Type 0} (way : SplitWay) (g : Mut F (ℕ × (Bor Bool × Unit {0})) Bool) (bits : List Bool) (f : F)
@@ -123,11 +128,16 @@ pub record SplitNLeft (F : Type 0) : Type 0 where
   pub parts : SplitLeft F
   pub count : ℕ
 
+-- so many at most: while more than one may come, the next one does; the last that may come is what is left
+pub record CountsDown {S R : Type 0} (count : S → ℕ) (next rest : S → Option R → S → Type 0) (before : S) (r : Option R)
+    (after : S) : Type 0 where
+  pub none : count before ≡ 0 → (r ≡ None) × (after ≡ before)
+  pub one : count before ≡ 1 → (count after ≡ 0) × rest before r after
+  pub more : 1 < count before → (count after + 1 ≡ count before) × next before r after
+
 -- while more than one part may come, the next one does; the last that may come has all bits that are left
-pub record PartsUpTo {F A : Type 0} (view : A → List Bool) (way : SplitWay)
-    (g : Mut F (ℕ × (Bor Bool × Unit {0})) Bool) (before : SplitNLeft F) (r : Option A) (after : SplitNLeft F)
-    : Type 0 where
-  pub none : before.count ≡ 0 → (r ≡ None) × (after ≡ before)
-  pub one : before.count ≡ 1 → (after.count ≡ 0) × GivesPart view Ends before.parts r after.parts
-  pub more : 1 < before.count
-      → (after.count + 1 ≡ before.count) × GivesPart view (Parts way g) before.parts r after.parts
+abbrev pub PartsUpTo : {F A : Type 0} → (A → List Bool) → SplitWay → Mut F (ℕ × (Bor Bool × Unit {0})) Bool
+    → SplitNLeft F → Option A → SplitNLeft F → Type 0
+PartsUpTo view way g =
+    CountsDown (λ left. left.count) (λ before r after. GivesPart view (Parts way g) before.parts r after.parts)
+    (λ before r after. GivesPart view Ends before.parts r after.parts)

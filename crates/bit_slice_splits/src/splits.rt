@@ -1,7 +1,8 @@
 //! The parts of a window between the places where a predicate answers true, one after another, from both ends.
 
-ghost use Rattle.std.specs.Prelude.{◌≡◌, ◌+◌, ◌-◌, ◌<◌, ◌≤◌, true, false, length, if◌then◌else◌};
-ghost use Rattle.std.specs.Iterator.{at_most};
+ghost use Rattle.std.specs.Prelude.{◌≡◌, ◌+◌, ◌-◌, ◌<◌, ◌≤◌, true, false, length, if◌then◌else◌, IfSome, None};
+ghost use Rattle.std.specs.Iterator.{at_most, UpTo};
+ghost use Rattle.std.specs.Iterator.SizeHint.{IsWithinCount};
 ghost use Rattle.bit_addressing.specs.Memory.{piece, read_by};
 ghost use Rattle.bit_slice_views.specs.View.{view_bits};
 ghost use Rattle.bit_slice_splits.specs.Ways.{Ends, GivesPart, Parts};
@@ -102,7 +103,11 @@ impl<
         Some(view.part(part.start, part.len))
     }
 
-    fn size_hint(&self) -> (usize, Option<usize>) {
+    fn size_hint(&self) -> (usize, Option<usize>)
+        ensures lower { IsWithinCount result.0 (at_most (if self.now.done then 0 else length self.now.bits + 1)) }
+        ensures upper { IfSome result.1 (UpTo (at_most (if self.now.done then 0 else length self.now.bits + 1))) }
+        ensures exact { result ≡ (0, None) }
+    {
         (0, None)
     }
 }

@@ -1,7 +1,8 @@
 //! So many parts of a window at most.
 
-ghost use Rattle.std.specs.Prelude.{◌≡◌, false};
-ghost use Rattle.std.specs.Iterator.{at_most};
+ghost use Rattle.std.specs.Prelude.{◌≡◌, false, IfSome, Some};
+ghost use Rattle.std.specs.Iterator.{at_most, UpTo};
+ghost use Rattle.std.specs.Iterator.SizeHint.{IsWithinCount};
 ghost use Rattle.bit_addressing.specs.Memory.{read_by};
 ghost use Rattle.bit_slice_views.specs.View.{view_bits};
 ghost use Rattle.bit_slice_splits.specs.Ways.{PartsUpTo};
@@ -79,7 +80,11 @@ impl<
         }
     }
 
-    fn size_hint(&self) -> (usize, Option<usize>) {
+    fn size_hint(&self) -> (usize, Option<usize>)
+        ensures lower { IsWithinCount result.0 (at_most self.now.count) }
+        ensures upper { IfSome result.1 (UpTo (at_most self.now.count)) }
+        ensures exact { result ≡ (0, Some self.now.count) }
+    {
         (0, Some(self.count))
     }
 }

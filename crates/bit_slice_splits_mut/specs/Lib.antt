@@ -1,5 +1,6 @@
 pub mod Lending
 pub mod SplitsMut
+pub mod Takes
 -- the words of windows, memories, orders and registers
 pub use Rattle.bit_addressing.specs.BitOrder
 pub use Rattle.bit_addressing.specs.BitRegister

@@ -1,9 +1,11 @@
 -- The parts of a writable window that are looked for and lent in turn, as contracts see them.
 --
 -- The window, as its last borrower left it: `parts_view`, `parts_loan`; where it lies when it shows all its bits:
--- `parts_place`, `parts_len`; its bits and its frame as they are then: `parts_whole`, `parts_around`. What is left to be
--- split: `parts_left`. The part that was found: `parts_found_start`, `parts_found_len`. Calls: `KeepsWindow`.
-use Rattle.std.specs.Prelude.{ℕ, ◌≡◌, ◌+◌, ◌*◌, ◌<◌, ◌≤◌, ◌^◌, List, Bool, length}
+-- `parts_place`, `parts_len`; its bits and its frame as they are then: `parts_whole`, `parts_around`. What is left to
+-- be split: `parts_left`; how many parts may still come: `parts_most`. The part that was found:
+-- `parts_found_start`, `parts_found_len`, `parts_found`. Freshly made: `SplitsAll`. Calls: `KeepsWindow`.
+use Rattle.std.specs.Prelude.{ℕ, ◌≡◌, ◌+◌, ◌*◌, ◌<◌, ◌≤◌, ◌^◌, List, Bool, length, Option, Some, None}
+use Rattle.std.proofs.Common.{cond}
 use Rattle.bit_addressing.specs.Memory.{Reading, memory, piece}
 use Rattle.bit_addressing_span.specs.declared.span.TheConstants.{MAX_BITS}
 use Rattle.bit_slice_writes.specs.Frame.{Frame, frame_of}
@@ -54,13 +56,23 @@ abbrev pub parts_around : {V F A B S O X : Type 0} → Reading S → (V → X) �
 parts_around reading lender words parts =
     frame_of reading (lender parts.of.now) (words parts.of.now) parts.head parts.len
 
--- what is left: the bits not yet split, the predicate, and whether no part is left
+-- what is left
 abbrev pub parts_left : {V F A B S O : Type 0} → Reading S → (V → List S) → SplitsMut V F A B S O → SplitLeft F
 parts_left reading words parts = record {
   bits = piece (piece (memory reading (words parts.of.now)) parts.head parts.len) parts.from parts.count;
   callee = parts.f;
   done = parts.done;
 }
+
+-- how many parts may still come, where so many come at most
+abbrev pub parts_most : {V F A B S O : Type 0} → SplitsMut V F A B S O → ℕ
+parts_most parts = parts.most
+
+-- the bits of the part that was found last, where a search found one
+abbrev pub parts_found : {V F A B S O : Type 0} → Reading S → (V → List S) → Bool → SplitsMut V F A B S O
+    → Option (List Bool)
+parts_found reading words found parts =
+    cond found (Some (piece (parts_whole reading words parts) parts.start parts.size)) None
 
 -- the predicate
 abbrev pub parts_callee : {V F A B S O : Type 0} → SplitsMut V F A B S O → F
@@ -95,3 +107,18 @@ pub record KeepsWindow {V F A B S O X : Type 0} (lender : V → X) (words : V �
   pub len_is : parts_len after ≡ parts_len before
   pub words_are : words (parts_view after) ≡ words (parts_view before)
   pub lender_is : lender (parts_view after) ≡ lender (parts_view before)
+
+-- these are all parts of the window v by a predicate, and none was looked for yet
+pub record SplitsAll {V F A B S O X : Type 0} (reading : Reading S) (lender : V → X) (words : V → List S)
+    (place : V → ℕ) (bits : V → List Bool) (frame : V → Frame X) (v : V) (f : F) (parts : SplitsMut V F A B S O)
+    : Type 0 where
+  pub value : parts_view parts ≡ v
+  pub place_is : parts_place parts ≡ place v
+  pub len : parts_len parts ≡ length (bits v)
+  pub whole : parts_whole reading words parts ≡ bits v
+  pub around : parts_around reading lender words parts ≡ frame v
+  pub from_is : parts_from parts ≡ 0
+  pub count_is : parts_count parts ≡ length (bits v)
+  pub left : (parts_left reading words parts).bits ≡ bits v
+  pub callee_is : parts_callee parts ≡ f
+  pub lies : LiesIn reading.bits words parts

@@ -2,17 +2,17 @@
 
 ghost use Rattle.std.specs.Prelude.{◌≡◌, ◌↔◌, false, length, IsTrue};
 ghost use Rattle.bit_addressing.specs.Memory.{read_by};
-ghost use Rattle.bit_slice_splits_mut.specs.SplitsMut.{parts_around, parts_callee, parts_left, parts_loan, parts_view};
-ghost use Rattle.bit_slice_splits_mut.specs.SplitsMut.{parts_whole, LiesIn};
+ghost use Rattle.bit_slice_splits_mut.specs.SplitsMut.{parts_done, parts_loan, parts_most, SplitsAll};
 
 use crate::splits_mut::{RSplitMut, SplitInclusiveMut, SplitMut};
+use crate::splits_n_mut::{RSplitNMut, SplitNMut};
 use bit_addressing::BitRegister;
 use bit_slice_views::Bits;
 use bit_slice_writes::{BitsMut, BitsWindow};
 
 /// The splits of a window by a predicate, to write: of every `BitsWindow`.
 ///
-/// One part is lent at a time, by `part_mut`, once `seek` has found it. The predicate is handed what that of `split` is.
+/// One part is lent at a time, by `next_mut`. The predicate is handed what that of `split` is.
 pub trait BitsSplitsMut: BitsWindow {
     /// The parts between the bits where the predicate answers true; these bits are in none.
     final fn split_mut<F: FnMut(usize, &bool) -> bool + Drop>(
@@ -20,17 +20,9 @@ pub trait BitsSplitsMut: BitsWindow {
         f: F,
     ) -> SplitMut<'_, Self, F>
         ensures same_reference { parts_loan result ≡ self.entry.ghost_name }
-        ensures value { parts_view result ≡ self.old }
-        ensures whole { parts_whole (read_by Self.Store.BitRegister Self.Order.position) Self.words result
-            ≡ Self.bits self.old }
-        ensures around { parts_around (read_by Self.Store.BitRegister Self.Order.position) Self.lender Self.words
-            result ≡ Self.frame self.old }
-        ensures bits { (parts_left (read_by Self.Store.BitRegister Self.Order.position) Self.words result).bits
-            ≡ Self.bits self.old }
-        ensures callee { parts_callee result ≡ f }
-        ensures done { (parts_left (read_by Self.Store.BitRegister Self.Order.position) Self.words result).done
-            ≡ false }
-        ensures lies { LiesIn Self.Store.BITS Self.words result }
+        ensures parts { SplitsAll (read_by Self.Store.BitRegister Self.Order.position) Self.lender Self.words Self.place
+            Self.bits Self.frame self.old f result }
+        ensures done { parts_done result ≡ false }
     {
         SplitMut::new(self, f, false)
     }
@@ -41,17 +33,9 @@ pub trait BitsSplitsMut: BitsWindow {
         f: F,
     ) -> SplitInclusiveMut<'_, Self, F>
         ensures same_reference { parts_loan result ≡ self.entry.ghost_name }
-        ensures value { parts_view result ≡ self.old }
-        ensures whole { parts_whole (read_by Self.Store.BitRegister Self.Order.position) Self.words result
-            ≡ Self.bits self.old }
-        ensures around { parts_around (read_by Self.Store.BitRegister Self.Order.position) Self.lender Self.words
-            result ≡ Self.frame self.old }
-        ensures bits { (parts_left (read_by Self.Store.BitRegister Self.Order.position) Self.words result).bits
-            ≡ Self.bits self.old }
-        ensures callee { parts_callee result ≡ f }
-        ensures done { IsTrue (parts_left (read_by Self.Store.BitRegister Self.Order.position) Self.words result).done
-            ↔ (length (Self.bits self.old) ≡ 0) }
-        ensures lies { LiesIn Self.Store.BITS Self.words result }
+        ensures parts { SplitsAll (read_by Self.Store.BitRegister Self.Order.position) Self.lender Self.words Self.place
+            Self.bits Self.frame self.old f result }
+        ensures done { IsTrue (parts_done result) ↔ (length (Self.bits self.old) ≡ 0) }
     {
         let done = self.is_empty();
         SplitInclusiveMut::new(self, f, done)
@@ -63,19 +47,41 @@ pub trait BitsSplitsMut: BitsWindow {
         f: F,
     ) -> RSplitMut<'_, Self, F>
         ensures same_reference { parts_loan result ≡ self.entry.ghost_name }
-        ensures value { parts_view result ≡ self.old }
-        ensures whole { parts_whole (read_by Self.Store.BitRegister Self.Order.position) Self.words result
-            ≡ Self.bits self.old }
-        ensures around { parts_around (read_by Self.Store.BitRegister Self.Order.position) Self.lender Self.words
-            result ≡ Self.frame self.old }
-        ensures bits { (parts_left (read_by Self.Store.BitRegister Self.Order.position) Self.words result).bits
-            ≡ Self.bits self.old }
-        ensures callee { parts_callee result ≡ f }
-        ensures done { (parts_left (read_by Self.Store.BitRegister Self.Order.position) Self.words result).done
-            ≡ false }
-        ensures lies { LiesIn Self.Store.BITS Self.words result }
+        ensures parts { SplitsAll (read_by Self.Store.BitRegister Self.Order.position) Self.lender Self.words Self.place
+            Self.bits Self.frame self.old f result }
+        ensures done { parts_done result ≡ false }
     {
         RSplitMut::new(self, f, false)
+    }
+
+    /// At most `count` parts as of `split_mut`; the last of them has all that is left.
+    final fn splitn_mut<F: FnMut(usize, &bool) -> bool + Drop>(
+        &mut self,
+        count: usize,
+        f: F,
+    ) -> SplitNMut<'_, Self, F>
+        ensures same_reference { parts_loan result ≡ self.entry.ghost_name }
+        ensures parts { SplitsAll (read_by Self.Store.BitRegister Self.Order.position) Self.lender Self.words Self.place
+            Self.bits Self.frame self.old f result }
+        ensures done { parts_done result ≡ false }
+        ensures count { parts_most result ≡ count }
+    {
+        SplitNMut::up_to(self, count, f)
+    }
+
+    /// At most `count` parts as of `rsplit_mut`; the last of them has all that is left.
+    final fn rsplitn_mut<F: FnMut(usize, &bool) -> bool + Drop>(
+        &mut self,
+        count: usize,
+        f: F,
+    ) -> RSplitNMut<'_, Self, F>
+        ensures same_reference { parts_loan result ≡ self.entry.ghost_name }
+        ensures parts { SplitsAll (read_by Self.Store.BitRegister Self.Order.position) Self.lender Self.words Self.place
+            Self.bits Self.frame self.old f result }
+        ensures done { parts_done result ≡ false }
+        ensures count { parts_most result ≡ count }
+    {
+        RSplitNMut::up_to(self, count, f)
     }
 }
 

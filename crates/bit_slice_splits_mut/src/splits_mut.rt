@@ -1,15 +1,15 @@
 //! The parts of a writable window between the places where a predicate answers true, of which one is lent at a time.
 
-ghost use Rattle.std.specs.Prelude.{◌≡◌, ◌+◌, ◌*◌, ◌<◌, ◌≤◌, ◌^◌, ◌↔◌, length, true, false, IsTrue};
+ghost use Rattle.std.specs.Prelude.{◌≡◌, ◌+◌, ◌*◌, ◌<◌, ◌≤◌, ◌^◌, ◌↔◌, length, true, false, IsTrue, IsSome, IfSome};
 ghost use Rattle.std.specs.Borrow.{sem};
 ghost use Rattle.bit_addressing.specs.Memory.{memory, piece, read_by};
 ghost use Rattle.bit_addressing_span.specs.declared.span.TheConstants.{MAX_BITS};
-ghost use Rattle.bit_slice_splits.specs.Ways.{Ends, Parts};
-ghost use Rattle.bit_slice_splits_mut.specs.Lending.{LendsPart};
-ghost use Rattle.bit_slice_splits_mut.specs.SplitsMut.{parts_around, parts_found_len, parts_found_start, parts_left};
-ghost use Rattle.bit_slice_splits_mut.specs.SplitsMut.{parts_callee, parts_count, parts_done, PartsBy};
-ghost use Rattle.bit_slice_splits_mut.specs.SplitsMut.{parts_len, parts_loan, parts_place, parts_view, parts_whole};
-ghost use Rattle.bit_slice_splits_mut.specs.SplitsMut.{KeepsWindow, LiesIn};
+ghost use Rattle.bit_slice_splits_mut.specs.Lending.{LendsNext, LendsPart};
+ghost use Rattle.bit_slice_splits_mut.specs.SplitsMut.{parts_around, parts_found_len, parts_found_start};
+ghost use Rattle.bit_slice_splits_mut.specs.SplitsMut.{parts_callee, parts_count, parts_done, parts_found, parts_most};
+ghost use Rattle.bit_slice_splits_mut.specs.SplitsMut.{parts_loan, parts_place, parts_view, parts_whole};
+ghost use Rattle.bit_slice_splits_mut.specs.SplitsMut.{KeepsWindow, LiesIn, PartsBy, SplitsAll};
+ghost use Rattle.bit_slice_splits_mut.specs.Takes.{parts_state, TakesPart, TakesRest};
 
 use bit_addressing::BitRegister;
 use bit_slice_splits::{
@@ -19,10 +19,10 @@ use bit_slice_views::Bits;
 use bit_slice_writes::{BitsMut, BitsWindow};
 use std::marker::PhantomData;
 
-/// The parts of a writable window that were not lent yet: `seek` looks for the next one, and `part_mut` lends it.
+/// The parts of a writable window that were not lent yet, of which one is lent at a time.
 ///
 /// When this ends, the window shows all its bits again.
-pub struct SplitsMut<'s, V: BitsWindow, F: Drop, A: Way, B: Way> {
+pub struct SplitsMut<'s, V: BitsWindow, F: Drop, A, B> {
     of: &'s mut V,
     head: usize,
     len: usize,
@@ -32,6 +32,7 @@ pub struct SplitsMut<'s, V: BitsWindow, F: Drop, A: Way, B: Way> {
     size: usize,
     f: F,
     done: bool,
+    pub(crate) most: usize,
     ways: PhantomData<(A, B)>,
 }
 
@@ -45,7 +46,7 @@ pub type RSplitMut<'s, V, F> = SplitsMut<'s, V, F, FromBack, FromFront>;
 pub type SplitInclusiveMut<'s, V, F> = SplitsMut<'s, V, F, InclusiveFront, InclusiveBack>;
 
 #[tactic(auto, using(bit_slice_access::proofs::PartLemmas::shows_all, bit_slice_access::proofs::PartLemmas::framed_all))]
-impl<V: BitsWindow, F: Drop, A: Way, B: Way> Drop for SplitsMut<'_, V, F, A, B> {
+impl<V: BitsWindow, F: Drop, A, B> Drop for SplitsMut<'_, V, F, A, B> {
     fn drop(self)
         requires fits { self.head + self.len ≤ length (V.words self.of.now) * V.Store.BITS }
         requires short { self.len ≤ MAX_BITS }
@@ -65,29 +66,22 @@ impl<V: BitsWindow, F: Drop, A: Way, B: Way> Drop for SplitsMut<'_, V, F, A, B> 
             size: _,
             f: _,
             done: _,
+            most: _,
             ways: _,
         } = self;
         of.show(head, len);
     }
 }
 
-impl<'s, V: BitsWindow, F: Drop, A: Way, B: Way> SplitsMut<'s, V, F, A, B> {
+impl<'s, V: BitsWindow, F: Drop, A, B> SplitsMut<'s, V, F, A, B> {
     // ---- make
 
     /// The parts of a window, none where `done` is true.
     pub fn new(of: &'s mut V, f: F, done: bool) -> SplitsMut<'s, V, F, A, B>
         ensures same_reference { parts_loan result ≡ of.entry.ghost_name }
-        ensures value { parts_view result ≡ of.old }
-        ensures whole { parts_whole (read_by V.Store.BitRegister V.Order.position) V.words result ≡ V.bits of.old }
-        ensures around { parts_around (read_by V.Store.BitRegister V.Order.position) V.lender V.words result
-            ≡ V.frame of.old }
-        ensures place { parts_place result ≡ V.place of.old }
-        ensures len { parts_len result ≡ length (V.bits of.old) }
-        ensures bits { (parts_left (read_by V.Store.BitRegister V.Order.position) V.words result).bits
-            ≡ V.bits of.old }
-        ensures callee { parts_callee result ≡ f }
-        ensures done { (parts_left (read_by V.Store.BitRegister V.Order.position) V.words result).done ≡ done }
-        ensures lies { LiesIn V.Store.BITS V.words result }
+        ensures parts { SplitsAll (read_by V.Store.BitRegister V.Order.position) V.lender V.words V.place
+            V.bits V.frame of.old f result }
+        ensures done { parts_done result ≡ done }
     {
         let head = of.first_place();
         let len = of.len();
@@ -101,22 +95,22 @@ impl<'s, V: BitsWindow, F: Drop, A: Way, B: Way> SplitsMut<'s, V, F, A, B> {
             size: 0,
             f,
             done,
+            most: 0,
             ways: PhantomData,
         }
     }
 
     // ---- look for
 
-    /// Takes all bits that are left as the last part, and tells whether there is one: `part_mut` lends it then.
-    pub fn seek_rest(&mut self) -> bool
+    // Takes all bits that are left as the last part, and tells whether there is one.
+    pub(crate) fn seek_rest(&mut self) -> bool
         requires { LiesIn V.Store.BITS V.words self.old }
-        ensures found { IsTrue result
-            ↔ ((parts_left (read_by V.Store.BitRegister V.Order.position) V.words self.old).done ≡ false) }
-        ensures ends { IsTrue result → Ends
-            (parts_left (read_by V.Store.BitRegister V.Order.position) V.words self.old)
-            (piece (parts_whole (read_by V.Store.BitRegister V.Order.position) V.words self.old)
-            (parts_found_start self.new) (parts_found_len self.new))
-            (parts_left (read_by V.Store.BitRegister V.Order.position) V.words self.new) }
+        ensures found { IsTrue result ↔ (parts_done self.old ≡ false) }
+        ensures ends { TakesRest (read_by V.Store.BitRegister V.Order.position) (V.words (parts_view self.old))
+            (parts_state self.old) (parts_found (read_by V.Store.BitRegister V.Order.position) V.words result self.new)
+            (parts_state self.new) }
+        ensures most { parts_most self.new ≡ parts_most self.old }
+        ensures shorter { IsTrue result → parts_done self.new ≡ true }
         ensures keeps { KeepsWindow V.lender V.words self.old self.new }
         ensures lies_still { LiesIn V.Store.BITS V.words self.new }
     {
@@ -131,8 +125,8 @@ impl<'s, V: BitsWindow, F: Drop, A: Way, B: Way> SplitsMut<'s, V, F, A, B> {
 
     // ---- lend
 
-    /// The part that was found last, to write; no bits before the first search.
-    pub fn part_mut(&mut self) -> &mut V
+    // The part that was found last, to write.
+    pub(crate) fn part_mut(&mut self) -> &mut V
         requires { LiesIn V.Store.BITS V.words self.old }
         ensures words { V.words result.now ≡ V.words (parts_view self.old) }
         ensures lender { V.lender result.now ≡ V.lender (parts_view self.old) }
@@ -154,61 +148,58 @@ impl<'s, V: BitsWindow, F: FnMut(usize, &bool) -> bool + Drop, A: Way, B: Way> S
     A,
     B,
 > {
-    // ---- look for
+    // ---- lend
 
-    /// Looks for the next part from the front, and tells whether there is one: `part_mut` lends it then.
-    pub fn seek(&mut self) -> bool
+    /// The next part from the front, to write.
+    pub fn next_mut(&mut self) -> Option<&mut V>
         requires callable { F.IsAlwaysCallable (parts_callee self.old) }
         requires lies { LiesIn V.Store.BITS V.words self.old }
-        ensures found { IsTrue result
-            ↔ ((parts_left (read_by V.Store.BitRegister V.Order.position) V.words self.old).done ≡ false) }
-        ensures parts { IsTrue result → Parts A.way F.FnMut
-            (parts_left (read_by V.Store.BitRegister V.Order.position) V.words self.old)
-            (piece (parts_whole (read_by V.Store.BitRegister V.Order.position) V.words self.old)
-            (parts_found_start self.new) (parts_found_len self.new))
-            (parts_left (read_by V.Store.BitRegister V.Order.position) V.words self.new) }
-        ensures keeps { KeepsWindow V.lender V.words self.old self.new }
-        ensures callable_still { F.IsAlwaysCallable (parts_callee self.new) }
-        ensures lies_still { LiesIn V.Store.BITS V.words self.new }
-
-        // Fewer bits are left, or no part is, so a search comes to its end.
-        ensures shorter { IsTrue result → parts_count self.old ≤ parts_count self.new → parts_done self.new ≡ true }
+        ensures variant { IsSome result ↔ (parts_done self.old ≡ false) }
+        ensures words { IfSome result (λ part. V.words part.now ≡ V.words (parts_view self.old)) }
+        ensures lender { IfSome result (λ part. V.lender part.now ≡ V.lender (parts_view self.old)) }
+        ensures* lends { sem 𝓛 (LendsNext V.row F.row A.row B.row V.Store.row V.Order.row V.lender V.words V.place
+            V.bits F.FnMut (TakesPart (read_by V.Store.BitRegister V.Order.position)
+            (V.words (parts_view self.old)) A.way F.FnMut)
+            self.entry result) }
     {
-        self.seek_by::<A>()
+        if self.seek::<A>() {
+            Some(self.part_mut())
+        } else {
+            None
+        }
     }
 
-    /// Looks for the next part from the back, and tells whether there is one: `part_mut` lends it then.
-    pub fn seek_back(&mut self) -> bool
+    /// The next part from the back, to write.
+    pub fn next_back_mut(&mut self) -> Option<&mut V>
         requires callable { F.IsAlwaysCallable (parts_callee self.old) }
         requires lies { LiesIn V.Store.BITS V.words self.old }
-        ensures found { IsTrue result
-            ↔ ((parts_left (read_by V.Store.BitRegister V.Order.position) V.words self.old).done ≡ false) }
-        ensures parts { IsTrue result → Parts B.way F.FnMut
-            (parts_left (read_by V.Store.BitRegister V.Order.position) V.words self.old)
-            (piece (parts_whole (read_by V.Store.BitRegister V.Order.position) V.words self.old)
-            (parts_found_start self.new) (parts_found_len self.new))
-            (parts_left (read_by V.Store.BitRegister V.Order.position) V.words self.new) }
-        ensures keeps { KeepsWindow V.lender V.words self.old self.new }
-        ensures callable_still { F.IsAlwaysCallable (parts_callee self.new) }
-        ensures lies_still { LiesIn V.Store.BITS V.words self.new }
-
-        // Fewer bits are left, or no part is, so a search comes to its end.
-        ensures shorter { IsTrue result → parts_count self.old ≤ parts_count self.new → parts_done self.new ≡ true }
+        ensures variant { IsSome result ↔ (parts_done self.old ≡ false) }
+        ensures words { IfSome result (λ part. V.words part.now ≡ V.words (parts_view self.old)) }
+        ensures lender { IfSome result (λ part. V.lender part.now ≡ V.lender (parts_view self.old)) }
+        ensures* lends { sem 𝓛 (LendsNext V.row F.row A.row B.row V.Store.row V.Order.row V.lender V.words V.place
+            V.bits F.FnMut (TakesPart (read_by V.Store.BitRegister V.Order.position)
+            (V.words (parts_view self.old)) B.way F.FnMut)
+            self.entry result) }
     {
-        self.seek_by::<B>()
+        if self.seek::<B>() {
+            Some(self.part_mut())
+        } else {
+            None
+        }
     }
+}
 
-    // Looks for the next part at one end.
-    fn seek_by<W: Way>(&mut self) -> bool
+impl<'s, V: BitsWindow, F: FnMut(usize, &bool) -> bool + Drop, A, B> SplitsMut<'s, V, F, A, B> {
+    // Looks for the next part at one end, and tells whether there is one: `part_mut` lends it then.
+    pub(crate) fn seek<W: Way>(&mut self) -> bool
         requires callable { F.IsAlwaysCallable (parts_callee self.old) }
         requires lies { LiesIn V.Store.BITS V.words self.old }
-        ensures found { IsTrue result
-            ↔ ((parts_left (read_by V.Store.BitRegister V.Order.position) V.words self.old).done ≡ false) }
-        ensures parts { IsTrue result → Parts W.way F.FnMut
-            (parts_left (read_by V.Store.BitRegister V.Order.position) V.words self.old)
-            (piece (parts_whole (read_by V.Store.BitRegister V.Order.position) V.words self.old)
-            (parts_found_start self.new) (parts_found_len self.new))
-            (parts_left (read_by V.Store.BitRegister V.Order.position) V.words self.new) }
+        ensures found { IsTrue result ↔ (parts_done self.old ≡ false) }
+        ensures parts { TakesPart (read_by V.Store.BitRegister V.Order.position) (V.words (parts_view self.old))
+            W.way F.FnMut (parts_state self.old)
+            (parts_found (read_by V.Store.BitRegister V.Order.position) V.words result self.new)
+            (parts_state self.new) }
+        ensures most { parts_most self.new ≡ parts_most self.old }
         ensures keeps { KeepsWindow V.lender V.words self.old self.new }
         ensures callable_still { F.IsAlwaysCallable (parts_callee self.new) }
         ensures lies_still { LiesIn V.Store.BITS V.words self.new }

@@ -1,7 +1,7 @@
 //! Vectors of bits made of windows, of words and of nothing, and given back as words.
 
 ghost use Rattle.std.specs.Prelude.{◌≡◌, ◌+◌, ◌*◌, ◌<◌, ◌≤◌, ◌↔◌, [], ◌∷◌, length, replicate, IfErr, IfOk, IsOk};
-ghost use Rattle.bit_addressing.specs.Memory.{memory, read_by};
+ghost use Rattle.bit_addressing.specs.Memory.{memory, piece, read_by};
 ghost use Rattle.bit_addressing_span.specs.declared.span.TheConstants.{MAX_BITS};
 ghost use Rattle.bit_containers_vector.specs.Count.{words_for};
 ghost use Rattle.bit_containers_vector.specs.Grown.{HoldsAlone, Repeats};
@@ -128,6 +128,24 @@ impl<T: BitStore, O: BitOrder<T>> BitVec<T, O> {
         BitVec {
             words,
             head: 0,
+            len,
+            order: PhantomData,
+        }
+    }
+
+    /// `len` bits of a vector's words, from an index in the first of them on. It takes no memory.
+    pub fn from_place(words: Vec<T>, head: usize, len: usize) -> BitVec<T, O>
+        requires inside { head < T.BITS }
+        requires short { len ≤ MAX_BITS }
+        requires fits { head + len ≤ length words.items * T.BITS }
+        ensures bits { vec_bits (read_by T.BitRegister O.position) result
+            ≡ piece (memory (read_by T.BitRegister O.position) words.items) head len }
+        ensures head { vec_head result ≡ head }
+        ensures words { vec_words result ≡ words.items }
+    {
+        BitVec {
+            words,
+            head,
             len,
             order: PhantomData,
         }

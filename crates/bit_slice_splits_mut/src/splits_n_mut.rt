@@ -23,7 +23,13 @@ pub type SplitNMut<'s, V, F> = SplitsMut<'s, V, F, FromFront, AtMost>;
 /// The same from the back on.
 pub type RSplitNMut<'s, V, F> = SplitsMut<'s, V, F, FromBack, AtMost>;
 
-impl<'s, V: BitsWindow, F: FnMut(usize, &bool) -> bool + Drop, A: Way> SplitsMut<'s, V, F, A, AtMost> {
+impl<'s, V: BitsWindow, F: FnMut(usize, &bool) -> bool + Drop, A: Way> SplitsMut<
+    's,
+    V,
+    F,
+    A,
+    AtMost,
+> {
     // ---- make
 
     /// At most `count` parts of a window.

@@ -6,7 +6,7 @@ use Rattle.bit_addressing_memory.proofs.WindowLemmas.{length-window}
 use Rattle.bit_slice_writes.specs.FrameLaws.{shown_window, shown_fits}
 use Rattle.bit_containers_array.specs.Array.{first_bits}
 
-first_fits : {R : Type 0} (reading : Reading R) (words : List R)
+pub first_fits : {R : Type 0} (reading : Reading R) (words : List R)
     → 0 + min (length words * reading.bits) MAX_BITS ≤ length words * reading.bits
 first_fits reading words = omega arith
 

@@ -1,5 +1,8 @@
 pub mod Array
 pub mod ArrayLaws
+pub mod FromView
+pub mod Left
+pub mod ZeroLaws
 -- the words of windows, memories, orders and registers
 pub use Rattle.bit_addressing.specs.BitOrder
 pub use Rattle.bit_addressing.specs.BitRegister

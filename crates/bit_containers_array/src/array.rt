@@ -1,6 +1,6 @@
 //! A fixed number of bits.
 
-ghost use Rattle.std.specs.Prelude.{◌≡◌, ◌*◌, ◌≤◌, length, min};
+ghost use Rattle.std.specs.Prelude.{◌≡◌, ◌*◌, ◌<◌, ◌≤◌, false, length, min, slice_index_or};
 ghost use Rattle.std.specs.Fn.{FnOnceReturnsAtMut};
 ghost use Rattle.bit_addressing.specs.Memory.{memory, piece, read_by, reading_in};
 ghost use Rattle.bit_addressing_span.specs.declared.span.TheConstants.{MAX_BITS};
@@ -11,23 +11,18 @@ use bit_slice_stores::BitViewSized;
 use bit_slice_views::{BitSlice, Bits};
 use bit_slice_writes::BitsMut;
 use std::marker::PhantomData;
+use std::ops::Index;
 
 /// The bits of a word or of an array of words, owned: all of them, or the first `MAX_BITS` where it has more.
 #[derive_where(Clone, Copy)]
 pub struct BitArray<A: BitViewSized, O: BitOrder<A::Store>> {
     pub words: A,
-    order: PhantomData<O>,
+    pub(crate) order: PhantomData<O>,
 }
 
 #[tactic(auto, using(bit_slice_writes::proofs::FrameLemmas::frames))]
 impl<A: BitViewSized, O: BitOrder<A::Store>> BitArray<A, O> {
     ghost use Rattle.bit_containers_array.specs.Array.{array_bits};
-
-    /// No bit set.
-    pub const ZERO: BitArray<A, O> = BitArray {
-        words: A::ZERO,
-        order: PhantomData,
-    };
 
     /// The bits of these words.
     pub fn new(words: A) -> BitArray<A, O>
@@ -56,6 +51,21 @@ impl<A: BitViewSized, O: BitOrder<A::Store>> BitArray<A, O> {
             .len()
             .saturating_mul(mem::bits_of::<A::Store>())
             .min(MAX_BITS)
+    }
+}
+
+impl<A: BitViewSized, O: BitOrder<A::Store>> Index<usize> for BitArray<A, O> {
+    ghost use Rattle.bit_containers_array.specs.Array.{array_bits};
+
+    type Output = bool;
+
+    ghost can_index = { λ array i. i < length (array_bits (read_by A.Store.BitRegister O.position) A.words array) };
+
+    ghost index_gives = { λ array i bit. bit
+        ≡ slice_index_or (array_bits (read_by A.Store.BitRegister O.position) A.words array) i false };
+
+    fn index(&self, i: usize) -> &bool {
+        if self.bit(i) { &true } else { &false }
     }
 }
 

@@ -1,0 +1,9 @@
+-- What is left of an array's bits.
+use Rattle.std.specs.Prelude.{Bool, List}
+use Rattle.bit_addressing.specs.Memory.{Reading, piece}
+use Rattle.bit_containers_array.specs.Array.{array_bits}
+use Rattle.bit_containers_array.specs.declared.iter.IntoIter.{IntoIter}
+
+-- the bits that an iterator has not given yet, at words that are read so
+abbrev pub left_bits : {A O S R : Type 0} → Reading R → (A → List R) → IntoIter A O S → List Bool
+left_bits reading words iter = piece (array_bits reading words iter.array) iter.from iter.count

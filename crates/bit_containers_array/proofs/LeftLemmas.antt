@@ -1,10 +1,10 @@
 -- The bits that are left of an array: a piece of its list, as far as that goes.
 --
--- As far as it goes: `left_part`. All of them: `left_all`. The two ends: `left-none`, `left-first`, `left-last`.
+-- As far as it goes: `left_part`, `left_lent`. All of them: `left_all`. The two ends: `left-none`, `left-first`, `left-last`.
 use Rattle.std.proofs.Common.{◌≡◌, ℕ, ◌+◌, ◌-◌, ◌*◌, ◌<◌, ◌≤◌, Bool, false, List, [], ◌∷◌, ◌++◌, length, min}
 use Rattle.std.proofs.Common.{get_or, sym, ap, ◌∙◌, arith, rules, refl}
 use Rattle.std.proofs.lemmas.List.{places, same_lists, length-take, length-drop}
-use Rattle.bit_addressing.specs.Memory.{Reading, piece}
+use Rattle.bit_addressing.specs.Memory.{Reading, memory, piece}
 use Rattle.bit_addressing_memory.proofs.MemoryLemmas.{piece_all, piece_piece}
 use Rattle.bit_addressing_memory.proofs.WindowLemmas.{length-window}
 use Rattle.bit_addressing_span.specs.declared.span.TheConstants.{MAX_BITS}
@@ -32,6 +32,18 @@ left_all xs n is = piece_all xs n (sym is)
 pub first_short : {R : Type 0} (reading : Reading R) (words : List R) → length (first_bits reading words) ≤ MAX_BITS
 first_short reading words =
     omega (arith, length-window reading words 0 (min (length words * reading.bits) MAX_BITS) (first_fits reading words))
+
+-- what is left is a piece of the words' memory
+pub left_lent : {R : Type 0} (reading : Reading R) (words : List R) (from count all start n : ℕ)
+    → all ≡ length (first_bits reading words) → start ≡ min from all → n ≡ min count (all - start)
+    → piece (memory reading words) start n ≡ piece (first_bits reading words) from count
+left_lent reading words from count all start n is_all is_start is_n =
+    let m = min (length words * reading.bits) MAX_BITS in
+    let size : length (first_bits reading words) ≡ m = length-window reading words 0 m (first_fits reading words) in
+    let here : start ≡ 0 + start = omega arith in
+    ap (λ p. piece (memory reading words) p n) here
+    ∙ sym (piece_piece (memory reading words) 0 m start n (omega (arith, size)))
+    ∙ left_part (first_bits reading words) from count start n (rw (← is_all) is_start) (rw (← is_all) is_n)
 
 -- where bits are left, the first of them is one of all bits
 pub left_low : (xs : List Bool) (from count : ℕ) → 0 < length (piece xs from count) → from < length xs

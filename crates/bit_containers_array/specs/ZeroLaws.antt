@@ -39,3 +39,14 @@ no_bits {R} bits number at words n zero_word least is none =
     ∙ ap (λ x. digit_at x (at (k % bits))) none
     ∙ ap (λ d. d == 1) (bit_at-zero (at (k % bits)))
     ∙ sym (get_or-replicate (length (first_bits reading words)) k false false (omega arith)))
+
+-- and so many as the words have
+pub zero_list : {R : Type 0} (bits : ℕ) (number : R → ℕ) (at : ℕ → ℕ) (words : List R) (n : ℕ) (zero_word : R) → 8 ≤ bits
+    → words ≡ replicate n zero_word → number zero_word ≡ 0
+    → first_bits (reading_in bits number at) words ≡ replicate (min (n * bits) MAX_BITS) false
+zero_list {R} bits number at words n zero_word least is none =
+    let reading : Reading R = reading_in bits number at in
+    let m = min (length words * bits) MAX_BITS in
+    no_bits bits number at words n zero_word least is none
+    ∙ ap (λ k. replicate k false) (length-window reading words 0 m (first_fits reading words))
+    ∙ ap (λ k. replicate (min (k * bits) MAX_BITS) false) (ap length is ∙ length-replicate n zero_word)

@@ -1,6 +1,6 @@
 //! Arrays of bits made: from words, from none, from a window.
 
-ghost use Rattle.std.specs.Prelude.{◌≡◌, ◌*◌, ◌↔◌, length, min, IsOk, IfOk, IfErr};
+ghost use Rattle.std.specs.Prelude.{◌≡◌, ◌*◌, ◌↔◌, false, length, min, replicate, IsOk, IfOk, IfErr};
 ghost use Rattle.bit_addressing.specs.Memory.{read_by};
 ghost use Rattle.bit_addressing_span.specs.declared.span.TheConstants.{MAX_BITS};
 ghost use Rattle.bit_slice_views.specs.View.{view_bits, view_head};
@@ -22,7 +22,11 @@ impl<A: BitViewSized, O: BitOrder<A::Store>> From<A> for BitArray<A, O> {
 
 /// No bit set.
 impl<A: BitViewSized, O: BitOrder<A::Store>> Default for BitArray<A, O> {
-    ghost is_default = { λ array. array.words ≡ A.ZERO };
+    ghost use Rattle.bit_containers_array.specs.Array.{array_bits};
+
+    ghost is_default = { λ array. (array.words ≡ A.ZERO)
+        × (array_bits (read_by A.Store.BitRegister O.position) A.words array
+        ≡ replicate (min (A.COUNT * A.Store.BITS) MAX_BITS) false) };
 
     fn default() -> Self {
         BitArray::new(A::ZERO)

@@ -49,7 +49,10 @@ impl fmt::Debug for TryFromBitSliceError {
     fn fmt<W: fmt::Write>(&self, f: &mut fmt::Formatter<W>) -> fmt::Result {
         match *self {
             TryFromBitSliceError::UnequalLen { actual, expected } => {
-                write!(f, "TryFromBitSliceError::UnequalLen({actual} != {expected})")
+                write!(
+                    f,
+                    "TryFromBitSliceError::UnequalLen({actual} != {expected})"
+                )
             }
             TryFromBitSliceError::Misaligned => f.write_str("TryFromBitSliceError::Misaligned"),
         }

@@ -5,12 +5,16 @@ ghost use Rattle.std.specs.Iterator.{YieldsFirst, YieldsLast, item_count, UpTo};
 ghost use Rattle.std.specs.Iterator.SizeHint.{IsWithinCount};
 ghost use Rattle.bit_addressing.specs.Memory.{piece, read_by};
 ghost use Rattle.bit_slice_views.specs.View.{view_bits};
+ghost use Rattle.std.specs.Borrow.{Array, follows, sem};
+ghost use Rattle.bit_slice_writes.specs.ViewMut.{lent_bits, lent_lender, lent_words};
 
 use crate::array::BitArray;
 use bit_addressing::{BitOrder, BitRegister};
+use bit_containers_lending::BitsOwned;
 use bit_slice_iterators::{BitsIter, Iter};
 use bit_slice_stores::BitViewSized;
 use bit_slice_views::{BitRef, BitSlice, Bits};
+use bit_slice_writes::BitSliceMut;
 use std::alloc::AllocError;
 use std::iter::FusedIterator;
 
@@ -27,7 +31,8 @@ pub struct IntoIter<A: BitViewSized, O: BitOrder<A::Store>> {
 #[tactic(auto, using(crate::proofs::LeftLemmas::left))]
 impl<A: BitViewSized, O: BitOrder<A::Store>> IntoIter<A, O> {
     ghost use Rattle.bit_containers_array.specs.Array.{array_bits};
-    ghost use Rattle.bit_containers_array.specs.Left.{left_bits};
+    ghost use Rattle.bit_containers_array.specs.Left.{left_bits, left_words, left_with};
+    ghost use Rattle.bit_containers_array.specs.contracts.iter.IntoIter.{the_row};
 
     /// The bits of an array.
     pub fn new(array: BitArray<A, O>) -> IntoIter<A, O>
@@ -50,12 +55,38 @@ impl<A: BitViewSized, O: BitOrder<A::Store>> IntoIter<A, O> {
         rest_of(self.array.as_bitslice(), self.from, self.count)
     }
 
+    /// The bits that are left, to write.
+    pub fn as_mut_bitslice(&mut self) -> BitSliceMut<'_, A::Store, O>
+        ensures bits { lent_bits (read_by A.Store.BitRegister O.position) result
+            ≡ left_bits (read_by A.Store.BitRegister O.position) A.words self.old }
+        ensures words { lent_words result ≡ left_words A.words self.old }
+        ensures* lends { sem 𝓛 (follows (the_row A.row O.row A.Store.row) (Array A.Store.row 0)
+            self.entry.ghost_name (lent_lender result) (left_with A.with_words self.old)) }
+    {
+        let all = self.array.len();
+        let from = self.from.min(all);
+        let len = self.count.min(all - from);
+        let words = self.array.as_raw_mut_slice();
+        BitSliceMut::from_place_mut(words, from, len)
+    }
+
     /// Another name of `as_bitslice`.
     pub fn as_slice(&self) -> BitSlice<'_, A::Store, O>
         ensures { view_bits (read_by A.Store.BitRegister O.position) result
             ≡ left_bits (read_by A.Store.BitRegister O.position) A.words self.now }
     {
         self.as_bitslice()
+    }
+
+    /// Another name of `as_mut_bitslice`.
+    pub fn as_mut_slice(&mut self) -> BitSliceMut<'_, A::Store, O>
+        ensures bits { lent_bits (read_by A.Store.BitRegister O.position) result
+            ≡ left_bits (read_by A.Store.BitRegister O.position) A.words self.old }
+        ensures words { lent_words result ≡ left_words A.words self.old }
+        ensures* lends { sem 𝓛 (follows (the_row A.row O.row A.Store.row) (Array A.Store.row 0)
+            self.entry.ghost_name (lent_lender result) (left_with A.with_words self.old)) }
+    {
+        self.as_mut_bitslice()
     }
 }
 
@@ -115,8 +146,10 @@ impl<A: BitViewSized, O: BitOrder<A::Store>> Iterator for IntoIter<A, O> {
         ensures upper { IfSome result.1
             (UpTo (item_count (left_bits (read_by A.Store.BitRegister O.position) A.words) self.now)) }
         ensures exact { result
-            ≡ (length (left_bits (read_by A.Store.BitRegister O.position) A.words self.now),
-            Some (length (left_bits (read_by A.Store.BitRegister O.position) A.words self.now))) }
+            ≡ (
+              length (left_bits (read_by A.Store.BitRegister O.position) A.words self.now),
+              Some (length (left_bits (read_by A.Store.BitRegister O.position) A.words self.now)),
+            ) }
     {
         let left = self.len();
         (left, Some(left))
@@ -169,7 +202,8 @@ impl<A: BitViewSized, O: BitOrder<A::Store>> IntoIterator for BitArray<A, O> {
 /// The bits of the array as `iter` gives them.
 impl<'a, A: BitViewSized + 'a, O: BitOrder<A::Store>> IntoIterator for &'a BitArray<A, O>
 where
-    A::Store: 'a, {
+    A::Store: 'a,
+{
     ghost use Rattle.bit_containers_array.specs.Array.{array_bits};
 
     type Item = BitRef;

@@ -16,8 +16,11 @@ use bit_slice_writes::{BitSliceMut, BitsMut, and_view, or_view, xor_view};
 use std::ops::{BitAnd, BitAndAssign, BitOr, BitOrAssign, BitXor, BitXorAssign, Not};
 
 /// Each bit becomes what it and the other's bit are both; those past the other's end are cleared.
-impl<A: BitViewSized, O: WordPaths<A::Store>, V: Bits<Store = A::Store, Order = O> + Drop>
-    BitAndAssign<V> for BitArray<A, O> {
+impl<
+    A: BitViewSized,
+    O: WordPaths<A::Store>,
+    V: Bits<Store = A::Store, Order = O> + Drop,
+> BitAndAssign<V> for BitArray<A, O> {
     ghost use Rattle.bit_containers_array.specs.Array.{array_bits};
 
     ghost bitand_assign_gives = { λ before other after.
@@ -50,8 +53,11 @@ impl<A: BitViewSized, O: WordPaths<A::Store>, V: Bits<Store = A::Store, Order = 
 }
 
 /// Each bit becomes what it or the other's bit is.
-impl<A: BitViewSized, O: WordPaths<A::Store>, V: Bits<Store = A::Store, Order = O> + Drop>
-    BitOrAssign<V> for BitArray<A, O> {
+impl<
+    A: BitViewSized,
+    O: WordPaths<A::Store>,
+    V: Bits<Store = A::Store, Order = O> + Drop,
+> BitOrAssign<V> for BitArray<A, O> {
     ghost use Rattle.bit_containers_array.specs.Array.{array_bits};
 
     ghost bitor_assign_gives = { λ before other after.
@@ -84,8 +90,11 @@ impl<A: BitViewSized, O: WordPaths<A::Store>, V: Bits<Store = A::Store, Order = 
 }
 
 /// Each bit becomes whether it and the other's bit differ.
-impl<A: BitViewSized, O: WordPaths<A::Store>, V: Bits<Store = A::Store, Order = O> + Drop>
-    BitXorAssign<V> for BitArray<A, O> {
+impl<
+    A: BitViewSized,
+    O: WordPaths<A::Store>,
+    V: Bits<Store = A::Store, Order = O> + Drop,
+> BitXorAssign<V> for BitArray<A, O> {
     ghost use Rattle.bit_containers_array.specs.Array.{array_bits};
 
     ghost bitxor_assign_gives = { λ before other after.

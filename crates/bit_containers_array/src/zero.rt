@@ -22,7 +22,7 @@ pub trait BitArrayZero: Bits {
 impl<A: BitViewSized, O: BitOrder<A::Store>> BitArrayZero for BitArray<A, O> {
     ghost use Rattle.bit_containers_array.specs.ZeroLaws.{no_bits};
 
-    ghost ZERO = { record { words = A.ZERO; order = record { } } };
+    ghost ZERO = { record { words = A.ZERO; order = record {} } };
 
     const ZERO: BitArray<A, O> = BitArray {
         words: A::ZERO,

@@ -1,7 +1,7 @@
 -- What an array of bits shows.
 --
 -- Its words: `array_words`. Its list: `array_bits`, the bits of its words (`first_bits`).
-use Rattle.std.specs.Prelude.{ℕ, ◌*◌, Bool, List, length, min}
+use Rattle.std.specs.Prelude.{◌*◌, Bool, List, length, min}
 use Rattle.bit_addressing.specs.Memory.{Reading, memory, piece}
 use Rattle.bit_addressing_span.specs.declared.span.TheConstants.{MAX_BITS}
 use Rattle.bit_containers_array.specs.declared.array.BitArray.{BitArray}

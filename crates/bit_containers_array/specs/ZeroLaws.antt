@@ -3,7 +3,7 @@ use Rattle.std.proofs.Common.{◌≡◌, ℕ, ◌+◌, ◌*◌, ◌/◌, ◌%◌
 use Rattle.std.proofs.Common.{◌∙◌, ◌==◌, arith, refl}
 use Rattle.std.proofs.lemmas.List.{get_or-replicate, length-replicate}
 use Rattle.std.proofs.lemmas.Nat.Bits.{bit_at-zero}
-use Rattle.std.proofs.lemmas.Nat.{div_below, mod_below}
+use Rattle.std.proofs.lemmas.Nat.{div_below}
 use Rattle.bit_addressing.specs.Memory.{Reading, entry, reading_in}
 use Rattle.bit_addressing_memory.proofs.EntryLemmas.{entry_read_place}
 use Rattle.bit_addressing_memory.proofs.WindowLemmas.{length-window, window_is}

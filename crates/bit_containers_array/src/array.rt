@@ -38,7 +38,8 @@ impl<A: BitViewSized, O: BitOrder<A::Store>> BitArray<A, O> {
     pub fn into_inner(self) -> A
         ensures { result ≡ self.words }
     {
-        self.words
+        let BitArray { words, .. } = self;
+        words
     }
 
     /// How many bits there are.

@@ -177,7 +177,8 @@ impl<A: BitViewSized, O: BitOrder<A::Store>> DoubleEndedIterator for IntoIter<A,
 #[tactic(auto, using(crate::proofs::LeftLemmas::left))]
 impl<A: BitViewSized, O: BitOrder<A::Store>> ExactSizeIterator for IntoIter<A, O> {
     fn len(&self) -> usize {
-        self.as_bitslice().len()
+        let rest = self.as_bitslice();
+        rest.len()
     }
 }
 

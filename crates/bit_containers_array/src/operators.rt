@@ -154,7 +154,7 @@ impl<'a, A: BitViewSized, O: WordPaths<A::Store>> BitAndAssign<BitArray<A, O>>
         ≡ lent_frame (read_by A.Store.BitRegister O.position) before) };
 
     fn bitand_assign(&mut self, other: BitArray<A, O>) {
-        and_view(self, other.as_bitslice());
+        *self &= other.as_bitslice();
     }
 }
 
@@ -171,7 +171,7 @@ impl<'a, A: BitViewSized, O: WordPaths<A::Store>> BitOrAssign<BitArray<A, O>>
         ≡ lent_frame (read_by A.Store.BitRegister O.position) before) };
 
     fn bitor_assign(&mut self, other: BitArray<A, O>) {
-        or_view(self, other.as_bitslice());
+        *self |= other.as_bitslice();
     }
 }
 
@@ -188,6 +188,6 @@ impl<'a, A: BitViewSized, O: WordPaths<A::Store>> BitXorAssign<BitArray<A, O>>
         ≡ lent_frame (read_by A.Store.BitRegister O.position) before) };
 
     fn bitxor_assign(&mut self, other: BitArray<A, O>) {
-        xor_view(self, other.as_bitslice());
+        *self ^= other.as_bitslice();
     }
 }

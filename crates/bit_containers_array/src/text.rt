@@ -28,7 +28,7 @@ impl<A: BitViewSized, O: BitOrder<A::Store>> fmt::Debug for BitArray<A, O> {
         (array_bits (read_by A.Store.BitRegister O.position) A.words array)) };
 
     fn fmt<W: fmt::Write>(&self, f: &mut fmt::Formatter<W>) -> fmt::Result {
-        write_bits(self, f)
+        fmt::Display::fmt(self, f)
     }
 }
 
@@ -39,7 +39,7 @@ impl<A: BitViewSized, O: BitOrder<A::Store>> fmt::Binary for BitArray<A, O> {
         ensures { WritesOnOk W.write_str_gives f.old result
             (bits_text (array_bits (read_by A.Store.BitRegister O.position) A.words self.now)) f.new }
     {
-        write_bits(self, f)
+        fmt::Debug::fmt(self, f)
     }
 }
 

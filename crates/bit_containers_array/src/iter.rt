@@ -1,11 +1,11 @@
 //! The bits of an array, one after another, from both ends.
 
 ghost use Rattle.std.specs.Prelude.{◌≡◌, ⊤, length, IfSome, Some};
+ghost use Rattle.std.specs.Borrow.{Array, follows, sem};
 ghost use Rattle.std.specs.Iterator.{YieldsFirst, YieldsLast, item_count, UpTo};
 ghost use Rattle.std.specs.Iterator.SizeHint.{IsWithinCount};
 ghost use Rattle.bit_addressing.specs.Memory.{piece, read_by};
 ghost use Rattle.bit_slice_views.specs.View.{view_bits};
-ghost use Rattle.std.specs.Borrow.{Array, follows, sem};
 ghost use Rattle.bit_slice_writes.specs.ViewMut.{lent_bits, lent_lender, lent_words};
 
 use crate::array::BitArray;
@@ -56,6 +56,8 @@ impl<A: BitViewSized, O: BitOrder<A::Store>> IntoIter<A, O> {
     }
 
     /// The bits that are left, to write.
+    ///
+    /// Of these bits nothing is known to the body that has made the window, once it is gone.
     pub fn as_mut_bitslice(&mut self) -> BitSliceMut<'_, A::Store, O>
         ensures bits { lent_bits (read_by A.Store.BitRegister O.position) result
             ≡ left_bits (read_by A.Store.BitRegister O.position) A.words self.old }

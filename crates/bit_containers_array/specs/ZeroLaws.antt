@@ -1,6 +1,6 @@
 -- The law of the array without a bit set.
-use Rattle.std.proofs.Common.{◌≡◌, ℕ, ◌+◌, ◌*◌, ◌/◌, ◌%◌, ◌<◌, ◌≤◌, false, List, length, replicate, min, get_or, ap, sym}
-use Rattle.std.proofs.Common.{◌∙◌, ◌==◌, arith, refl}
+use Rattle.std.proofs.Common.{◌≡◌, ℕ, ◌+◌, ◌*◌, ◌/◌, ◌%◌, ◌<◌, ◌≤◌, false, List, length, replicate, min, get_or}
+use Rattle.std.proofs.Common.{ap, sym, ◌∙◌, ◌==◌, arith, refl}
 use Rattle.std.proofs.lemmas.List.{get_or-replicate, length-replicate}
 use Rattle.std.proofs.lemmas.Nat.Bits.{bit_at-zero}
 use Rattle.std.proofs.lemmas.Nat.{div_below}
@@ -41,7 +41,8 @@ no_bits {R} bits number at words n zero_word least is none =
     ∙ sym (get_or-replicate (length (first_bits reading words)) k false false (omega arith)))
 
 -- and so many as the words have
-pub zero_list : {R : Type 0} (bits : ℕ) (number : R → ℕ) (at : ℕ → ℕ) (words : List R) (n : ℕ) (zero_word : R) → 8 ≤ bits
+pub zero_list : {R : Type 0} (bits : ℕ) (number : R → ℕ) (at : ℕ → ℕ) (words : List R) (n : ℕ) (zero_word : R)
+    → 8 ≤ bits
     → words ≡ replicate n zero_word → number zero_word ≡ 0
     → first_bits (reading_in bits number at) words ≡ replicate (min (n * bits) MAX_BITS) false
 zero_list {R} bits number at words n zero_word least is none =

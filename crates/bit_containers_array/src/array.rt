@@ -111,9 +111,11 @@ impl<A: BitViewSized, O: BitOrder<A::Store>> BitsMut for BitArray<A, O> {
         apply::<A::Store, W, F>(self.words.as_raw_mut_slice(), f)
     }
 
-    ghost window = { λ array. first_window (reading_in A.Store.BITS A.Store.number O.position) (array_words A.words array) };
+    ghost window = { λ array. first_window (reading_in A.Store.BITS A.Store.number O.position)
+        (array_words A.words array) };
 
-    ghost fits = { λ array. first_within (reading_in A.Store.BITS A.Store.number O.position) (array_words A.words array) };
+    ghost fits = { λ array. first_within (reading_in A.Store.BITS A.Store.number O.position)
+        (array_words A.words array) };
 
     ghost framed = { λ _. refl };
 }

@@ -1,7 +1,7 @@
 //! Callers of arrays of bits, each with a contract that follows from those of its calls.
 
-ghost use Rattle.std.specs.Prelude.{◌≡◌, ◌&&◌, ◌*◌, ◌<◌, ◌≤◌, IfSome, IsSome, ◌↔◌, false, true, length, map, min, not};
-ghost use Rattle.std.specs.Prelude.{replicate, reverse, slice_index_or, slice_set};
+ghost use Rattle.std.specs.Prelude.{◌≡◌, ◌&&◌, ◌*◌, ◌-◌, ◌<◌, ◌≤◌, IfSome, IsSome, ◌↔◌, false, true, length};
+ghost use Rattle.std.specs.Prelude.{map, min, not, replicate, reverse, slice_index_or, slice_set};
 ghost use Rattle.bit_addressing.specs.Memory.{memory, piece, read_by, with_piece};
 ghost use Rattle.bit_addressing_span.specs.declared.span.TheConstants.{MAX_BITS};
 ghost use Rattle.bit_containers_array.specs.Array.{array_bits};
@@ -84,7 +84,11 @@ pub fn without<A: BitViewSized, O: WordPaths<A::Store>>(
 
 /// The last bit, taken off the end.
 pub fn last_of<A: BitViewSized, O: BitOrder<A::Store>>(array: BitArray<A, O>) -> Option<bool>
-    ensures { IsSome result ↔ (0 < length (array_bits (read_by A.Store.BitRegister O.position) A.words array)) }
+    ensures variant { IsSome result
+        ↔ (0 < length (array_bits (read_by A.Store.BitRegister O.position) A.words array)) }
+    ensures value { IfSome result (λ bit. bit
+        ≡ slice_index_or (array_bits (read_by A.Store.BitRegister O.position) A.words array)
+        (length (array_bits (read_by A.Store.BitRegister O.position) A.words array) - 1) false) }
 {
     array.into_iter().next_back()
 }

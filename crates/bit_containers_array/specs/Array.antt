@@ -1,0 +1,23 @@
+-- What an array of bits shows.
+--
+-- Its words: `array_words`. Its list: `array_bits`, the bits of its words (`first_bits`).
+use Rattle.std.specs.Prelude.{◌*◌, Bool, List, length, min}
+use Rattle.bit_addressing.specs.Memory.{Reading, memory, piece}
+use Rattle.bit_addressing_span.specs.declared.span.TheConstants.{MAX_BITS}
+use Rattle.bit_containers_array.specs.declared.array.BitArray.{BitArray}
+
+-- all bits of some words, or the first `MAX_BITS` where there are more
+abbrev pub first_bits : {R : Type 0} → Reading R → List R → List Bool
+first_bits reading words = piece (memory reading words) 0 (min (length words * reading.bits) MAX_BITS)
+
+-- the words of an array, as its value gives them
+abbrev pub array_words : {A O S R : Type 0} → (A → List R) → BitArray A O S → List R
+array_words words array = words array.words
+
+-- its bits, at words that are read so
+abbrev pub array_bits : {A O S R : Type 0} → Reading R → (A → List R) → BitArray A O S → List Bool
+array_bits reading words array = first_bits reading (array_words words array)
+
+-- the array with another value
+abbrev pub array_with : {A O S : Type 0} → BitArray A O S → A → BitArray A O S
+array_with array words = record array { words = words }

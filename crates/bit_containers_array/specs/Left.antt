@@ -1,0 +1,17 @@
+-- What is left of an array's bits.
+use Rattle.std.specs.Prelude.{Bool, List}
+use Rattle.bit_addressing.specs.Memory.{Reading, piece}
+use Rattle.bit_containers_array.specs.Array.{array_bits, array_with, array_words}
+use Rattle.bit_containers_array.specs.declared.iter.IntoIter.{IntoIter}
+
+-- the bits that an iterator has not given yet, at words that are read so
+abbrev pub left_bits : {A O S R : Type 0} → Reading R → (A → List R) → IntoIter A O S → List Bool
+left_bits reading words iter = piece (array_bits reading words iter.array) iter.from iter.count
+
+-- the words of its array, and it with others in that
+abbrev pub left_words : {A O S R : Type 0} → (A → List R) → IntoIter A O S → List R
+left_words words iter = array_words words iter.array
+
+abbrev pub left_with : {A O S R : Type 0} → (A → List R → A) → IntoIter A O S → List R → IntoIter A O S
+left_with with_words iter words =
+    record iter { array = array_with iter.array (with_words iter.array.words words) }

@@ -1,0 +1,6 @@
+//! What a container of bits lends of itself: its words, and its list as windows.
+#![tactic(auto)]
+
+mod owned;
+
+pub use owned::{BitsOwned, apply};

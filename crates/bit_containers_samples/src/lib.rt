@@ -1,0 +1,4 @@
+//! What a user of owned bits proves from their contracts alone.
+#![tactic(auto)]
+
+pub mod arrays;

@@ -1,0 +1,17 @@
+//! The tests of containers of bits, against plain lists, and rows.
+#![tactic(auto)]
+
+#[cfg(test)]
+mod edits;
+#[cfg(test)]
+mod generic;
+#[cfg(test)]
+mod memory;
+#[cfg(test)]
+mod plain;
+#[cfg(test)]
+mod rows;
+#[cfg(test)]
+mod vectors;
+#[cfg(test)]
+mod words;

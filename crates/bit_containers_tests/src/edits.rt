@@ -104,6 +104,34 @@ fn edit_beside<T: BitStore, O: BitOrder<T>>(
     Ok(())
 }
 
+/// Makes an edit of a vector that shows a list, and says whether it answered as the list does.
+pub fn make<T: BitStore, O: BitOrder<T> + Plain>(
+    alloc: Global,
+    vector: &mut BitVec<T, O>,
+    edit: Edit,
+    list: &List,
+) -> Result<bool, AllocError> {
+    match edit {
+        Edit::Append | Edit::Extend | Edit::ExtendSlice | Edit::ExtendWords => {
+            extend(alloc, vector, edit)
+        }
+        Edit::SplitOff(index) => split(vector, index, list),
+        Edit::Reserve(_) | Edit::ReserveExact(_) | Edit::Shrink | Edit::Align | Edit::Beside(_) => {
+            edit_beside(vector, edit)?;
+            Ok(true)
+        }
+        _ => Ok(edit_inside(vector, edit)? == taken(edit, list)),
+    }
+}
+
+/// The bits that an edit appends which takes them from elsewhere.
+pub fn added<T: BitStore, O: Plain>(alloc: Global, edit: Edit) -> Result<List, AllocError> {
+    match edit {
+        Edit::ExtendWords => Ok(List::of::<T, O>(mixed::<T>(alloc, 9)?.as_slice())),
+        _ => Ok(List::of::<u16, Msb0>(&others()).cut(5, 13)),
+    }
+}
+
 // Whether an edit of a vector is that of its list.
 fn is_edited<T: BitStore, O: BitOrder<T> + Plain>(
     alloc: Global,
@@ -112,28 +140,13 @@ fn is_edited<T: BitStore, O: BitOrder<T> + Plain>(
 ) -> Result<bool, AllocError> {
     let list = start.list::<T, O>(alloc)?;
     let mut vector = start.vector::<T, O>(alloc)?;
-    let mut head = start.head;
-    let mut answered = true;
-    let mut added = List::of::<u16, Msb0>(&others()).cut(5, 13);
-    match edit {
-        Edit::Append | Edit::Extend | Edit::ExtendSlice => {
-            answered = extend(alloc, &mut vector, edit)?;
-        }
-        Edit::ExtendWords => {
-            answered = extend(alloc, &mut vector, edit)?;
-            added = List::of::<T, O>(mixed::<T>(alloc, 9)?.as_slice());
-        }
-        Edit::SplitOff(index) => answered = split(&mut vector, index, &list)?,
-        Edit::Reserve(_) | Edit::ReserveExact(_) | Edit::Shrink | Edit::Beside(_) => {
-            edit_beside(&mut vector, edit)?;
-        }
-        Edit::Align => {
-            edit_beside(&mut vector, edit)?;
-            head = 0;
-        }
-        _ => answered = edit_inside(&mut vector, edit)? == taken(edit, &list),
-    }
-    Ok(answered && shows(&vector, head, &edited(edit, &list, &added)))
+    let answered = make(alloc, &mut vector, edit, &list)?;
+    let head = match edit {
+        Edit::Align => 0,
+        _ => start.head,
+    };
+    let wanted = edited(edit, &list, &added::<T, O>(alloc, edit)?);
+    Ok(answered && shows(&vector, head, &wanted))
 }
 
 // Whether all edits of all starts are those of the lists.

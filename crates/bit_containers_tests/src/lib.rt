@@ -2,9 +2,9 @@
 #![tactic(auto)]
 
 #[cfg(test)]
-mod edits;
+mod compared;
 #[cfg(test)]
-mod generic;
+mod edits;
 #[cfg(test)]
 mod memory;
 #[cfg(test)]
@@ -13,5 +13,7 @@ mod plain;
 mod rows;
 #[cfg(test)]
 mod vectors;
+#[cfg(test)]
+mod windows;
 #[cfg(test)]
 mod words;

@@ -1,11 +1,12 @@
 -- Lists of bits that are read past their end as false.
-use Rattle.std.proofs.Common.{◌≡◌, ℕ, ◌+◌, ◌-◌, ◌<◌, ◌≤◌, ◌×◌, ◌||◌, Bool, false, true, not, List, ◌++◌, length, replicate}
-use Rattle.std.proofs.Common.{get_or, arith, ◌∙◌, sym, ap, inl, inr, refl, Some, None, position, ◌∷◌, []}
+use Rattle.std.proofs.Common.{◌≡◌, ℕ, ◌-◌, ◌<◌, ◌≤◌, ◌||◌, Bool, false, true, not, List, ◌++◌, length, replicate}
+use Rattle.std.proofs.Common.{get_or, arith, ◌∙◌, sym, ap, inl, inr, refl, Some, None, position}
 use Rattle.std.proofs.lemmas.Bool.{cases_lt}
 use Rattle.std.proofs.lemmas.List.{get_or_append_left, get_or-append_right, get_or_past, get_or-replicate, get_or-take, places}
 use Rattle.std.proofs.lemmas.List.Quantifiers.{position-Some}
 use Rattle.std.proofs.lemmas.List.Sums.{fails_before_first}
 use Rattle.std.proofs.lemmas.Simd.{get_or-zip2, length-zip2}
+use Rattle.bit_addressing.specs.Memory.{piece}
 use Rattle.bit_slice_scans.specs.Found.{is_bit}
 use Rattle.bit_slice_views.proofs.EndLemmas.{found_none}
 use Rattle.bit_slice_writes.specs.Combined.{combined, fitted}
@@ -55,13 +56,13 @@ not_false false e = sym e
 pub first_absent : (xs : List Bool) (i : ℕ) → position (is_bit false) xs ≡ Some i → get_or xs i false ≡ false
 first_absent xs i e =
     let found = position-Some (is_bit false) xs i false e in
-    not_true (get_or xs i false) found.1.0
+    not_true (get_or xs i false) found.1
 
 pub present_before : (xs : List Bool) (i : ℕ) → position (is_bit false) xs ≡ Some i
     → (k : ℕ) → k < i → get_or xs k false ≡ true
 present_before xs i e k low =
     let found = position-Some (is_bit false) xs i false e in
-    not_false (get_or xs k false) (found.1.1 k low)
+    not_false (get_or xs k false) (found.2 k low)
 
 -- where there is none
 pub all_present : (xs : List Bool) → position (is_bit false) xs ≡ None
@@ -69,5 +70,10 @@ pub all_present : (xs : List Bool) → position (is_bit false) xs ≡ None
 all_present xs e k low =
     let none = found_none (is_bit false) xs e in
     not_false (get_or xs k false) (fails_before_first (is_bit false) xs k false (omega arith))
+
+-- a piece is no longer than was asked
+pub piece_most : (xs : List Bool) (h n : ℕ) → length (piece xs h n) ≤ n
+unfolding piece
+piece_most xs h n = grind (arith, places)
 
 pub ruleset numbers = (padded, united)

@@ -25,14 +25,20 @@ impl<T: BitStore, O: BitOrder<T>> NumberSet<T, O> {
     pub fn new(alloc: Global) -> NumberSet<T, O>
         ensures { (n : ℕ) → is_in (read_by T.BitRegister O.position) result n ≡ false }
     {
-        NumberSet { bits: BitVec::new(alloc) }
+        NumberSet {
+            bits: BitVec::new(alloc),
+        }
     }
 
     /// Whether a number is in the set.
     pub fn contains(&self, n: usize) -> bool
         ensures { result ≡ is_in (read_by T.BitRegister O.position) self.now n }
     {
-        n < self.bits.len() && self.bits.bit(n)
+        if n < self.bits.len() {
+            self.bits.bit(n)
+        } else {
+            false
+        }
     }
 
     // Makes the list of bits at least so long, by zeros.

@@ -1,4 +1,4 @@
-use Rattle.std.proofs.Common.{◌≡◌, ℕ, ◌+◌, ◌-◌, ◌<◌, ◌≤◌, ◌++◌, Bool, false, length, get_or, replicate, ap, arith, sym, ◌∙◌}
+use Rattle.std.proofs.Common.{◌-◌, ◌<◌, false, length, get_or, ap, arith, ◌∙◌}
 use Rattle.std.proofs.lemmas.List.{places}
 use Rattle.bit_addressing.specs.Memory.{read_by}
 use Rattle.bit_containers_vector.specs.Vector.{vec_bits}

@@ -56,8 +56,20 @@ fn script(alloc: Global) -> Result<BitVec<u8, Msb0>, AllocError> {
     Ok(bits)
 }
 
+// The same with the four zeros at once.
+fn example(alloc: Global) -> Result<Vec<u8>, AllocError> {
+    let mut bits = BitVec::<u8, Msb0>::new(alloc);
+    bits.push(false)?;
+    bits.push(true)?;
+    bits.resize(6, false)?;
+    let fifteen = [15u8];
+    bits.extend_from_bitslice(&BitSlice::<u8, Lsb0>::from_place(&fifteen, 0, 4))?;
+    Ok(bits.into_vec())
+}
+
 #[test]
 fn bits_are_pushed_and_words_taken(rt: HostRuntime) -> Result<(), AllocError> {
+    assert!(rt; example(rt.alloc())?.as_slice() == [0b01_0000_11, 0b11_000000].as_slice());
     let bits = script(rt.alloc())?;
     assert!(rt; bits.len() == 10 && bits.count_ones() == 5);
     assert!(rt; bits.into_vec().as_slice() == [0b01_0000_11, 0b11_000000].as_slice());

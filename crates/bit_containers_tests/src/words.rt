@@ -15,7 +15,7 @@ fn whole<T: BitStore>(bits: usize) -> usize {
     bits.div_ceil(width).wrapping_mul(width)
 }
 
-// The bits of the visible words after an edit which says what they are: those that were visible stay, new ones are zero.
+// The bits of the visible words after an edit that says what they are: those visible before stay, new ones are zero.
 fn words_after<T: BitStore>(edit: Edit, head: usize, words: &List, list: &List) -> Option<List> {
     let size = whole::<T>(head.wrapping_add(list.len));
     match edit {

@@ -14,7 +14,7 @@ use bit_addressing::BitOrder;
 use bit_containers_vector::BitVec;
 use bit_slice_stores::BitStore;
 use bit_slice_views::{BitSlice, Bits};
-use std::alloc::{AllocError, Global};
+use std::alloc::{AllocError, AllocFailed, Global};
 use std::boxed::BoxedSlice;
 use std::ops::Not;
 
@@ -51,11 +51,12 @@ impl<T: BitStore, O: BitOrder<T>> BitBox<T, O> {
         Ok(BitBox { vector })
     }
 
-    /// The bits of a vector, in its words. It takes no memory.
-    pub fn from_bitvec(vector: BitVec<T, O>) -> BitBox<T, O>
-        ensures { boxed result ≡ vector }
+    /// The bits of a vector, in its words. It takes no memory, and so it is never refused.
+    pub fn from_vec(vector: BitVec<T, O>) -> Result<BitBox<T, O>, AllocFailed<BitVec<T, O>>>
+        ensures done { IsOk result }
+        ensures same { IfOk result (λ made. boxed made ≡ vector) }
     {
-        BitBox { vector }
+        Ok(BitBox { vector })
     }
 
     /// The bits that an iterator gives.

@@ -1,10 +1,10 @@
 -- Vectors of bits of which all visible words were written, or what stands beside the list.
 use Rattle.std.proofs.Common.{◌≡◌, ℕ, ◌+◌, ◌-◌, ◌*◌, ◌<◌, ◌≤◌, Bool, false, not, List, length, take, drop, map, replicate}
-use Rattle.std.proofs.Common.{get_or, arith, ap, ap₂, sym, ◌∙◌, refl, inl, inr}
+use Rattle.std.proofs.Common.{arith, ap, ap₂, sym, ◌∙◌, inl, inr}
 use Rattle.std.proofs.Math.Nat.{mul-le-mul_right}
 use Rattle.std.specs.Prelude.{vec_capacity}
 use Rattle.std.proofs.lemmas.List.{places, same_lists, length-replicate, get_or-replicate, length-take-le, drop-map, take-map}
-use Rattle.bit_addressing.specs.Memory.{Reading, entry, memory, piece, with_piece, Copies, Overwrites}
+use Rattle.bit_addressing.specs.Memory.{Reading, entry, memory, piece, with_piece, Overwrites}
 use Rattle.bit_addressing.specs.Moves.{Moves}
 use Rattle.bit_addressing_memory.proofs.MemoryLemmas.{length-memory, memory_overwritten}
 use Rattle.bit_addressing_memory.proofs.MemoryLemmas.{piece_all}

@@ -9,3 +9,4 @@ pub mod FillLemmas
 pub mod EditLemmas
 pub mod DrainLemmas
 pub mod ElementLemmas
+pub mod AnswerLemmas

@@ -1,8 +1,8 @@
 -- A list whose elements are set one after another: `all_set`.
-use Rattle.std.proofs.Common.{◌≡◌, ℕ, ◌+◌, ◌<◌, List, ◌++◌, length, drop, replicate, set, get_or, arith, sym, ◌∙◌, inl, inr}
-use Rattle.std.proofs.Common.{length-append, length-set, get_or-set_same, get_or-set_other, refl, [], ◌≤◌}
+use Rattle.std.proofs.Common.{◌≡◌, ℕ, ◌+◌, ◌<◌, List, ◌++◌, length, drop, replicate, set, arith, ◌∙◌, inl, inr}
+use Rattle.std.proofs.Common.{length-set, get_or-set_same, get_or-set_other, refl, ◌≤◌}
 use Rattle.std.proofs.lemmas.Bool.{cases_eq}
-use Rattle.std.proofs.lemmas.List.{ext_get_or, places, same_lists, drop_all, length-replicate, length-drop}
+use Rattle.std.proofs.lemmas.List.{places, same_lists}
 
 -- none
 pub set_none : {X : Type 0} (xs : List X) (y : X) → xs ≡ replicate 0 y ++ drop 0 xs

@@ -1,5 +1,5 @@
 -- Vectors of bits whose words stay.
-use Rattle.std.proofs.Common.{◌≡◌, ℕ, ◌+◌, ◌-◌, ◌*◌, ◌<◌, ◌≤◌, Bool, List, length, take, drop, arith, ap, ap₂, sym, ◌∙◌, inl, inr}
+use Rattle.std.proofs.Common.{◌≡◌, ℕ, ◌+◌, ◌-◌, ◌*◌, ◌<◌, ◌≤◌, Bool, List, length, take, arith, ap, ap₂, sym, ◌∙◌, inl, inr}
 use Rattle.std.proofs.Math.Nat.{mul-le-mul_right}
 use Rattle.std.proofs.lemmas.Bool.{cases_lt}
 use Rattle.std.proofs.lemmas.List.{places, same_lists, take-take, take_all, length-take-le}
@@ -8,7 +8,7 @@ use Rattle.bit_addressing.specs.Memory.{Reading, memory, piece}
 use Rattle.bit_addressing_memory.proofs.MemoryLemmas.{length-memory, piece_all}
 use Rattle.bit_addressing_memory.proofs.WindowLemmas.{length-window}
 use Rattle.bit_containers_vector.specs.Count.{words_for}
-use Rattle.bit_containers_vector.specs.Vector.{IsAsBefore, IsSame, HasRoomFor, Shortens, Shows, vec_bits, visible, room}
+use Rattle.bit_containers_vector.specs.Vector.{IsAsBefore, Shortens, Shows, vec_bits, visible, room}
 use Rattle.bit_containers_vector.specs.declared.vector.BitVec.{BitVec}
 use Rattle.bit_containers_vector.proofs.CountLemmas.{words_hold, words_within, words_more}
 use Rattle.bit_containers_vector.proofs.GrownLemmas.{piece_taken}

@@ -1,5 +1,5 @@
 -- The word without digits.
-use Rattle.std.proofs.Common.{◌≡◌, ℕ, Bool, false, ap, ◌∙◌}
+use Rattle.std.proofs.Common.{◌≡◌, ℕ, false, ap, ◌∙◌}
 use Rattle.std.specs.Prelude.{◌==◌}
 use Rattle.std.proofs.lemmas.Nat.Bits.{bit_at-zero}
 use Rattle.bit_addressing.specs.Memory.{indexed}

@@ -5,3 +5,4 @@ pub mod Fill
 pub mod Drained
 pub mod Spliced
 pub mod Answers
+pub mod SliceFault

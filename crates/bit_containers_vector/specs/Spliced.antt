@@ -2,7 +2,7 @@
 --
 -- What a `Splice` has: `splice_vector` (the vector as it is now), `splice_loan`, `splice_place`, `splice_items`, and the
 -- bits that are gone and still to come, `gone_bits`. How it goes on: `CanStep`, `Steps`, `StepsBack`.
-use Rattle.std.specs.Prelude.{ℕ, ◌≡◌, ◌+◌, ◌-◌, ◌*◌, ◌≤◌, ◌++◌, ◌∷◌, [], Bool, List, length, Option, MatchOption}
+use Rattle.std.specs.Prelude.{ℕ, ◌≡◌, ◌-◌, ◌*◌, ◌≤◌, ◌++◌, ◌∷◌, [], Bool, List, length, Option, MatchOption}
 use Rattle.bit_addressing.specs.Memory.{Reading, memory, piece}
 use Rattle.bit_containers_vector.specs.Vector.{vec_words}
 use Rattle.bit_containers_vector.specs.declared.vector.BitVec.{BitVec}

@@ -2,6 +2,7 @@
 #![tactic(auto)]
 
 mod compare;
+mod convert;
 mod drain;
 mod edits;
 mod fill;
@@ -10,11 +11,13 @@ mod items;
 mod make;
 mod operators;
 mod size;
+mod slice_fault;
 mod splice;
 mod text;
 mod vector;
 mod words;
 
 pub use drain::Drain;
+pub use slice_fault::SliceFault;
 pub use splice::Splice;
 pub use vector::BitVec;

@@ -10,7 +10,13 @@ use bit_slice_views::Bits;
 use bit_slice_writes::{BitSliceMut, BitsWindow};
 
 // Stores a number in a part of a window, and loads it again.
-fn in_part<V: BitFieldMut + BitsWindow>(view: &mut V, from: usize, len: usize, value: u16, le: bool) -> u16
+fn in_part<V: BitFieldMut + BitsWindow>(
+    view: &mut V,
+    from: usize,
+    len: usize,
+    value: u16,
+    le: bool,
+) -> u16
     requires some { 0 < len }
     requires room { len ≤ 16 }
     requires fits { from + len ≤ length (V.bits view.old) }

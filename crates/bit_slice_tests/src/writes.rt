@@ -43,7 +43,13 @@ fn edit_first<V: BitsWindow, W: Bits>(edit: Edit, view: &mut V, len: usize, by: 
 }
 
 // Makes an edit of a stretch of a window.
-fn edit_part<V: BitsWindow, W: Bits>(edit: Edit, view: &mut V, stretch: Stretch, by: usize, other: &W)
+fn edit_part<V: BitsWindow, W: Bits>(
+    edit: Edit,
+    view: &mut V,
+    stretch: Stretch,
+    by: usize,
+    other: &W,
+)
     requires { stretch.place + stretch.len ≤ length (V.bits view.old) }
 {
     let mut pair = view.split_at_mut(stretch.place);

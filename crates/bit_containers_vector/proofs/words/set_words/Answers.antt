@@ -1,4 +1,4 @@
-use Rattle.std.proofs.Common.{◌≡◌, ap, arith, sym, ◌∙◌, length-set, set}
+use Rattle.std.proofs.Common.{ap, arith, ◌∙◌, length-set, set}
 use Rattle.bit_containers_vector.proofs.SetLemmas.{set_more}
 use Rattle.bit_containers_vector.proofs.words.set_words.Goals as goal
 

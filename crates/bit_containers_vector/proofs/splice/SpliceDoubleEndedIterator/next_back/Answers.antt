@@ -1,4 +1,4 @@
-use Rattle.std.proofs.Common.{◌≡◌, ℕ, ◌+◌, ◌-◌, ◌*◌, ◌<◌, ◌≤◌, length, arith, refl}
+use Rattle.std.proofs.Common.{◌-◌, ◌<◌, arith, refl}
 use Rattle.bit_addressing.specs.Memory.{memory, read_by}
 use Rattle.bit_addressing_memory.proofs.MemoryLemmas.{piece_none}
 use Rattle.bit_containers_vector.proofs.DrainLemmas.{last_gone}

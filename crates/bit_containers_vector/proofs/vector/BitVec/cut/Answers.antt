@@ -1,4 +1,4 @@
-use Rattle.std.proofs.Common.{◌≡◌, ℕ, ◌+◌, ◌-◌, ◌*◌, ◌<◌, ◌≤◌, length, arith, refl}
+use Rattle.std.proofs.Common.{arith, refl}
 use Rattle.bit_addressing.specs.Memory.{read_by}
 use Rattle.bit_containers_vector.proofs.DrainLemmas.{cut_off}
 use Rattle.bit_containers_vector.proofs.WordLemmas.{length-bits}

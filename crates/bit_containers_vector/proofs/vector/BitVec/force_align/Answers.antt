@@ -1,7 +1,5 @@
-use Rattle.std.proofs.Common.{◌≡◌, ℕ, ◌+◌, ◌-◌, ◌*◌, ◌<◌, ◌≤◌, Bool, List, length, take, replicate, ap, ap₂, sym, ◌∙◌}
-use Rattle.std.proofs.Common.{arith, refl, get_or}
-use Rattle.bit_addressing.specs.Memory.{entry, memory, piece, read_by}
-use Rattle.bit_containers_vector.specs.Count.{words_for}
+use Rattle.std.proofs.Common.{arith, refl}
+use Rattle.bit_addressing.specs.Memory.{read_by}
 use Rattle.bit_containers_vector.proofs.FillLemmas.{aligned}
 use Rattle.bit_containers_vector.proofs.vector.BitVec.force_align.Goals as goal
 

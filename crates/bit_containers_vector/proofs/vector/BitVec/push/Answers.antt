@@ -1,4 +1,4 @@
-use Rattle.std.proofs.Common.{◌≡◌, ℕ, ◌+◌, ◌<◌, ◌∷◌, [], ap, refl, arith, Bool, false, get_or, ◌∙◌}
+use Rattle.std.proofs.Common.{◌≡◌, ◌∷◌, [], refl, arith}
 use Rattle.bit_addressing.specs.Memory.{read_by}
 use Rattle.bit_containers_vector.proofs.WordLemmas.{extends}
 use Rattle.bit_containers_vector.proofs.ZeroLemmas.{zero_digit}

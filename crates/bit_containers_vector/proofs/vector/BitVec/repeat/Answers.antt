@@ -1,7 +1,6 @@
-use Rattle.std.proofs.Common.{◌≡◌, ℕ, ◌+◌, ◌-◌, ◌*◌, ◌<◌, ◌≤◌, Bool, List, length, take, replicate, ap, ap₂, sym, ◌∙◌}
-use Rattle.std.proofs.Common.{arith, refl, get_or}
-use Rattle.bit_addressing.specs.Memory.{memory, piece, read_by}
-use Rattle.bit_containers_vector.specs.Count.{words_for}
+use Rattle.std.proofs.Common.{◌*◌, ap₂}
+use Rattle.std.proofs.Common.{arith}
+use Rattle.bit_addressing.specs.Memory.{read_by}
 use Rattle.bit_containers_vector.proofs.MadeLemmas.{filled_all}
 use Rattle.bit_containers_vector.proofs.vector.BitVec.repeat.Goals as goal
 

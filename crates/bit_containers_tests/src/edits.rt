@@ -1,0 +1,182 @@
+//! Each edit of a vector, from each head on, against the same edit of a plain list.
+
+use crate::plain::{EDITS, Edit, List, Plain, edited, fits, repeated, taken};
+use crate::vectors::{STARTS, Start, mixed, shows};
+use bit_addressing::{BitOrder, Lsb0, Msb0};
+use bit_containers_vector::BitVec;
+use bit_slice_stores::BitStore;
+use bit_slice_views::{BitSlice, Bits};
+use bit_slice_writes::BitsMut;
+use std::alloc::{AllocError, Global};
+
+// The list of 13 bits that is appended: in words of another width and order, and those of a word of the same.
+fn others() -> [u16; 2] {
+    [0xb5c3, 0x0f1e]
+}
+
+// Makes an edit that adds the bits of a list.
+fn extend<T: BitStore, O: BitOrder<T>>(
+    alloc: Global,
+    vector: &mut BitVec<T, O>,
+    edit: Edit,
+) -> Result<bool, AllocError> {
+    let words = others();
+    let view = BitSlice::<u16, Msb0>::from_place(&words, 5, 13);
+    if vector.len() > 100 {
+        return Ok(false);
+    }
+    match edit {
+        Edit::Append => {
+            let mut other = BitVec::<u16, Msb0>::from_bitslice(alloc, view)?;
+            vector.append(&mut other)?;
+            return Ok(shows(&other, 5, &repeated(false, 0)));
+        }
+        Edit::Extend => vector.extend_from_bitslice(&view)?,
+        Edit::ExtendSlice => vector.extend_from_slice(&view)?,
+        _ => {
+            let words = mixed::<T>(alloc, 9)?;
+            let words = words.as_slice();
+            if words.len().saturating_mul(T::BITS as usize) > 1000 {
+                return Ok(false);
+            }
+            vector.extend_from_raw_slice(words)?;
+        }
+    }
+    Ok(true)
+}
+
+// Cuts a vector in two, and says whether the second part is so.
+fn split<T: BitStore, O: BitOrder<T> + Plain>(
+    vector: &mut BitVec<T, O>,
+    index: usize,
+    list: &List,
+) -> Result<bool, AllocError> {
+    if index > vector.len() {
+        return Ok(false);
+    }
+    let head = vector.first_place().wrapping_add(index) % T::BITS as usize;
+    let rest = vector.split_off(index)?;
+    Ok(shows(&rest, head, &list.cut(index, list.len.wrapping_sub(index))))
+}
+
+// Makes an edit of a part of the list, or of one bit, and answers the bit that it takes out.
+fn edit_inside<T: BitStore, O: BitOrder<T>>(
+    vector: &mut BitVec<T, O>,
+    edit: Edit,
+) -> Result<Option<bool>, AllocError> {
+    let len = vector.len();
+    if len > 100 {
+        return Ok(None);
+    }
+    match edit {
+        Edit::Push(bit) => vector.push(bit)?,
+        Edit::Insert(index, bit) if index <= len => vector.insert(index, bit)?,
+        Edit::Remove(index) if index < len => return Ok(Some(vector.remove(index))),
+        Edit::SwapRemove(index) if index < len => return Ok(Some(vector.swap_remove(index))),
+        Edit::Pop => return Ok(vector.pop()),
+        Edit::Truncate(wanted) => vector.truncate(wanted),
+        Edit::Clear => vector.clear(),
+        Edit::Resize(wanted, bit) if wanted <= 100 => vector.resize(wanted, bit)?,
+        Edit::ExtendWithin(from, upto) if from <= upto && upto <= len => {
+            vector.extend_from_within(from..upto)?
+        }
+        _ => {}
+    }
+    Ok(None)
+}
+
+// Makes an edit that leaves the list.
+fn edit_beside<T: BitStore, O: BitOrder<T>>(
+    vector: &mut BitVec<T, O>,
+    edit: Edit,
+) -> Result<(), AllocError> {
+    if vector.len() > 100 {
+        return Ok(());
+    }
+    match edit {
+        Edit::Reserve(more) if more <= 100 => vector.reserve(more)?,
+        Edit::ReserveExact(more) if more <= 100 => vector.reserve_exact(more)?,
+        Edit::Shrink => vector.shrink_to_fit()?,
+        Edit::Align => vector.force_align(),
+        Edit::Beside(bit) => vector.set_uninitialized(bit),
+        _ => {}
+    }
+    Ok(())
+}
+
+/// Makes an edit of a vector that shows a list, and says whether it answered as the list does.
+pub fn make<T: BitStore, O: BitOrder<T> + Plain>(
+    alloc: Global,
+    vector: &mut BitVec<T, O>,
+    edit: Edit,
+    list: &List,
+) -> Result<bool, AllocError> {
+    match edit {
+        Edit::Append | Edit::Extend | Edit::ExtendSlice | Edit::ExtendWords => {
+            extend(alloc, vector, edit)
+        }
+        Edit::SplitOff(index) => split(vector, index, list),
+        Edit::Reserve(_) | Edit::ReserveExact(_) | Edit::Shrink | Edit::Align | Edit::Beside(_) => {
+            edit_beside(vector, edit)?;
+            Ok(true)
+        }
+        _ => Ok(edit_inside(vector, edit)? == taken(edit, list)),
+    }
+}
+
+/// The bits that an edit appends which takes them from elsewhere.
+pub fn added<T: BitStore, O: Plain>(alloc: Global, edit: Edit) -> Result<List, AllocError> {
+    match edit {
+        Edit::ExtendWords => Ok(List::of::<T, O>(mixed::<T>(alloc, 9)?.as_slice())),
+        _ => Ok(List::of::<u16, Msb0>(&others()).cut(5, 13)),
+    }
+}
+
+// Whether an edit of a vector is that of its list.
+fn is_edited<T: BitStore, O: BitOrder<T> + Plain>(
+    alloc: Global,
+    start: Start,
+    edit: Edit,
+) -> Result<bool, AllocError> {
+    let list = start.list::<T, O>(alloc)?;
+    let mut vector = start.vector::<T, O>(alloc)?;
+    let answered = make(alloc, &mut vector, edit, &list)?;
+    let head = match edit {
+        Edit::Align => 0,
+        _ => start.head,
+    };
+    let wanted = edited(edit, &list, &added::<T, O>(alloc, edit)?);
+    Ok(answered && shows(&vector, head, &wanted))
+}
+
+// Whether all edits of all starts are those of the lists.
+fn all_edited<T: BitStore, O: BitOrder<T> + Plain>(alloc: Global) -> Result<bool, AllocError> {
+    for k in 0..STARTS {
+        let start = Start::nth(k);
+        for edit in EDITS {
+            if fits(edit, start.len) && !is_edited::<T, O>(alloc, start, edit)? {
+                return Ok(false);
+            }
+        }
+    }
+    Ok(true)
+}
+
+#[test]
+fn edits_of_bytes_counted_from_the_lowest(rt: HostRuntime) -> Result<(), AllocError> {
+    assert!(rt; all_edited::<u8, Lsb0>(rt.alloc())?);
+    Ok(())
+}
+
+#[test]
+fn edits_of_bytes_counted_from_the_highest(rt: HostRuntime) -> Result<(), AllocError> {
+    assert!(rt; all_edited::<u8, Msb0>(rt.alloc())?);
+    Ok(())
+}
+
+#[test]
+fn edits_of_wider_words(rt: HostRuntime) -> Result<(), AllocError> {
+    assert!(rt; all_edited::<u32, Lsb0>(rt.alloc())?);
+    assert!(rt; all_edited::<u16, Msb0>(rt.alloc())?);
+    Ok(())
+}

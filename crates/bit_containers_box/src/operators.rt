@@ -1,0 +1,91 @@
+//! The operators of Rust on boxes of bits, with whatever shows bits of the same words and order on the right.
+
+ghost use Rattle.std.specs.Prelude.{◌≡◌, ◌&&◌, ◌||◌};
+ghost use Rattle.std.specs.Bool.{xor};
+ghost use Rattle.bit_addressing.specs.Memory.{read_by};
+ghost use Rattle.bit_containers_box.specs.Box.{boxed};
+ghost use Rattle.bit_containers_vector.specs.Vector.{Combines};
+
+use crate::boxed::BitBox;
+use bit_addressing::{BitOrder, BitRegister};
+use bit_slice_paths::WordPaths;
+use bit_slice_stores::BitStore;
+use bit_slice_views::Bits;
+use std::ops::{BitAnd, BitAndAssign, BitOr, BitOrAssign, BitXor, BitXorAssign};
+
+/// Each bit becomes what it and the other's bit are both; those past the other's end are cleared.
+impl<T: BitStore, O: WordPaths<T>, V: Bits<Store = T, Order = O> + Drop> BitAndAssign<V>
+    for BitBox<T, O> {
+    ghost bitand_assign_gives = { λ before other after.
+        Combines (read_by T.BitRegister O.position) (λ a b. a && b) (boxed before) (V.bits other) (boxed after) };
+
+    fn bitand_assign(&mut self, other: V) {
+        self.vector &= other;
+    }
+}
+
+/// What `&=` makes of the box.
+impl<T: BitStore, O: WordPaths<T>, V: Bits<Store = T, Order = O> + Drop> BitAnd<V>
+    for BitBox<T, O> {
+    type Output = BitBox<T, O>;
+
+    ghost bitand_gives = { λ before other after.
+        Combines (read_by T.BitRegister O.position) (λ a b. a && b) (boxed before) (V.bits other) (boxed after) };
+
+    fn bitand(self, other: V) -> BitBox<T, O> {
+        let mut combined = self;
+        combined.vector &= other;
+        combined
+    }
+}
+
+/// Each bit becomes what it or the other's bit is; those past the other's end stay.
+impl<T: BitStore, O: WordPaths<T>, V: Bits<Store = T, Order = O> + Drop> BitOrAssign<V>
+    for BitBox<T, O> {
+    ghost bitor_assign_gives = { λ before other after.
+        Combines (read_by T.BitRegister O.position) (λ a b. a || b) (boxed before) (V.bits other) (boxed after) };
+
+    fn bitor_assign(&mut self, other: V) {
+        self.vector |= other;
+    }
+}
+
+/// What `|=` makes of the box.
+impl<T: BitStore, O: WordPaths<T>, V: Bits<Store = T, Order = O> + Drop> BitOr<V> for BitBox<T, O> {
+    type Output = BitBox<T, O>;
+
+    ghost bitor_gives = { λ before other after.
+        Combines (read_by T.BitRegister O.position) (λ a b. a || b) (boxed before) (V.bits other) (boxed after) };
+
+    fn bitor(self, other: V) -> BitBox<T, O> {
+        let mut combined = self;
+        combined.vector |= other;
+        combined
+    }
+}
+
+/// Each bit becomes whether it and the other's bit differ; those past the other's end stay.
+impl<T: BitStore, O: WordPaths<T>, V: Bits<Store = T, Order = O> + Drop> BitXorAssign<V>
+    for BitBox<T, O> {
+    ghost bitxor_assign_gives = { λ before other after.
+        Combines (read_by T.BitRegister O.position) xor (boxed before) (V.bits other) (boxed after) };
+
+    fn bitxor_assign(&mut self, other: V) {
+        self.vector ^= other;
+    }
+}
+
+/// What `^=` makes of the box.
+impl<T: BitStore, O: WordPaths<T>, V: Bits<Store = T, Order = O> + Drop> BitXor<V>
+    for BitBox<T, O> {
+    type Output = BitBox<T, O>;
+
+    ghost bitxor_gives = { λ before other after.
+        Combines (read_by T.BitRegister O.position) xor (boxed before) (V.bits other) (boxed after) };
+
+    fn bitxor(self, other: V) -> BitBox<T, O> {
+        let mut combined = self;
+        combined.vector ^= other;
+        combined
+    }
+}

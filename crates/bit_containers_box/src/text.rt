@@ -1,0 +1,79 @@
+//! The texts of boxes of bits, and a bit by its index.
+
+ghost use Rattle.std.specs.Prelude.{◌≡◌, ◌<◌, false, true, length, slice_index_or, Some};
+ghost use Rattle.std.specs.Fmt.{WritesOnOk};
+ghost use Rattle.bit_addressing.specs.Memory.{read_by};
+ghost use Rattle.bit_slice_views.specs.Texts.{bits_text, groups_text};
+ghost use Rattle.bit_containers_box.specs.Box.{box_bits};
+
+use crate::boxed::BitBox;
+use bit_addressing::{BitOrder, BitRegister};
+use bit_slice_stores::BitStore;
+use bit_slice_views::{Bits, write_bits, write_groups};
+use std::fmt;
+use std::ops::Index;
+
+impl<T: BitStore, O: BitOrder<T>> fmt::Display for BitBox<T, O> {
+    ghost output = { λ box. Some (bits_text (box_bits (read_by T.BitRegister O.position) box)) };
+
+    fn fmt<W: fmt::Write>(&self, f: &mut fmt::Formatter<W>) -> fmt::Result {
+        write_bits(self, f)
+    }
+}
+
+impl<T: BitStore, O: BitOrder<T>> fmt::Debug for BitBox<T, O> {
+    ghost debug_output = { λ box. Some (bits_text (box_bits (read_by T.BitRegister O.position) box)) };
+
+    fn fmt<W: fmt::Write>(&self, f: &mut fmt::Formatter<W>) -> fmt::Result {
+        fmt::Display::fmt(self, f)
+    }
+}
+
+impl<T: BitStore, O: BitOrder<T>> fmt::Binary for BitBox<T, O> {
+    fn fmt<W: fmt::Write>(&self, f: &mut fmt::Formatter<W>) -> fmt::Result
+        ensures { WritesOnOk W.write_str_gives f.old result
+            (bits_text (box_bits (read_by T.BitRegister O.position) self.now)) f.new }
+    {
+        fmt::Debug::fmt(self, f)
+    }
+}
+
+impl<T: BitStore, O: BitOrder<T>> fmt::Octal for BitBox<T, O> {
+    fn fmt<W: fmt::Write>(&self, f: &mut fmt::Formatter<W>) -> fmt::Result
+        ensures { WritesOnOk W.write_str_gives f.old result
+            (groups_text 3 false (box_bits (read_by T.BitRegister O.position) self.now)) f.new }
+    {
+        write_groups(self, 3, false, f)
+    }
+}
+
+impl<T: BitStore, O: BitOrder<T>> fmt::LowerHex for BitBox<T, O> {
+    fn fmt<W: fmt::Write>(&self, f: &mut fmt::Formatter<W>) -> fmt::Result
+        ensures { WritesOnOk W.write_str_gives f.old result
+            (groups_text 4 false (box_bits (read_by T.BitRegister O.position) self.now)) f.new }
+    {
+        write_groups(self, 4, false, f)
+    }
+}
+
+impl<T: BitStore, O: BitOrder<T>> fmt::UpperHex for BitBox<T, O> {
+    fn fmt<W: fmt::Write>(&self, f: &mut fmt::Formatter<W>) -> fmt::Result
+        ensures { WritesOnOk W.write_str_gives f.old result
+            (groups_text 4 true (box_bits (read_by T.BitRegister O.position) self.now)) f.new }
+    {
+        write_groups(self, 4, true, f)
+    }
+}
+
+impl<T: BitStore, O: BitOrder<T>> Index<usize> for BitBox<T, O> {
+    type Output = bool;
+
+    ghost can_index = { λ box i. i < length (box_bits (read_by T.BitRegister O.position) box) };
+
+    ghost index_gives = { λ box i bit.
+        bit ≡ slice_index_or (box_bits (read_by T.BitRegister O.position) box) i false };
+
+    fn index(&self, i: usize) -> &bool {
+        if self.bit(i) { &true } else { &false }
+    }
+}

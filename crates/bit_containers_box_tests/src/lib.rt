@@ -1,0 +1,5 @@
+//! The tests of boxes of bits.
+#![tactic(auto)]
+
+#[cfg(test)]
+mod boxes;

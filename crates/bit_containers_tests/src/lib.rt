@@ -14,6 +14,8 @@ mod plain;
 #[cfg(test)]
 mod rows;
 #[cfg(test)]
+mod taken;
+#[cfg(test)]
 mod vectors;
 #[cfg(test)]
 mod windows;

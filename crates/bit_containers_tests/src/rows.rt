@@ -9,8 +9,8 @@ use std::fmt;
 use std::process::Abort;
 use std::test::Fail;
 
-// A vector of these bits, pushed one by one.
-fn vector(alloc: Global, bits: &[bool]) -> Result<BitVec<u8, Msb0>, AllocError> {
+/// A vector of these bits, pushed one by one.
+pub fn vector(alloc: Global, bits: &[bool]) -> Result<BitVec<u8, Msb0>, AllocError> {
     let mut made = BitVec::new(alloc);
     for bit in bits {
         if made.len() > 100 {
@@ -30,8 +30,8 @@ fn row(digits: u32, len: usize) -> [bool; 8] {
     bits
 }
 
-// Whether a vector has the bits that these digits are, the first one in front.
-fn has(vector: &BitVec<u8, Msb0>, digits: u32, len: usize) -> bool {
+/// Whether a vector has the bits that these digits are, the first one in front.
+pub fn has(vector: &BitVec<u8, Msb0>, digits: u32, len: usize) -> bool {
     let bits = row(digits, len);
     for k in 0..vector.len() {
         if k >= 8 || vector.bit(k) != bits[k] {

@@ -1,0 +1,4 @@
+pub mod Names
+pub mod Commands
+pub mod CommandSteps
+pub mod Replies

@@ -1,2 +1,3 @@
 mod ReadingLemmas
 mod ReplyLemmas
+mod CauseLemmas

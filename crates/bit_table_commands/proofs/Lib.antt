@@ -1,3 +1,5 @@
 mod ReadingLemmas
 mod ReplyLemmas
 mod CauseLemmas
+mod ValueLemmas
+mod CutLemmas

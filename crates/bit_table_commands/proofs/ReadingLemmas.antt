@@ -1,9 +1,9 @@
 -- The words of an insertion, read word by word.
-use Rattle.std.proofs.Common.{◌≡◌, ◌≢◌, ℕ, zero, suc, ◌-◌, ◌==◌, ◌&&◌, Bool, true, false, cond, ℤ, List, [], ◌∷◌}
+use Rattle.std.proofs.Common.{◌≡◌, ◌≢◌, ℕ, zero, suc, ◌-◌, ◌==◌, ◌&&◌, Bool, true, false, ℤ, List, [], ◌∷◌}
 use Rattle.std.proofs.Common.{length, map, Option, None, Some, option_map, option_and_then}
 use Rattle.std.proofs.Common.{is_some, unwrap_or, refl, sym, ap, ◌∙◌, arith, pos}
 use Rattle.std.proofs.lemmas.Bool.Decides.{nat_tests}
-use Rattle.bit_table_layout.specs.Numerals.{is_number, number_in, whole_number_in}
+use Rattle.bit_table_layout.specs.Numerals.{number_in, whole_number_in}
 use Rattle.bit_table_layout.specs.Layouts.{LayoutShape}
 use Rattle.bit_table_commands.specs.declared.command.Command.{Command}
 use Rattle.bit_table_commands.specs.declared.command.Command.TheVariants.{Insert}

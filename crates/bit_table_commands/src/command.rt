@@ -17,9 +17,15 @@ pub type Values = Items<i128>;
 #[derive(Debug, Drop, PartialEq, Eq)]
 pub enum Command {
     /// A new row of these values, one a field, before the row of this number.
-    Insert { place: u64, values: Values },
+    Insert {
+        place: u64,
+        values: Values,
+    },
     /// Rows from `start` up to `upto` go.
-    Delete { start: u64, upto: u64 },
+    Delete {
+        start: u64,
+        upto: u64,
+    },
     /// The number of a field of a row becomes this value; a name that the layout lacks is no field.
     Set {
         row: u64,
@@ -27,15 +33,31 @@ pub enum Command {
         value: i128,
     },
     /// The numbers of a row.
-    Get { row: u64 },
+    Get {
+        row: u64,
+    },
     /// Rows from `start` up to `upto`, as they were, over the rows from `place` on.
-    Copy { start: u64, upto: u64, place: u64 },
+    Copy {
+        start: u64,
+        upto: u64,
+        place: u64,
+    },
     /// Two rows, or one and itself, exchanged.
-    Swap { row: u64, other: u64 },
+    Swap {
+        row: u64,
+        other: u64,
+    },
     /// Rows from `start` up to `upto` turned left by `amount` rows.
-    Rotate { start: u64, upto: u64, amount: u64 },
+    Rotate {
+        start: u64,
+        upto: u64,
+        amount: u64,
+    },
     /// Rows from `start` up to `upto` once more behind the last row.
-    Dup { start: u64, upto: u64 },
+    Dup {
+        start: u64,
+        upto: u64,
+    },
     /// The image line.
     Image,
 }

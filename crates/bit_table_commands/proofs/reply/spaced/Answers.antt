@@ -1,4 +1,4 @@
-use Rattle.std.proofs.Common.{◌≡◌, sym, ap, ◌∙◌, ◌++◌, rules}
+use Rattle.std.proofs.Common.{◌≡◌, ap, ◌∙◌, ◌++◌}
 use Rattle.std.specs.Fmt.{signed_decimal}
 use Rattle.bit_table_commands.proofs.ReplyLemmas.{spaced-of}
 use Rattle.bit_table_commands.proofs.reply.spaced.Goals as goal

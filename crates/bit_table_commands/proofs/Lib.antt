@@ -1,5 +1,7 @@
 mod ReadingLemmas
 mod ReplyLemmas
-mod CauseLemmas
-mod ValueLemmas
-mod CutLemmas
+pub mod CauseLemmas
+pub mod ValueLemmas
+pub mod CutLemmas
+pub mod CallerLemmas
+mod KnownRows

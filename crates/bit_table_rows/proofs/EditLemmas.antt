@@ -1,16 +1,18 @@
 -- What the steps of an edit make of a list of rows of w bits each.
 --
--- A vector: `rows_opened`, `row_filled`, `rows_removed`. A window: `turned_part`, `window_part`, `window_exchanged`.
-use Rattle.std.proofs.Common.{◌≡◌, ◌⊎◌, inl, inr, ℕ, ◌+◌, ◌-◌, ◌*◌, ◌<◌, ◌≤◌, Bool, false, List, ◌++◌, length, take, drop}
+-- A vector: `rows_opened`, `row_filled`, `rows_removed`, `range_is`. A window: `copied_part`, `turned_part`,
+-- `window_part`, `window_exchanged`.
+use Rattle.std.proofs.Common.{◌≡◌, inl, inr, ℕ, ◌+◌, ◌-◌, ◌*◌, ◌<◌, ◌≤◌, Bool, false, List, ◌++◌, length, take, drop}
 use Rattle.std.proofs.Common.{get_or, arith, refl, ap, ap₂, sym, ◌∙◌}
+use Rattle.std.specs.Prelude.{slice_range}
 use Rattle.std.proofs.lemmas.Bool.{cases_lt}
 use Rattle.std.proofs.lemmas.List.{append_assoc, places, same_lists}
 use Rattle.bit_addressing.specs.Memory.{Reading, entry, memory, piece, with_piece, Overwrites, Swaps}
-use Rattle.bit_addressing.proofs.MemoryLemmas.{length-piece, length-with_piece}
+use Rattle.bit_addressing.proofs.MemoryLemmas.{length-piece}
 use Rattle.bit_addressing.proofs.WindowLemmas.{length-window, window_bit, window_is, window_overwritten}
 use Rattle.bit_table_moves.specs.RowMoves.{rows_moved}
-use Rattle.bit_table_rows.specs.RowEdits.{inserted, deleted, exchanged, turned, Opens}
-use Rattle.bit_table_rows.proofs.PlaceLemmas.{place_order, place_apart, place_behind, place_next}
+use Rattle.bit_table_rows.specs.RowEdits.{inserted, deleted, copied, exchanged, turned, Opens}
+use Rattle.bit_table_rows.proofs.PlaceLemmas.{place_order, place_apart, place_next}
 
 -- ---- a vector
 
@@ -56,7 +58,22 @@ rows_removed xs p q n w left order within rows is =
     let lower = place_order p q w order in
     removed xs (p * w) (q * w) ((n - q) * w) left lower (omega arith) (omega arith) (omega arith)
 
+-- a piece by its two ends
+pub range_is : (xs : List Bool) (a b : ℕ) → piece xs a (b - a) ≡ slice_range xs a b
+unfolding piece
+range_is xs a b = refl
+
 -- ---- a window
+
+-- a part copied over another
+pub copied_part : (xs : List Bool) (a b c : ℕ) → a ≤ b → b ≤ length xs
+    → with_piece xs c (piece xs a (b - a)) ≡ copied xs a b c
+unfolding with_piece
+copied_part xs a b c order inside =
+    let ys = piece xs a (b - a) in
+    let size : length ys ≡ b - a = length-piece xs a (b - a) (omega arith) in
+    append_assoc (take c xs) ys (drop (c + length ys) xs)
+    ∙ ap₂ (λ part n. take c xs ++ (part ++ drop (c + n) xs)) (range_is xs a b) size
 
 -- a part of it overwritten is that part, as it is now, written over
 pub window_part : {R : Type 0} (reading : Reading R) (before after : List R) (place n p i m : ℕ) (now : ℕ → Bool)

@@ -1,4 +1,5 @@
 pub mod RowEdits
+pub mod RowLists
 -- the words of moves, vectors, windows and memories
 pub use Rattle.bit_table_moves.specs.RowMoves
 pub use Rattle.bit_containers_vector.specs.Vector

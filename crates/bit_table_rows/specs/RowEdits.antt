@@ -2,7 +2,7 @@
 -- p begins at p * w; of a list of rows, at p. So one word says what an edit makes of the bits and of the rows.
 --
 -- More: `inserted`, `repeated`. Fewer: `deleted`. As many: `copied`, `exchanged`, `turned`.
-use Rattle.std.specs.Prelude.{ℕ, ◌≡◌, ◌+◌, ◌-◌, List, ◌++◌, length, take, drop}
+use Rattle.std.specs.Prelude.{ℕ, ◌≡◌, ◌+◌, ◌-◌, List, ◌++◌, take, drop, slice_range}
 use Rattle.bit_addressing.specs.Memory.{piece, with_piece}
 
 -- ys put in before the place a
@@ -15,11 +15,11 @@ deleted xs a b = take a xs ++ drop b xs
 
 -- those from a up to before b once more, behind the last
 abbrev pub repeated : {X : Type 0} → List X → ℕ → ℕ → List X
-repeated xs a b = xs ++ piece xs a (b - a)
+repeated xs a b = xs ++ slice_range xs a b
 
 -- those from a up to before b, as they were, written over what stands from c on
 abbrev pub copied : {X : Type 0} → List X → ℕ → ℕ → ℕ → List X
-copied xs a b c = with_piece xs c (piece xs a (b - a))
+copied xs a b c = take c xs ++ (slice_range xs a b ++ drop (c + (b - a)) xs)
 
 -- the n elements from a on and the n from b on exchanged
 abbrev pub exchanged : {X : Type 0} → List X → ℕ → ℕ → ℕ → List X
@@ -27,7 +27,7 @@ exchanged xs a b n = with_piece (with_piece xs a (piece xs b n)) b (piece xs a n
 
 -- those from a up to before b turned by k towards a: the first k of them become the last
 abbrev pub turned : {X : Type 0} → List X → ℕ → ℕ → ℕ → List X
-turned xs a b k = take a xs ++ (piece xs (a + k) (b - (a + k)) ++ (piece xs a k ++ drop b xs))
+turned xs a b k = take a xs ++ (slice_range xs (a + k) b ++ (slice_range xs a (a + k) ++ drop b xs))
 
 -- new is old with n elements more before the place a, whatever they are
 pub record Opens {X : Type 0} (old new : List X) (a n : ℕ) : Type 0 where

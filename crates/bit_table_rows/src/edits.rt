@@ -105,7 +105,6 @@ pub fn rotate_rows<V: BitsMut>(view: &mut V, n: usize, w: usize, p: usize, q: us
     let len = view.len();
     let first = p * w;
     let count = q * w - first;
-    view.write(|words| {
-        turn_window::<V::Store, V::Order>(words, place, len, first, count, k * w)
-    });
+    let by = k * w;
+    view.write(|words| turn_window::<V::Store, V::Order>(words, place, len, first, count, by));
 }

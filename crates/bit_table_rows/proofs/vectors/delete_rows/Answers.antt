@@ -1,4 +1,4 @@
-use Rattle.std.proofs.Common.{◌+◌, ◌-◌, ◌*◌, ◌≡◌, ◌≤◌, ℕ, length, take, ap, arith, ◌∙◌}
+use Rattle.std.proofs.Common.{◌-◌, ◌*◌, ℕ, length, take, ap, arith, ◌∙◌}
 use Rattle.std.proofs.lemmas.List.{length-take-le}
 use Rattle.bit_addressing.specs.Memory.{read_by}
 use Rattle.bit_containers_vector.specs.Vector.{vec_bits}

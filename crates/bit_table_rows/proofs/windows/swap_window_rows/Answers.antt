@@ -1,4 +1,4 @@
-use Rattle.std.proofs.Common.{◌+◌, ◌*◌, ◌≤◌, ◌<◌, ◌≡◌, ℕ, length, arith, sym, ap, ◌∙◌}
+use Rattle.std.proofs.Common.{◌*◌, ◌≡◌, arith, sym, ap, ◌∙◌}
 use Rattle.bit_addressing.specs.Memory.{memory, piece, read_by}
 use Rattle.bit_addressing.proofs.WindowLemmas.{length-window}
 use Rattle.bit_table_rows.specs.RowEdits.{exchanged}

@@ -1,4 +1,4 @@
-use Rattle.std.proofs.Common.{◌+◌, ◌<◌, ◌≤◌, ◌≡◌, ℕ, ◌++◌, take, drop, length, arith, sym, ap, refl, ◌∙◌}
+use Rattle.std.proofs.Common.{◌+◌, ◌<◌, ℕ, ◌++◌, take, drop, arith, sym, ap, refl, ◌∙◌}
 use Rattle.bit_addressing.specs.Memory.{memory, piece, read_by, with_piece, entry}
 use Rattle.bit_addressing.proofs.MemoryLemmas.{piece_piece}
 use Rattle.bit_addressing.proofs.WindowLemmas.{length-window}

@@ -1,4 +1,4 @@
-use Rattle.std.proofs.Common.{◌+◌, ◌<◌, ◌≤◌, ℕ, arith, ap, refl, ◌∙◌}
+use Rattle.std.proofs.Common.{◌+◌, ◌<◌, ℕ, arith, ap, refl, ◌∙◌}
 use Rattle.bit_addressing.specs.Memory.{memory, piece, read_by, with_piece, entry}
 use Rattle.bit_slice_changes.proofs.ListLemmas.{copied_list}
 use Rattle.bit_table_rows.proofs.EditLemmas.{window_part}

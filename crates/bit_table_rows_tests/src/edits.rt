@@ -10,7 +10,7 @@ use bit_addressing::{BitOrder, Lsb0, Msb0};
 use bit_containers_vector::BitVec;
 use bit_slice_stores::BitStore;
 use bit_slice_views::{BitSlice, Bits};
-use bit_slice_writes::{BitSliceMut, BitsMut};
+use bit_slice_writes::BitsMut;
 use bit_table_rows::{
     copy_rows, delete_rows, dup_rows, insert_row, move_rows_in, rotate_rows, swap_rows, write_row,
 };
@@ -19,7 +19,7 @@ use std::alloc::{AllocError, Global};
 // Makes an edit in place, in whatever writes its bits.
 fn edit_in<V: BitsMut>(view: &mut V, n: usize, w: usize, edit: Edit)
     requires rows { length (V.bits view.old) ≡ n * w }
-    requires narrow { w ≤ 16 }
+    requires narrow { w ≤ 15 }
 {
     let word = [NEW];
     let row = BitSlice::<u16, Lsb0>::from_place(&word, 0, w);
@@ -37,6 +37,7 @@ fn edit_in<V: BitsMut>(view: &mut V, n: usize, w: usize, edit: Edit)
 }
 
 // Makes an edit of a vector.
+#[tactic(auto, using(bit_table_rows::proofs::PlaceLemmas::row_places))]
 fn edit_vector<T: BitStore, O: BitOrder<T>>(
     vector: &mut BitVec<T, O>,
     n: usize,
@@ -45,7 +46,7 @@ fn edit_vector<T: BitStore, O: BitOrder<T>>(
 ) -> Result<(), AllocError>
     requires rows { length (vec_bits (read_by T.BitRegister O.position) vector.old) ≡ n * w }
     requires some { 0 < w }
-    requires narrow { w ≤ 16 }
+    requires narrow { w ≤ 15 }
 {
     let word = [NEW];
     let row = BitSlice::<u16, Lsb0>::from_place(&word, 0, w);
@@ -60,6 +61,9 @@ fn edit_vector<T: BitStore, O: BitOrder<T>>(
         Edit::Dup(p, q) if few && p <= q && q <= n && (n + (q - p)).saturating_mul(w) < 1000 => {
             dup_rows(vector, n, w, p, q)?;
         }
+        Edit::Move(p, q) if p <= n && q <= p => {
+            move_rows_in(vector, p, q, n, w);
+        }
         _ => edit_in(vector, n, w, edit),
     }
     Ok(())
@@ -67,12 +71,12 @@ fn edit_vector<T: BitStore, O: BitOrder<T>>(
 
 // The rows that an edit is made of.
 fn some_rows(alloc: Global, n: usize, w: usize) -> Result<Vec<u16>, AllocError>
-    requires { w ≤ 16 }
+    requires { w ≤ 15 }
 {
     let mut rows = Vec::new(alloc);
     for k in 0..n {
         let mixed = (k as u64).wrapping_mul(0x9e37_79b9_7f4a_7c15) >> 20;
-        rows.push((mixed % (1u64 << w)) as u16)?;
+        rows.push((mixed % 0x8000) as u16 % (1u16 << w))?;
     }
     Ok(rows)
 }
@@ -85,7 +89,7 @@ fn is_edited<T: BitStore, O: BitOrder<T>>(
     edit: Edit,
 ) -> Result<bool, AllocError>
     requires some { 0 < w }
-    requires narrow { w ≤ 16 }
+    requires narrow { w ≤ 15 }
 {
     let rows = some_rows(alloc, n, w)?;
     let mut vector = packed::<T, O>(alloc, rows.as_slice(), w)?;
@@ -102,12 +106,12 @@ fn is_edited<T: BitStore, O: BitOrder<T>>(
 fn all_edited<T: BitStore, O: BitOrder<T>>(alloc: Global) -> Result<bool, AllocError> {
     for w in [1usize, 3, 7, 8, 9] {
         for n in 0..5usize {
-            for kind in 0..7usize {
+            for kind in 0..8usize {
                 for p in 0..n + 1 {
                     for q in 0..n + 1 {
                         for r in 0..n + 1 {
                             let edit = Edit::nth(kind, p, q, r);
-                            if edit.fits(n) && !is_edited::<T, O>(alloc, n, w.clamp(1, 16), edit)? {
+                            if edit.fits(n) && !is_edited::<T, O>(alloc, n, w.clamp(1, 15), edit)? {
                                 return Ok(false);
                             }
                         }

@@ -78,7 +78,11 @@ fn row_after(rows: &[u16], edit: Edit, k: usize) -> Option<u16> {
         Edit::Swap(p, q) if k == q => row(p),
         Edit::Rotate(p, q, turn) if p <= k && k < q => {
             let there = k.wrapping_add(turn);
-            row(if there < q { there } else { there.wrapping_sub(q.wrapping_sub(p)) })
+            row(if there < q {
+                there
+            } else {
+                there.wrapping_sub(q.wrapping_sub(p))
+            })
         }
         Edit::Write(p) if k == p => Some(NEW),
         Edit::Move(p, q) if k >= q && k - q < n.wrapping_sub(p) => row(p.wrapping_add(k - q)),

@@ -1,0 +1,4 @@
+pub mod PlaceLemmas
+pub mod EditLemmas
+pub mod RowListLemmas
+mod KnownRows

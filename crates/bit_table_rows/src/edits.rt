@@ -1,0 +1,110 @@
+//! Rows edited in place, in whatever writes its bits: no call takes memory, and each bit outside the list stays.
+
+ghost use Rattle.std.specs.Prelude.{◌≡◌, ◌+◌, ◌-◌, ◌*◌, ◌<◌, ◌≤◌, length};
+ghost use Rattle.bit_addressing.specs.Memory.{touched, with_piece};
+ghost use Rattle.bit_addressing.specs.Moves.{changed};
+ghost use Rattle.bit_table_moves.specs.RowMoves.{rows_moved};
+ghost use Rattle.bit_table_rows.specs.RowEdits.{copied, exchanged, turned};
+
+use crate::windows::{move_window_rows, swap_window_rows, turn_window, write_window};
+use bit_slice_views::Bits;
+use bit_slice_writes::BitsMut;
+
+/// Moves the rows from `p` up to before `n` to where row `q` stands, and on from there, and answers how many words it
+/// wrote. The rows have `w` bits each and lie end to end from the first bit of the list on; source and target may
+/// overlap. Every bit outside the target stays.
+///
+/// The list begins in the first of its words, as that of each container does. Rows up to before `n` and up to the
+/// target's end are there. No word is written twice, and none that the target does not touch.
+pub fn move_rows_in<V: BitsMut>(view: &mut V, p: usize, q: usize, n: usize, w: usize) -> usize
+    requires head { V.place view.old < V.Store.BITS }
+    requires order { p ≤ n }
+    requires rows { n * w ≤ length (V.bits view.old) }
+    requires target { (q + (n - p)) * w ≤ length (V.bits view.old) }
+    ensures bits { V.bits view.new ≡ rows_moved w (V.bits view.old) p q n }
+    ensures len { length (V.bits view.new) ≡ length (V.bits view.old) }
+    ensures frame { V.frame view.new ≡ V.frame view.old }
+
+    // At most the words that the target touches, at least those that became other ones.
+    ensures writes { result ≤ touched V.Store.BITS (V.place view.old + q * w) ((n - p) * w) }
+    ensures changed { changed V.Store.number (V.words view.old) (V.words view.new) ≤ result }
+{
+    let place = view.first_place();
+    let len = view.len();
+    view.write(|words| move_window_rows::<V::Store, V::Order>(words, place, len, p, q, n, w))
+}
+
+/// Writes a row over row `p` of `n` rows of `w` bits each.
+pub fn write_row<V: BitsMut, W: Bits>(view: &mut V, n: usize, w: usize, p: usize, row: &W)
+    requires rows { length (V.bits view.old) ≡ n * w }
+    requires within { p < n }
+    requires width { length (W.bits row.now) ≡ w }
+    ensures bits { V.bits view.new ≡ with_piece (V.bits view.old) (p * w) (W.bits row.now) }
+    ensures len { length (V.bits view.new) ≡ length (V.bits view.old) }
+    ensures frame { V.frame view.new ≡ V.frame view.old }
+{
+    let place = view.first_place();
+    let len = view.len();
+    let (others, head, _) = row.as_bitslice().parts();
+    view.write(|words| {
+        write_window::<V::Store, V::Order, W::Store, W::Order>(
+            words,
+            place,
+            len,
+            p * w,
+            others,
+            head as usize,
+            w,
+        )
+    });
+}
+
+/// Copies the rows from `p` up to before `q`, as they were, over the rows from `r` on, of `n` rows of `w` bits each.
+#[tactic(auto, using(crate::proofs::PlaceLemmas::row_places))]
+pub fn copy_rows<V: BitsMut>(view: &mut V, n: usize, w: usize, p: usize, q: usize, r: usize)
+    requires rows { length (V.bits view.old) ≡ n * w }
+    requires order { p ≤ q }
+    requires within { q ≤ n }
+    requires target { r + (q - p) ≤ n }
+    ensures bits { V.bits view.new ≡ copied (V.bits view.old) (p * w) (q * w) (r * w) }
+    ensures len { length (V.bits view.new) ≡ length (V.bits view.old) }
+    ensures frame { V.frame view.new ≡ V.frame view.old }
+{
+    // As many bits as a `usize` counts, and so each row's place is one.
+    let _bits = view.len();
+    let source = p * w;
+    view.move_within(source, r * w, q * w - source);
+}
+
+/// Exchanges rows `p` and `q` of `n` rows of `w` bits each. They may be the same.
+pub fn swap_rows<V: BitsMut>(view: &mut V, n: usize, w: usize, p: usize, q: usize)
+    requires rows { length (V.bits view.old) ≡ n * w }
+    requires first { p < n }
+    requires second { q < n }
+    ensures bits { V.bits view.new ≡ exchanged (V.bits view.old) (p * w) (q * w) w }
+    ensures len { length (V.bits view.new) ≡ length (V.bits view.old) }
+    ensures frame { V.frame view.new ≡ V.frame view.old }
+{
+    let place = view.first_place();
+    let len = view.len();
+    view.write(|words| swap_window_rows::<V::Store, V::Order>(words, place, len, p, q, w));
+}
+
+/// Turns the rows from `p` up to before `q` by `k` rows towards the first, of `n` rows of `w` bits each: the first `k`
+/// of them become the last.
+pub fn rotate_rows<V: BitsMut>(view: &mut V, n: usize, w: usize, p: usize, q: usize, k: usize)
+    requires rows { length (V.bits view.old) ≡ n * w }
+    requires order { p ≤ q }
+    requires within { q ≤ n }
+    requires most { k ≤ q - p }
+    ensures bits { V.bits view.new ≡ turned (V.bits view.old) (p * w) (q * w) (k * w) }
+    ensures len { length (V.bits view.new) ≡ length (V.bits view.old) }
+    ensures frame { V.frame view.new ≡ V.frame view.old }
+{
+    let place = view.first_place();
+    let len = view.len();
+    let first = p * w;
+    let count = q * w - first;
+    let by = k * w;
+    view.write(|words| turn_window::<V::Store, V::Order>(words, place, len, first, count, by));
+}

@@ -1,0 +1,134 @@
+//! Rows put into a vector of bits, and taken out of it.
+
+ghost use Rattle.std.specs.Prelude.{◌≡◌, ◌+◌, ◌-◌, ◌*◌, ◌<◌, ◌≤◌, length, IfOk, IsOk, OnOk, OnErr};
+ghost use Rattle.bit_addressing.specs.Memory.{read_by, touched};
+ghost use Rattle.bit_addressing_span.specs.declared.span.TheConstants.{MAX_BITS};
+ghost use Rattle.bit_containers_vector.specs.Vector.{vec_bits, vec_head, room, HasRoomFor, IsAsBefore};
+ghost use Rattle.bit_table_rows.specs.RowEdits.{deleted, inserted, repeated, Opens};
+
+use crate::edits::{move_rows_in, write_row};
+use bit_addressing::BitOrder;
+use bit_containers_vector::BitVec;
+use bit_slice_stores::BitStore;
+use bit_slice_views::Bits;
+use std::alloc::AllocError;
+
+/// Puts a row in before row `p` of `n` rows of `w` bits each: the rows from there on move one row towards the end. `p`
+/// may be `n`. It answers how many words that move wrote.
+///
+/// Memory is asked for first, so a refusal leaves all as it was; with room for a row none is asked for.
+pub fn insert_row<T: BitStore, O: BitOrder<T>, V: Bits>(
+    vector: &mut BitVec<T, O>,
+    n: usize,
+    w: usize,
+    p: usize,
+    row: &V,
+) -> Result<usize, AllocError>
+    requires rows { length (vec_bits (read_by T.BitRegister O.position) vector.old) ≡ n * w }
+    requires some { 0 < w }
+    requires most { (n + 1) * w ≤ MAX_BITS }
+    requires within { p ≤ n }
+    requires width { length (V.bits row.now) ≡ w }
+    ensures bits { OnOk result (vec_bits (read_by T.BitRegister O.position) vector.new
+        ≡ inserted (vec_bits (read_by T.BitRegister O.position) vector.old) (p * w) (V.bits row.now)) }
+    ensures len { OnOk result (length (vec_bits (read_by T.BitRegister O.position) vector.new) ≡ (n + 1) * w) }
+    ensures head { vec_head vector.new ≡ vec_head vector.old }
+
+    // It is refused only where there was no room for a row, and then all is as it was.
+    ensures err { OnErr result (IsAsBefore (read_by T.BitRegister O.position) vector.old vector.new) }
+    ensures succeeds { HasRoomFor (read_by T.BitRegister O.position) vector.old w → IsOk result }
+    ensures room { room (read_by T.BitRegister O.position) vector.old
+        ≤ room (read_by T.BitRegister O.position) vector.new }
+
+    // At most the words that the rows touch at their new places.
+    ensures writes { IfOk result (λ writes. writes
+        ≤ touched T.BITS (vec_head vector.old + (p + 1) * w) ((n - p) * w)) }
+{
+    let writes = open_row(vector, n, w, p)?;
+    write_row(vector, n + 1, w, p, row);
+    Ok(writes)
+}
+
+// Makes the vector a row longer, and moves the rows from `p` on one row towards the end. What stands in row `p` then is
+// open.
+fn open_row<T: BitStore, O: BitOrder<T>>(
+    vector: &mut BitVec<T, O>,
+    n: usize,
+    w: usize,
+    p: usize,
+) -> Result<usize, AllocError>
+    requires rows { length (vec_bits (read_by T.BitRegister O.position) vector.old) ≡ n * w }
+    requires some { 0 < w }
+    requires most { (n + 1) * w ≤ MAX_BITS }
+    requires within { p ≤ n }
+    ensures ok { OnOk result (Opens (vec_bits (read_by T.BitRegister O.position) vector.old)
+        (vec_bits (read_by T.BitRegister O.position) vector.new) (p * w) w) }
+    ensures len { OnOk result (length (vec_bits (read_by T.BitRegister O.position) vector.new) ≡ (n + 1) * w) }
+    ensures head { vec_head vector.new ≡ vec_head vector.old }
+    ensures err { OnErr result (IsAsBefore (read_by T.BitRegister O.position) vector.old vector.new) }
+    ensures succeeds { HasRoomFor (read_by T.BitRegister O.position) vector.old w → IsOk result }
+    ensures room { room (read_by T.BitRegister O.position) vector.old
+        ≤ room (read_by T.BitRegister O.position) vector.new }
+    ensures writes { IfOk result (λ writes. writes
+        ≤ touched T.BITS (vec_head vector.old + (p + 1) * w) ((n - p) * w)) }
+{
+    vector.reserve(w)?;
+    vector.resize((n + 1) * w, false)?;
+    Ok(move_rows_in(vector, p, p + 1, n, w))
+}
+
+/// Takes the rows from `p` up to before `q` out of `n` rows of `w` bits each: the rows from `q` on move to where row `p`
+/// stands. It answers how many words that move wrote. No memory is taken, and none is given back.
+#[tactic(auto, using(crate::proofs::PlaceLemmas::row_places))]
+pub fn delete_rows<T: BitStore, O: BitOrder<T>>(
+    vector: &mut BitVec<T, O>,
+    n: usize,
+    w: usize,
+    p: usize,
+    q: usize,
+) -> usize
+    requires rows { length (vec_bits (read_by T.BitRegister O.position) vector.old) ≡ n * w }
+    requires order { p ≤ q }
+    requires within { q ≤ n }
+    ensures bits { vec_bits (read_by T.BitRegister O.position) vector.new
+        ≡ deleted (vec_bits (read_by T.BitRegister O.position) vector.old) (p * w) (q * w) }
+    ensures len { length (vec_bits (read_by T.BitRegister O.position) vector.new) ≡ (n - (q - p)) * w }
+    ensures head { vec_head vector.new ≡ vec_head vector.old }
+    ensures room { room (read_by T.BitRegister O.position) vector.new
+        ≡ room (read_by T.BitRegister O.position) vector.old }
+
+    // At most the words that the rows touch at their new places.
+    ensures writes { result ≤ touched T.BITS (vec_head vector.old + p * w) ((n - q) * w) }
+{
+    let writes = move_rows_in(vector, q, p, n, w);
+    let left = vector.len() - (q - p) * w;
+    vector.truncate(left);
+    writes
+}
+
+/// Appends the rows from `p` up to before `q` of `n` rows of `w` bits each.
+///
+/// A refusal leaves all as it was; with room for these rows no memory is asked for.
+pub fn dup_rows<T: BitStore, O: BitOrder<T>>(
+    vector: &mut BitVec<T, O>,
+    n: usize,
+    w: usize,
+    p: usize,
+    q: usize,
+) -> Result<(), AllocError>
+    requires rows { length (vec_bits (read_by T.BitRegister O.position) vector.old) ≡ n * w }
+    requires order { p ≤ q }
+    requires within { q ≤ n }
+    requires most { (n + (q - p)) * w ≤ MAX_BITS }
+    ensures bits { OnOk result (vec_bits (read_by T.BitRegister O.position) vector.new
+        ≡ repeated (vec_bits (read_by T.BitRegister O.position) vector.old) (p * w) (q * w)) }
+    ensures len { OnOk result (length (vec_bits (read_by T.BitRegister O.position) vector.new)
+        ≡ (n + (q - p)) * w) }
+    ensures head { vec_head vector.new ≡ vec_head vector.old }
+    ensures err { OnErr result (IsAsBefore (read_by T.BitRegister O.position) vector.old vector.new) }
+    ensures succeeds { HasRoomFor (read_by T.BitRegister O.position) vector.old ((q - p) * w) → IsOk result }
+    ensures room { room (read_by T.BitRegister O.position) vector.old
+        ≤ room (read_by T.BitRegister O.position) vector.new }
+{
+    vector.extend_from_within(p * w..q * w)
+}

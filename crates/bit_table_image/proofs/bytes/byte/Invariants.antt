@@ -1,0 +1,11 @@
+use Rattle.std.proofs.Common.{◌≡◌, map, reverse}
+use Rattle.std.specs.List.{range_with_len}
+use Rattle.bit_addressing.specs.Memory.{read_by}
+use Rattle.bit_slice_views.specs.View.{view_bits}
+use Rattle.bit_table_layout.specs.Digits.{binary}
+use Rattle.bit_table_image.proofs.ByteLemmas.{read_bit}
+use Rattle.bit_table_image.proofs.bytes.byte.Given as goal
+
+-- the bits that were read are the highest, the first of them at the top
+abbrev pub invariant-loop-index : goal.invariant-loop-index
+invariant-loop-index g l = l.byte ≡ binary (reverse (map (read_bit l.rule l.first (view_bits (read_by g.T.BitRegister g.O.Positions.position) l.bits)) (range_with_len 0 l.index)))

@@ -1,0 +1,11 @@
+use Rattle.std.proofs.Common.{◌≡◌, ◌*◌, map, take, drop}
+use Rattle.std.specs.List.{range_with_len}
+use Rattle.bit_addressing.specs.Memory.{read_by}
+use Rattle.bit_slice_views.specs.View.{view_bits}
+use Rattle.bit_table_layout.specs.Images.{byte_of}
+use Rattle.bit_table_image.proofs.bytes.write.Given as goal
+
+-- the bytes before this one were made
+abbrev pub invariant-loop-index : goal.invariant-loop-index
+invariant-loop-index g l =
+    l.bytes.items ≡ map (λ k. byte_of l.rule (take 8 (drop (8 * k) (view_bits (read_by g.T.BitRegister g.O.Positions.position) l.bits)))) (range_with_len 0 l.index)

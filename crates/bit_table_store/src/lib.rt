@@ -1,0 +1,6 @@
+//! A table over any storage word and any lawful order of bits.
+#![tactic(auto)]
+
+mod table;
+
+pub use table::Table;

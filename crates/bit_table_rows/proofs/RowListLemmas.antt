@@ -1,7 +1,7 @@
 -- What an edit of the bits makes of the rows that are cut out of them: the same edit, by the rows' numbers. Each fact is
 -- of n rows of w bits each, of any kind.
 --
--- Parts: `front_rows`, `rows_behind`, `rows_between`. Edits: `rows_inserted`, `rows_deleted`, `rows_repeated`,
+-- Parts: `front_rows`, `rows_behind`, `rows_between`, `row_alone`. Edits: `rows_inserted`, `rows_deleted`, `rows_repeated`,
 -- `rows_written`, `rows_copied`, `rows_exchanged` and `exchanged_one`, `rows_turned`. Rows of one bit: `bits_as_rows`.
 use Rattle.std.proofs.Common.{◌≡◌, inl, inr, ℕ, ◌+◌, ◌-◌, ◌*◌, ◌<◌, ◌≤◌, Bool, List, [], ◌∷◌, ◌++◌, length, take, drop}
 use Rattle.std.proofs.Common.{get_or, set, refl, sym, ap, ap₂, ◌∙◌, length-set, get_or-set_same, get_or-set_other}
@@ -153,11 +153,11 @@ module _ {X : Type 0} (w : ℕ) (rows : ℕ → List Bool → List X) (cuts : Cu
       (cuts.joined m (n - (r + m)) part behind size rest
       ∙ ap₂ (λ a b. a ++ b) (rows_between n p q bits order within all) (rows_behind n (r + m) bits target all))
 
-  -- row p read alone
-  part_is : (n p : ℕ) (bits : List Bool) → p + 1 ≤ n → length bits ≡ n * w
+  -- row p alone
+  pub row_alone : (n p : ℕ) (bits : List Bool) → p + 1 ≤ n → length bits ≡ n * w
       → rows 1 (piece bits (p * w) w) ≡ piece (rows n bits) p 1
   unfolding piece
-  part_is n p bits low all =
+  row_alone n p bits low all =
       let one : p + 1 - p ≡ 1 = omega arith in
       let wide : (p + 1) * w - p * w ≡ w = omega (arith, place_next p w) in
       ap₂ (λ m k. rows m (take k (drop (p * w) bits))) (sym one) (sym wide)
@@ -180,8 +180,8 @@ module _ {X : Type 0} (w : ℕ) (rows : ℕ → List Bool → List X) (cuts : Cu
       let now = with_piece bits (p * w) to_p in
       rows_written n q 1 now to_q second (length-with_piece bits (p * w) to_p room ∙ all) size_q
       ∙ ap₂ (λ a b. with_piece a q b)
-      (rows_written n p 1 bits to_p first all size_p ∙ ap (with_piece (rows n bits) p) (part_is n q bits second all))
-      (part_is n p bits first all)
+      (rows_written n p 1 bits to_p first all size_p ∙ ap (with_piece (rows n bits) p) (row_alone n q bits second all))
+      (row_alone n p bits first all)
 
   -- the rows from p up to before q turned by k
   pub rows_turned : (n p q k : ℕ) (bits : List Bool) → p + k ≤ q → q ≤ n → length bits ≡ n * w

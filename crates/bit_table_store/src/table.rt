@@ -1,26 +1,30 @@
 //! A table: rows of a layout, packed bit by bit in words of any width and order.
 
-ghost use Rattle.std.specs.Prelude.{◌≡◌, ◌*◌, ◌≤◌, Bool, false, length, replicate, take, None};
+ghost use Rattle.std.specs.Prelude.{◌≡◌, ◌*◌, ◌≤◌, Bool, false, true, length, replicate, take, None, Some};
 ghost use Rattle.std.specs.Prelude.{IfOk, IsOk, OnOk, OnErr, IsOkUnless, MatchOption};
 ghost use Rattle.bit_addressing.specs.Memory.{read_by};
-ghost use Rattle.bit_addressing_span.specs.declared.span.TheConstants.{MAX_BITS};
+ghost use Rattle.bit_containers_array.specs.Array.{array_bits};
 ghost use Rattle.bit_slice_views.specs.View.{view_bits};
 ghost use Rattle.bit_table_layout.specs.Images.{image_bytes, HasOnlyNumbers};
 ghost use Rattle.bit_table_layout.specs.Layouts.{row_width};
-ghost use Rattle.bit_table_layout.specs.Rows.{table_bits};
+ghost use Rattle.bit_table_layout.specs.Rows.{numbers_bits, table_bits, take_all};
 ghost use Rattle.bit_table_commands.specs.Accepted.{IsAccepted};
 ghost use Rattle.bit_table_commands.specs.Causes.{cause_in};
 ghost use Rattle.bit_table_commands.specs.Edits.{edit, reply_to};
+ghost use Rattle.bit_table_commands.specs.declared.reply.Reply.TheVariants.{Done};
 ghost use Rattle.bit_table_commands.specs.Tables.{new_table, IsTable};
 ghost use Rattle.bit_table_store.specs.View.{may_want_memory};
 
 use bit_addressing::BitRegister;
+use bit_containers_array::BitArray;
 use bit_containers_vector::BitVec;
 use bit_slice_paths::WordPaths;
 use bit_slice_stores::BitViewSized;
 use bit_slice_views::{BitSlice, Bits};
 use bit_table_commands::{Command, ImageBytes, Numbers, Reply};
 use bit_table_digits::Digits;
+use bit_table_fields::{bits_before, load_row, store_number, store_row};
+use bit_table_image::write;
 use bit_table_layout::{Fault, Layout};
 use bit_table_rows::{copy_rows, delete_rows, dup_rows, insert_row, rotate_rows, swap_rows};
 use std::alloc::{AllocError, Global};
@@ -117,4 +121,188 @@ impl<A: BitViewSized, O: WordPaths<A::Store> + Digits<A::Store>> Table<A, O> {
         moved[0] = self.moved;
         moved
     }
+
+    // ---- commands
+
+    /// Carries a command out and replies to it.
+    ///
+    /// A command to which a cause applies is refused for the first that does, without memory being taken. Any other is
+    /// carried out, unless memory is wanted: only insertions, copies of rows behind the last one and replies that tell
+    /// of rows may want it. A command that is not carried out changes nothing.
+    pub fn apply(&mut self, command: &Command) -> Result<Reply, Fault>
+        // The first cause that applies refuses, and nothing else does.
+        ensures cause { MatchOption (cause_in self.old.shape command.now) (IsOkUnless result Fault.Memory)
+            (λ c. result ≡ Err (Fault.Refused c)) }
+        ensures succeeds { may_want_memory command.now ≡ false → cause_in self.old.shape command.now ≡ None
+            → IsOk result }
+
+        // What a command does and answers.
+        ensures ok { OnOk result (self.new.shape ≡ edit self.old.shape command.now) }
+        ensures reply { IfOk result (λ reply. reply ≡ reply_to self.old.shape command.now) }
+        ensures err { OnErr result (self.new ≡ self.old) }
+
+        // The rows with this image have the table's numbers.
+        ensures image { HasOnlyNumbers self.old.shape.layout (length self.old.shape.rows)
+            (image_bytes self.old.shape.layout self.old.shape.rows) self.old.shape.rows }
+    {
+        if let Some(cause) = command.cause(&self.layout, self.rows, false) {
+            return Err(Fault::Refused(cause));
+        }
+        match self.carry_out(command) {
+            Ok(reply) => Ok(reply),
+            Err(_) => Err(Fault::Memory),
+        }
+    }
+
+    // Carries out a command that no cause refuses.
+    fn carry_out(&mut self, command: &Command) -> Result<Reply, AllocError>
+        requires { IsAccepted self.old.shape command.now }
+        ensures succeeds { may_want_memory command.now ≡ false → IsOk result }
+        ensures ok { OnOk result (self.new.shape ≡ edit self.old.shape command.now) }
+        ensures reply { IfOk result (λ reply. reply ≡ reply_to self.old.shape command.now) }
+        ensures err { OnErr result (self.new ≡ self.old) }
+    {
+        match command {
+            Command::Insert { place, values } => self.insert(*place, values.as_slice()),
+            Command::Delete { start, upto } => Ok(self.delete(*start, *upto)),
+            Command::Set {
+                row,
+                field: Some(index),
+                value,
+            } => Ok(self.set(*row, *index, *value)),
+            // A field that the layout lacks is a cause.
+            Command::Set { .. } => Ok(Reply::Done),
+            Command::Get { row } => self.get(*row),
+            Command::Copy { start, upto, place } => Ok(self.copy(*start, *upto, *place)),
+            Command::Swap { row, other } => Ok(self.swap(*row, *other)),
+            Command::Rotate {
+                start,
+                upto,
+                amount,
+            } => Ok(self.rotate(*start, *upto, *amount)),
+            Command::Dup { start, upto } => self.dup(*start, *upto),
+            Command::Image => self.image(),
+        }
+    }
+
+    fn insert(&mut self, place: u64, values: &[i128]) -> Result<Reply, AllocError>
+        requires { IsAccepted self.old.shape (Command.Insert place values.now) }
+        ensures ok { OnOk result (self.new.shape ≡ edit self.old.shape (Command.Insert place values.now)) }
+        ensures reply { IfOk result (λ reply. reply ≡ Done) }
+        ensures err { OnErr result (self.new ≡ self.old) }
+    {
+        let width = self.layout.row_bits();
+        let row = row_of::<A, O>(&self.layout, values);
+        let row = row.as_bitslice().part(0, width);
+        self.moved = insert_row(&mut self.bits, self.rows, width, place as usize, &row)?;
+        self.rows += 1;
+        Ok(Reply::Done)
+    }
+
+    fn delete(&mut self, start: u64, upto: u64) -> Reply
+        requires { IsAccepted self.old.shape (Command.Delete start upto) }
+        ensures shape { self.new.shape ≡ edit self.old.shape (Command.Delete start upto) }
+        ensures reply { result ≡ Done }
+    {
+        let width = self.layout.row_bits();
+        let (start, upto) = (start as usize, upto as usize);
+        self.moved = delete_rows(&mut self.bits, self.rows, width, start, upto);
+        self.rows -= upto - start;
+        Reply::Done
+    }
+
+    fn set(&mut self, row: u64, field: usize, value: i128) -> Reply
+        requires { IsAccepted self.old.shape (Command.Set row (Some field) value) }
+        ensures shape { self.new.shape ≡ edit self.old.shape (Command.Set row (Some field) value) }
+        ensures reply { result ≡ Done }
+    {
+        let at = row as usize * self.layout.row_bits() + bits_before(&self.layout, field);
+        let width = self.layout.fields()[field].width();
+        store_number(&mut self.bits, at, self.layout.rule(), width, value);
+        Reply::Done
+    }
+
+    fn get(&self, row: u64) -> Result<Reply, AllocError>
+        requires { IsAccepted self.now.shape (Command.Get row) }
+        ensures { IfOk result (λ reply. reply ≡ reply_to self.now.shape (Command.Get row)) }
+    {
+        let at = row as usize * self.layout.row_bits();
+        let numbers = load_row(self.alloc, &self.bits, at, &self.layout)?;
+        Ok(Reply::Numbers(Numbers::new(numbers)))
+    }
+
+    fn copy(&mut self, start: u64, upto: u64, place: u64) -> Reply
+        requires { IsAccepted self.old.shape (Command.Copy start upto place) }
+        ensures shape { self.new.shape ≡ edit self.old.shape (Command.Copy start upto place) }
+        ensures reply { result ≡ Done }
+    {
+        let width = self.layout.row_bits();
+        let (start, upto) = (start as usize, upto as usize);
+        copy_rows(&mut self.bits, self.rows, width, start, upto, place as usize);
+        Reply::Done
+    }
+
+    fn swap(&mut self, row: u64, other: u64) -> Reply
+        requires { IsAccepted self.old.shape (Command.Swap row other) }
+        ensures shape { self.new.shape ≡ edit self.old.shape (Command.Swap row other) }
+        ensures reply { result ≡ Done }
+    {
+        let width = self.layout.row_bits();
+        swap_rows(&mut self.bits, self.rows, width, row as usize, other as usize);
+        Reply::Done
+    }
+
+    fn rotate(&mut self, start: u64, upto: u64, amount: u64) -> Reply
+        requires { IsAccepted self.old.shape (Command.Rotate start upto amount) }
+        ensures shape { self.new.shape ≡ edit self.old.shape (Command.Rotate start upto amount) }
+        ensures reply { result ≡ Done }
+    {
+        let width = self.layout.row_bits();
+        let (start, upto) = (start as usize, upto as usize);
+        rotate_rows(&mut self.bits, self.rows, width, start, upto, amount as usize);
+        Reply::Done
+    }
+
+    fn dup(&mut self, start: u64, upto: u64) -> Result<Reply, AllocError>
+        requires { IsAccepted self.old.shape (Command.Dup start upto) }
+        ensures ok { OnOk result (self.new.shape ≡ edit self.old.shape (Command.Dup start upto)) }
+        ensures reply { IfOk result (λ reply. reply ≡ Done) }
+        ensures err { OnErr result (self.new ≡ self.old) }
+    {
+        let width = self.layout.row_bits();
+        let (start, upto) = (start as usize, upto as usize);
+        dup_rows(&mut self.bits, self.rows, width, start, upto)?;
+        self.rows += upto - start;
+        Ok(Reply::Done)
+    }
+
+    fn image(&self) -> Result<Reply, AllocError>
+        ensures { IfOk result (λ reply. reply ≡ reply_to self.now.shape Command.Image) }
+    {
+        let bytes = write(self.alloc, &self.layout, self.bits.as_bitslice())?;
+        Ok(Reply::Image {
+            rows: self.rows,
+            bytes: ImageBytes::new(bytes),
+        })
+    }
+}
+
+// A buffer that begins with a row of these values, one a field.
+fn row_of<A: BitViewSized, O: WordPaths<A::Store> + Digits<A::Store>>(
+    layout: &Layout,
+    values: &[i128],
+) -> BitArray<A, O>
+    requires buffer { 256 ≤ A.COUNT * A.Store.BITS }
+    requires narrow { row_width layout.now.fields ≤ 256 }
+    requires count { length values.now ≡ length layout.now.fields }
+    requires taken { take_all layout.now.fields values.now ≡ true }
+    ensures len { 256 ≤ length (array_bits (read_by A.Store.BitRegister O.position) A.words result) }
+    ensures bits { take (row_width layout.now.fields) (array_bits (read_by A.Store.BitRegister O.position) A.words result)
+        ≡ numbers_bits layout.now.rule layout.now.fields values.now }
+{
+    let mut row = BitArray::<A, O>::new(A::ZERO);
+    // As many bits as the buffer has, and so room for each row.
+    let _bits = BitArray::len(&row);
+    store_row(&mut row, 0, layout, values);
+    row
 }

@@ -5,11 +5,9 @@ use Rattle.std.specs.Fmt.{digits}
 use Rattle.std.specs.List.{slice_split}
 use Rattle.hex.proofs.OnLiterals.{hex_on_literals}
 use Rattle.bit_table_layout.specs.declared.cause.Cause.{Cause}
-use Rattle.bit_table_layout.specs.declared.cause.Cause.TheVariants as refusal
 use Rattle.bit_table_layout.specs.declared.layout.Rule.{Rule}
 use Rattle.bit_table_layout.specs.declared.layout.Rule.TheVariants.{Low, High}
 use Rattle.bit_table_layout.specs.CauseWords.{refusal_text}
-use Rattle.bit_table_layout.specs.Fields.{FieldShape}
 use Rattle.bit_table_layout.specs.Layouts.{LayoutShape}
 use Rattle.bit_table_layout.specs.Rows.{Row, new_row}
 use Rattle.bit_table_commands.specs.declared.command.Command.{Command}

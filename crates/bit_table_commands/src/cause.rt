@@ -78,7 +78,7 @@ impl Command {
                 upto,
                 amount,
             } => *start <= *upto && *upto <= rows && *amount <= *upto - *start,
-            Command::Image => true,
+            _ => true,
         }
     }
 

@@ -1,4 +1,3 @@
-pub mod Names
 pub mod Commands
 pub mod CommandSteps
 pub mod Replies

@@ -108,7 +108,7 @@ rows_from-append l (suc m) n xs ys e =
     ∙ ap (λ rest. row (take w xs) ∷ rest) (rows_from-append l m n (drop w xs) ys (other_rows w m xs e))
 
 -- the bits of one row give that row
-pub one_row : (l : LayoutShape) (vs : List ℤ) → is_layout l ≡ true → takes_all l.fields vs ≡ true
+one_row : (l : LayoutShape) (vs : List ℤ) → is_layout l ≡ true → takes_all l.fields vs ≡ true
     → rows_from l 1 (numbers_bits l.rule l.fields vs) ≡ new_row vs ∷ []
 one_row l vs lawful h =
     let w = row_width l.fields in

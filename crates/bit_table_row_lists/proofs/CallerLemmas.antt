@@ -15,7 +15,7 @@ use Rattle.bit_table_layout.specs.Layouts.{LayoutShape, is_layout, row_width}
 use Rattle.bit_table_layout.specs.Readings.{numbers_from, rows_from}
 use Rattle.bit_table_layout.specs.Rows.{Row, new_row, take_all as takes_all, field_bits, numbers_bits}
 use Rattle.bit_table_layout.proofs.ReadingLemmas.{length-field_bits, length-numbers_bits}
-use Rattle.bit_table_layout.proofs.RowLemmas.{fields_lawful, length-rows_from, one_row, rows_from-append}
+use Rattle.bit_table_layout.proofs.RowLemmas.{fields_lawful, length-rows_from, rows_from-append, rows_from-insert}
 use Rattle.bit_table_rows.specs.RowEdits.{inserted, deleted, repeated, copied, exchanged, turned}
 use Rattle.bit_table_rows.specs.RowLists.{CutsRows}
 use Rattle.bit_table_rows.proofs.PlaceLemmas.{place_end}
@@ -43,11 +43,7 @@ module _ (l : LayoutShape) (n : ℕ) (bits : List Bool) (all : length bits ≡ n
   pub rows_after_insert : (p : ℕ) (vs : List ℤ) → is_layout l ≡ true → takes_all l.fields vs ≡ true → p ≤ n
       → rows_from l (n + 1) (inserted bits (p * w) (numbers_bits l.rule l.fields vs))
       ≡ take p rows ++ (new_row vs ∷ drop p rows)
-  rows_after_insert p vs lawful fits within =
-      let row = numbers_bits l.rule l.fields vs in
-      let size : length row ≡ 1 * w = length-numbers_bits l.rule l.fields vs fits ∙ omega arith in
-      rows_inserted w (rows_from l) (numbers_as_rows l) n p 1 bits row within all size
-      ∙ ap (inserted rows p) (one_row l vs lawful fits)
+  rows_after_insert p vs lawful fits within = rows_from-insert l n p bits vs lawful fits within all
 
   -- the rows from p up to before q taken out
   pub rows_after_delete : (p q : ℕ) → p ≤ q → q ≤ n

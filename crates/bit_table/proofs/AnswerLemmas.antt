@@ -1,17 +1,19 @@
 -- A line with a word in a table: what it is answered, and what state it leaves.
-use Rattle.std.proofs.Common.{◌≡◌, ℕ, List, Option, Some, None, Ok, Err, Result, IfOk, OnOk, sym, ap, ◌∙◌}
+use Rattle.std.proofs.Common.{◌≡◌, ℕ, List, Option, Some, None, Ok, Err, Result, IfOk, OnOk, MatchOption, IsOkUnless, refl, subst, sym, ap, ◌∙◌}
 use Rattle.std.specs.Prelude.{option_map}
 use Rattle.bit_table_layout.specs.declared.cause.Cause.{Cause}
-use Rattle.bit_table_script.specs.declared.command.Command.{Command}
-use Rattle.bit_table_script.specs.declared.reply.Reply.{Reply}
-use Rattle.bit_table_script.specs.Commands.{command_of, cut_off}
+use Rattle.bit_table_layout.specs.declared.cause.Fault.{Fault}
+use Rattle.bit_table_layout.specs.declared.cause.Fault.TheVariants.{Refused, Memory}
+use Rattle.bit_table_commands.specs.declared.command.Command.{Command}
+use Rattle.bit_table_commands.specs.declared.reply.Reply.{Reply}
+use Rattle.bit_table_commands.specs.Commands.{command_of, cut_off}
 use Rattle.bit_table_layout.specs.CauseWords.{refusal_text}
-use Rattle.bit_table_script.specs.Replies.{reply_text}
-use Rattle.bit_table.specs.Tables.{TableShape, IsTable, state_with}
-use Rattle.bit_table.specs.Causes.{cause_in, spelled_cause}
-use Rattle.bit_table.specs.Edits.{edit, reply_to}
+use Rattle.bit_table_commands.specs.Replies.{reply_text}
+use Rattle.bit_table_commands.specs.Tables.{TableShape, IsTable, state_with}
+use Rattle.bit_table_commands.specs.Causes.{cause_in, spelled_cause}
+use Rattle.bit_table_commands.specs.Edits.{edit, reply_to}
 use Rattle.bit_table.specs.Scripts.{answer_by, after_by, command_answer, command_edit}
-use Rattle.bit_table.proofs.CutLemmas.{is_spelled, cause_in-cut_off, cut_off-accepted}
+use Rattle.bit_table_commands.proofs.CallerLemmas.{is_spelled, cause_in-cut_off, cut_off-accepted}
 
 pub if_ok_weaker : {T E : Type 0} (r : Result T E) (P Q : T → Type 0) → ((x : T) → P x → Q x) → IfOk r P → IfOk r Q
 if_ok_weaker (Ok x) P Q f h = f x h
@@ -25,6 +27,20 @@ pub if_and_on_ok : {T E : Type 0} (r : Result T E) (P Q : T → Type 0) (S : Typ
     → IfOk r P → OnOk r S → IfOk r Q
 if_and_on_ok (Ok x) P Q S f h k = f x h k
 if_and_on_ok (Err e) P Q S f h k = tt
+
+-- the cause for which a command is refused
+pub refused_for : (o : Option Cause) (r : Result Reply Fault) (cause : Cause) → r ≡ Err (Refused cause)
+    → MatchOption o (IsOkUnless r Memory) (λ c. r ≡ Err (Refused c)) → o ≡ Some cause
+refused_for None r cause e h =
+    let no : Refused cause ≡ Memory = subst (λ x. IsOkUnless x Memory) e h in
+    absurd (cc)
+refused_for (Some c) r cause e h = cc
+
+-- a command that is carried out is refused for no cause
+pub not_refused : (o : Option Cause) (r : Result Reply Fault) (reply : Reply) → r ≡ Ok reply
+    → MatchOption o (IsOkUnless r Memory) (λ c. r ≡ Err (Refused c)) → o ≡ None
+not_refused None r reply e h = refl
+not_refused (Some c) r reply e h = absurd (cc)
 
 -- what is known of a line that spells a command, of which this is kept
 pub record IsRead (t : TableShape) (line : List ℕ) (kept : Command) (cause : Option Cause) : Type 0 where

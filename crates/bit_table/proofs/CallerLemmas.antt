@@ -2,16 +2,14 @@
 use Rattle.std.proofs.Common.{ℕ, List, Option, IfSome}
 use Rattle.std.specs.Io.KnownBytes.{Appends}
 use Rattle.bit_table_script.specs.Runs.{RanToEnd}
-use Rattle.bit_table.specs.Tables.{start}
+use Rattle.bit_table_commands.specs.Tables.{start}
 use Rattle.bit_table.specs.Scripts.{answers, script_answer}
 -- ---- the bits of a row, and chains over the words of a line
 pub use Rattle.bit_table_layout.proofs.CallerLemmas.{row_width-bounds, YieldsList-from_words}
 -- ---- images, and the rows that have them
 pub use Rattle.bit_table_layout.proofs.ImageLemmas.{images_tell_numbers, has_only_numbers}
--- ---- commands that are cut off
-pub use Rattle.bit_table_script.proofs.CallerLemmas.{take_all-cut_value, cut_value-all_taken, length-cut_value}
-pub use Rattle.bit_table_script.proofs.CallerLemmas.{cut_place-below, cut_place-within, command_of-insert_length}
-pub use Rattle.bit_table.proofs.CutLemmas.{cause_in-cut_off, cut_off-accepted}
+-- ---- commands, refused and cut off
+pub use Rattle.bit_table_commands.proofs.CallerLemmas
 -- ---- what a run wrote
 pub use Rattle.bit_table_script.proofs.CallerLemmas.{answered-to_end}
 

@@ -4,13 +4,13 @@ use Rattle.std.specs.Prelude.{⊤}
 use Rattle.std.specs.Fmt.{digits}
 use Rattle.hex.proofs.OnLiterals.{hex_on_literals}
 use Rattle.bit_table_layout.specs.Layouts.{layout_of}
-use Rattle.bit_table_script.specs.Commands.{command_of}
-use Rattle.bit_table.specs.Causes.{command_cause}
+use Rattle.bit_table_commands.specs.Commands.{command_of}
+use Rattle.bit_table_commands.specs.Causes.{cause_in}
 use Rattle.bit_table.specs.Scripts.{answer, after, script_answer}
 
 -- what computes the answer to a script at a literal
 unfoldable scripts_on_literals : ⊤
-unfolding answer after command_cause layout_of command_of hex_on_literals digits
+unfolding answer after cause_in layout_of command_of hex_on_literals digits
 scripts_on_literals = tt
 
 -- nothing is answered to no line with a word

@@ -1,7 +1,7 @@
 -- A line in a session: its answer, and the state that it leaves.
 use Rattle.std.proofs.Common.{◌≡◌, ℕ, true, false, List, [], ◌∷◌, ◌++◌, Some, None, sym, ap, ◌∙◌, refl}
-use Rattle.bit_table.specs.Tables.{TableShape, State, start, state_with}
-use Rattle.bit_table.specs.Causes.{line_cause}
+use Rattle.bit_table_commands.specs.Tables.{TableShape, State, start, state_with}
+use Rattle.bit_table_commands.specs.Causes.{line_cause}
 use Rattle.bit_table.specs.Scripts.{has_word, answer_by, after_by, answer, after, answers}
 
 -- the answers to a line and those that follow

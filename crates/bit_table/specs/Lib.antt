@@ -1,7 +1,4 @@
-pub mod Packed
-pub mod Tables
-pub mod Causes
-pub mod Edits
+pub mod Shapes
 pub mod Scripts
 pub mod Sessions
 pub mod ScriptLaws
@@ -18,16 +15,22 @@ pub use Rattle.bit_table_layout.specs.declared.layout.Rule
 pub use Rattle.bit_table_layout.specs.declared.layout.TheConstants as Limits
 pub use Rattle.bit_table_layout.specs.declared.line_words.Words
 pub use Rattle.bit_table_layout.specs.CauseWords
-pub use Rattle.bit_table_script.specs.Commands
+pub use Rattle.bit_table_commands.specs.Tables
+pub use Rattle.bit_table_commands.specs.Causes
+pub use Rattle.bit_table_commands.specs.Edits
+pub use Rattle.bit_table_commands.specs.CuttingOff
+pub use Rattle.bit_table_commands.specs.Commands
 pub use Rattle.bit_table_script.specs.Ends
 pub use Rattle.bit_table_script.specs.Lines
-pub use Rattle.bit_table_script.specs.Replies
+pub use Rattle.bit_table_commands.specs.Replies
 pub use Rattle.bit_table_script.specs.Runs
 pub use Rattle.bit_table_script.specs.Streams
 pub use Rattle.bit_table_layout.specs.declared.cause.Cause
 pub use Rattle.bit_table_layout.specs.declared.cause.Fault
 pub use Rattle.bit_table_script.specs.declared.run_error.RunError
-pub use Rattle.bit_table_script.specs.declared.command.Command
-pub use Rattle.bit_table_script.specs.declared.reply.Reply
+pub use Rattle.bit_table_commands.specs.declared.command.Command
+pub use Rattle.bit_table_commands.specs.declared.reply.Reply
 pub use Rattle.bit_table_script.specs.declared.streams.Input
 pub use Rattle.bit_table_script.specs.declared.streams.Output
+pub use Rattle.bit_table_store.specs.View
+pub use Rattle.bit_table_store.specs.declared.table.Table

@@ -2,7 +2,7 @@
 use Rattle.std.specs.Prelude.{ℕ, List, [], ◌∷◌, ◌++◌, refl}
 use Rattle.std.proofs.Common.{sym, ap, ◌∙◌, append_assoc}
 use Rattle.bit_table_script.specs.Lines.{IsBeginning}
-use Rattle.bit_table.specs.Tables.{State}
+use Rattle.bit_table_commands.specs.Tables.{State}
 use Rattle.bit_table.specs.Scripts.{answer, after, answers}
 
 -- the answers to some lines are a beginning of the answers to those lines and more

@@ -1,8 +1,9 @@
 -- The state of a session. No public clause cites this module.
 use Rattle.bit_table.specs.declared.session.Session.{Session}
-use Rattle.bit_table.specs.Tables.{State}
+use Rattle.bit_table_commands.specs.Tables.{State}
 use Rattle.bit_table.specs.Scripts.{state_of}
+use Rattle.bit_table.specs.Shapes.{shape_in}
 
 -- the state of a script that a session has come to
-abbrev pub session_state : Session → State
-session_state s = state_of s.table
+abbrev pub session_state : {A O : Type 0} {g : _} → Session A O g → State
+session_state s = state_of (shape_in s.table)

@@ -1,18 +1,19 @@
-//! A table of packed rows, edited by the lines of a script.
+//! A table of packed rows over any storage word and any lawful order of bits, edited by the lines of a script.
 #![tactic(auto)]
 
-mod packed;
 mod script_run;
 mod session;
-mod table;
 
+pub use bit_table_commands::{
+    Command, ImageBytes, Items, Numbers, Reply, Values, cutting_off_changes_nothing,
+};
+pub use bit_table_digits::{Digits, HiLo, digits_by_bits};
+pub use bit_table_image as image;
 pub use bit_table_layout::{
-    Field, Layout, LayoutError, MAX_BITS, MAX_ROW_BITS, Rule, Words, image, is_number,
+    Cause, Fault, Field, Layout, LayoutError, MAX_BITS, MAX_ROW_BITS, Rule, Words, is_number,
     is_separator, number_up_to,
 };
-pub use bit_table_script::{
-    Cause, Command, Fault, ImageBytes, Input, Items, LineMachine, Output, Reply, RunError, Values,
-    drive,
-};
+pub use bit_table_moves::move_rows;
+pub use bit_table_script::{Input, LineMachine, Output, RunError, drive};
+pub use bit_table_store::Table;
 pub use script_run::run;
-pub use table::{Table, cutting_off_changes_nothing};

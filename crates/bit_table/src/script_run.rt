@@ -1,11 +1,14 @@
 //! The run of a script.
-ghost use Rattle.std.specs.Prelude.{◌≡◌, ◌-◌, ◌^◌, ◌<◌, ◌↔◌, false, OnOk, IfSome, IsErrOf, IsTrue, length};
+ghost use Rattle.std.specs.Prelude.{◌≡◌, ◌*◌, ◌≤◌, ◌-◌, ◌^◌, ◌<◌, ◌↔◌, false, OnOk, IfSome, IsErrOf, IsTrue, length};
 ghost use Rattle.bit_table_script.specs.Ends.{input_reader, input_failed, output_writer, output_failed};
 ghost use Rattle.bit_table_script.specs.Runs.{RanToEnd, StoppedByRead, StoppedByWrite, StoppedByMemory};
 ghost use Rattle.bit_table.specs.Scripts.{answers};
-ghost use Rattle.bit_table.specs.Tables.{start};
+ghost use Rattle.bit_table_commands.specs.Tables.{start};
 
 use super::session::Session;
+use bit_slice_paths::WordPaths;
+use bit_slice_stores::BitViewSized;
+use bit_table_digits::Digits;
 use bit_table_script::{Input, Output, RunError, drive};
 use std::alloc::Global;
 use std::io::{Read, Write};
@@ -18,11 +21,12 @@ use std::io::{Read, Write};
 /// `Read` and drops the line begun; a write that fails or takes no byte ends it with `Write`; want of memory ends it
 /// with `Memory`, and nothing is written for that line. The reader is asked at most `2^64 - 1` times; without a clean
 /// end by then the run ends with `Read`.
-pub fn run<R: Read, W: Write>(
+pub fn run<A: BitViewSized, O: WordPaths<A::Store> + Digits<A::Store>, R: Read, W: Write>(
     alloc: Global,
     input: &mut Input<R>,
     output: &mut Output<W>,
 ) -> Result<(), RunError>
+    requires buffer { 256 ≤ A.COUNT * A.Store.BITS }
     requires readable { input_failed input.old ≡ false }
     requires writable { output_failed output.old ≡ false }
 
@@ -49,6 +53,6 @@ pub fn run<R: Read, W: Write>(
         IsErrOf result RunError.Read → IsTrue (input_failed input.new)) }
     ensures write_told { IsErrOf result RunError.Write ↔ IsTrue (output_failed output.new) }
 {
-    let mut session = Session::new(alloc);
+    let mut session = Session::<A, O>::new(alloc);
     drive(alloc, &mut session, input, output)
 }

@@ -1,34 +1,42 @@
 //! A script's lines, answered one after another.
-ghost use Rattle.std.specs.Prelude.{◌≡◌, IfOk, OnOk, None, Some, IsTrue};
+ghost use Rattle.std.specs.Prelude.{◌≡◌, ◌*◌, ◌≤◌, IfOk, OnOk, None, Some, IsTrue};
 ghost use Rattle.bit_table_layout.specs.LineWords.{words};
-ghost use Rattle.bit_table.specs.Causes.{line_cause};
+ghost use Rattle.bit_table_commands.specs.Causes.{line_cause};
 ghost use Rattle.bit_table.specs.Scripts.{has_word, answer_by, after_by, state_of};
-ghost use Rattle.bit_table.specs.Tables.{start, state_with};
+ghost use Rattle.bit_table.specs.Shapes.{shape_in};
+ghost use Rattle.bit_table_commands.specs.Tables.{start, state_with};
 
-use super::table::Table;
-use bit_table_layout::{Layout, LayoutError, Words};
-use bit_table_script::{Cause, Command, Fault, LineMachine, Reply};
+use bit_slice_paths::WordPaths;
+use bit_slice_stores::BitViewSized;
+use bit_table_commands::{Command, Reply};
+use bit_table_digits::Digits;
+use bit_table_layout::{Cause, Fault, Layout, LayoutError, Words};
+use bit_table_script::LineMachine;
+use bit_table_store::Table;
 use std::alloc::{AllocError, Global};
 
 // What has come of a script so far: no layout yet, or a table.
 #[derive(Drop)]
-pub(crate) struct Session {
+pub(crate) struct Session<A: BitViewSized, O: WordPaths<A::Store> + Digits<A::Store>> {
     alloc: Global,
-    table: Option<Table>,
+    table: Option<Table<A, O>>,
+
+    ghost buffer: { 256 ≤ A.COUNT * A.Store.BITS },
 }
 
-impl Session {
+impl<A: BitViewSized, O: WordPaths<A::Store> + Digits<A::Store>> Session<A, O> {
     ghost use Rattle.bit_table.specs.Sessions.{session_state};
 
     // The beginning of a script.
-    pub(crate) fn new(alloc: Global) -> Session
+    pub(crate) fn new(alloc: Global) -> Session<A, O>
+        requires { 256 ≤ A.COUNT * A.Store.BITS }
         ensures { session_state result ≡ start }
     {
         Session { alloc, table: None }
     }
 }
 
-impl LineMachine for Session {
+impl<A: BitViewSized, O: WordPaths<A::Store> + Digits<A::Store>> LineMachine for Session<A, O> {
     ghost use Rattle.std.specs.Prelude.{List, ℕ, refl};
     ghost use Rattle.bit_table.specs.Sessions.{session_state};
     ghost use Rattle.bit_table.specs.Scripts.{answers};
@@ -43,7 +51,7 @@ impl LineMachine for Session {
         if let Some(table) = &mut self.table {
             return answer_command_line(self.alloc, table, line);
         }
-        let (table, text) = answer_layout_line(self.alloc, line)?;
+        let (table, text) = answer_layout_line::<A, O>(self.alloc, line)?;
         self.table = table;
         Ok(text)
     }
@@ -61,9 +69,13 @@ fn has_word(line: &[u8]) -> bool
 }
 
 // Tries a line with a word as a layout line, and gives the table that it makes, if it does, and its answer.
-fn answer_layout_line(alloc: Global, line: &[u8]) -> Result<(Option<Table>, Vec<u8>), AllocError>
+fn answer_layout_line<A: BitViewSized, O: WordPaths<A::Store> + Digits<A::Store>>(
+    alloc: Global,
+    line: &[u8],
+) -> Result<(Option<Table<A, O>>, Vec<u8>), AllocError>
+    requires { 256 ≤ A.COUNT * A.Store.BITS }
     ensures text { IfOk result (λ begun. begun.1.items ≡ answer_by (line_cause None line.now) None line.now) }
-    ensures state { IfOk result (λ begun. state_of begun.0 ≡ after_by (line_cause None line.now) start line.now) }
+    ensures state { IfOk result (λ begun. state_of (shape_in begun.0) ≡ after_by (line_cause None line.now) start line.now) }
 {
     match Layout::parse(alloc, line) {
         Ok(layout) => {
@@ -76,11 +88,15 @@ fn answer_layout_line(alloc: Global, line: &[u8]) -> Result<(Option<Table>, Vec<
 }
 
 // Carries a line with a word out on a table, and gives its answer.
-fn answer_command_line(alloc: Global, table: &mut Table, line: &[u8]) -> Result<Vec<u8>, AllocError>
+fn answer_command_line<A: BitViewSized, O: WordPaths<A::Store> + Digits<A::Store>>(
+    alloc: Global,
+    table: &mut Table<A, O>,
+    line: &[u8],
+) -> Result<Vec<u8>, AllocError>
     ensures text { IfOk result (λ text.
-        text.items ≡ answer_by (line_cause (Some table.old) line.now) (Some table.old) line.now) }
+        text.items ≡ answer_by (line_cause (Some table.old.shape) line.now) (Some table.old.shape) line.now) }
     ensures state { OnOk result (
-        state_with table.new ≡ after_by (line_cause (Some table.old) line.now) (state_with table.old) line.now) }
+        state_with table.new.shape ≡ after_by (line_cause (Some table.old.shape) line.now) (state_with table.old.shape) line.now) }
 {
     let command = match Command::parse(alloc, table.layout(), line) {
         Ok(command) => command,

@@ -3,6 +3,5 @@ pub mod LineLemmas
 pub mod GoingLemmas
 pub mod Pieces
 pub mod ReachedLemmas
-pub mod CommandLemmas
 pub mod CallerLemmas
 mod KnownRows

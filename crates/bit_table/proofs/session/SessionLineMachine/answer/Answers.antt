@@ -1,25 +1,26 @@
 use Rattle.std.proofs.Common.{◌≡◌, None, sym, ap, refl, rules}
 use Rattle.bit_table.specs.Scripts.{state_of}
+use Rattle.bit_table.specs.Shapes.{shape_in}
 use Rattle.bit_table.proofs.AnswerLemmas.{if_and_on_ok}
 use Rattle.bit_table.proofs.SessionLemmas.{answers-blank, answers-begun, answers-carried}
 use Rattle.bit_table.proofs.session.SessionLineMachine.answer.Goals as goal
 
 pub returns-then-not-has_word : goal.returns-then-not-has_word
-returns-then-not-has_word c =
+returns-then-not-has_word g c =
     answers-blank _ _ c.args.line.now c.new.result.items (sym c.if-not-has_word.ensures) c.new.ensures.items refl
 
 pub returns-in-Some : goal.returns-in-Some
-returns-in-Some c =
-    let state = ap state_of c.in-Some.is in
+returns-in-Some g c =
+    let state = ap (λ t. state_of (shape_in t)) c.in-Some.is in
     if_and_on_ok c.answer_command_line.result _ _ _
     (λ text e h rest. rw state
-    (answers-carried c.in-Some.table _ c.args.line.now text.items (sym c.if-not-has_word.ensures) e h rest))
+    (answers-carried c.in-Some.table.shape _ c.args.line.now text.items (sym c.if-not-has_word.ensures) e h rest))
     c.answer_command_line.ensures.text c.answer_command_line.ensures.state
 
 pub returns : goal.returns
-returns c =
+returns g c =
     let none : c.args.self.now.table ≡ None = search rules in
-    let state = ap state_of none in
+    let state = ap (λ t. state_of (shape_in t)) none in
     let some = sym c.if-not-has_word.ensures in
     let begun = c.in_ok-table.ensures in
     λ rest. rw state

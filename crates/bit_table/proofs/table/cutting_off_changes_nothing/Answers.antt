@@ -1,5 +1,0 @@
-use Rattle.bit_table.proofs.CutLemmas.{cut_off-acts}
-use Rattle.bit_table.proofs.table.cutting_off_changes_nothing.Goals as goal
-
-pub returns : goal.returns
-returns c = cut_off-acts

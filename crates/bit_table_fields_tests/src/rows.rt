@@ -1,6 +1,8 @@
 //! Rows of numbers worked by hand, under both digit rules and three orders.
 
+use crate::callers::{row_numbers, set_number};
 use bit_addressing::{Lsb0, Msb0};
+use bit_containers_vector::BitVec;
 use bit_slice_views::{BitSlice, Bits};
 use bit_slice_writes::BitSliceMut;
 use bit_table_digits::{Digits, HiLo};
@@ -124,5 +126,24 @@ fn one_number_is_written_over(rt: HostRuntime) -> Result<(), AllocError> {
     assert!(rt; load_number(&view, 3, Rule::High, 4, true) == -1);
     assert!(rt; load_number(&view, 3, Rule::High, 4, false) == 15);
     assert!(rt; load_number(&view, 10, Rule::High, 4, true) == 3);
+    Ok(())
+}
+
+// The same of a vector of two rows, by its row and its field.
+#[test]
+fn one_number_of_a_vector_is_written_over(rt: HostRuntime) -> Result<(), AllocError> {
+    let Ok(layout) = Layout::parse(rt.alloc(), b"high a:u3 b:i4".as_slice()) else {
+        return Ok(());
+    };
+    let mut rows = BitVec::<u8, Msb0>::from_slice(rt.alloc(), [0xbeu8, 0x8c].as_slice())?;
+    rows.truncate(14);
+    let fields = layout.fields();
+    assert!(rt; rows.len() == 14 && layout.row_bits() == 7 && fields.len() == 2);
+    assert!(rt; fields[0].takes(7));
+    set_number(&mut rows, &layout, 2, 1, 0, 7);
+    let first = row_numbers(rt.alloc(), &rows, &layout, 2, 0)?;
+    let second = row_numbers(rt.alloc(), &rows, &layout, 2, 1)?;
+    assert!(rt; first.as_slice() == [5i128, -1].as_slice());
+    assert!(rt; second.as_slice() == [7i128, 3].as_slice());
     Ok(())
 }

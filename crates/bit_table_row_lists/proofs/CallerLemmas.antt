@@ -2,7 +2,8 @@
 -- `rows_from l n bits`, of as many bits as n rows have.
 --
 -- More and fewer: `rows_after_insert`, `rows_after_delete`, `rows_after_dup`. As many: `rows_after_copy`,
--- `rows_after_swap`, `rows_after_rotate`, `rows_after_set`. One row read: `row_read`.
+-- `rows_after_swap`, `rows_after_rotate`, `rows_after_set`. One row read: `row_read`. Where a number lies:
+-- `number_within`. The bits of a row stored in front of others: `row_stored`.
 use Rattle.std.proofs.Common.{◌≡◌, ℕ, suc, ◌+◌, ◌-◌, ◌*◌, ◌<◌, ◌≤◌, Bool, true, List, [], ◌∷◌, ◌++◌, ℤ, length}
 use Rattle.std.proofs.Common.{take, drop, map, set, sym, ap, ◌∙◌, arith, append_assoc}
 use Rattle.std.specs.Prelude.{Some, slice_get, slice_range}
@@ -23,6 +24,7 @@ use Rattle.bit_table_rows.proofs.RowListLemmas.{rows_inserted, rows_deleted, row
 use Rattle.bit_table_rows.proofs.RowListLemmas.{rows_exchanged, exchanged_one, rows_turned, rows_behind, row_alone}
 pub use Rattle.bit_table_row_lists.proofs.NumberLemmas.{field_inside}
 use Rattle.bit_table_row_lists.proofs.NumberLemmas.{get_in_front, number_written, written_inside}
+use Rattle.bit_table_row_lists.proofs.NumberLemmas.{field_inside, front_written, get_in_front, number_written, written_inside}
 
 -- the rows of a layout are cut out of their bits
 pub numbers_as_rows : (l : LayoutShape) → CutsRows (row_width l.fields) (rows_from l)
@@ -30,6 +32,16 @@ numbers_as_rows l = record {
   count = λ n bits all. length-rows_from l n bits;
   joined = λ m n xs ys first rest. rows_from-append l m n xs ys first;
 }
+
+-- a row stored in front of other bits, and read there
+pub row_stored : (l : LayoutShape) (bits : List Bool) (vs : List ℤ) → takes_all l.fields vs ≡ true
+    → row_width l.fields ≤ length bits
+    → piece (with_piece bits 0 (numbers_bits l.rule l.fields vs)) 0 (row_width l.fields)
+    ≡ numbers_bits l.rule l.fields vs
+unfolding piece
+row_stored l bits vs fits room =
+    front_written bits (numbers_bits l.rule l.fields vs) (row_width l.fields) (length-numbers_bits l.rule l.fields vs fits)
+    room
 
 module _ (l : LayoutShape) (n : ℕ) (bits : List Bool) (all : length bits ≡ n * row_width l.fields) where
   -- how many bits a row has
@@ -90,6 +102,11 @@ module _ (l : LayoutShape) (n : ℕ) (bits : List Bool) (all : length bits ≡ n
       (rows_from l m (drop w (drop (p * w) bits)))
       (sym (rows_behind w (rows_from l) (numbers_as_rows l) n p bits (omega arith) all)
       ∙ ap (λ k. rows_from l k (drop (p * w) bits)) count)
+
+  -- number f of row p lies among the bits
+  pub number_within : (p f : ℕ) (field : FieldShape) → p < n → slice_get l.fields f ≡ Some field
+      → p * w + row_width (take f l.fields) + field.width ≤ length bits
+  number_within p f field low is = omega (arith, place_end p n w low, field_inside l.fields f field is)
 
   -- number f of row p made v
   pub rows_after_set : (p f : ℕ) (field : FieldShape) (v : ℤ) → is_layout l ≡ true → p < n

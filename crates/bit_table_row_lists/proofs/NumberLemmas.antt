@@ -26,7 +26,7 @@ rest_written : (xs ys : List Bool) (w a : ℕ) → w + a + length ys ≤ length 
 unfolding with_piece
 rest_written xs ys w a fits = same_lists _ _ (grind (arith, places)) (λ k d h. grind (arith, places))
 
-front_written : (xs ys : List Bool) (w : ℕ) → length ys ≡ w → w ≤ length xs → take w (with_piece xs 0 ys) ≡ ys
+pub front_written : (xs ys : List Bool) (w : ℕ) → length ys ≡ w → w ≤ length xs → take w (with_piece xs 0 ys) ≡ ys
 unfolding with_piece
 front_written xs ys w size fits = same_lists _ _ (grind (arith, places)) (λ k d h. grind (arith, places))
 

@@ -23,8 +23,7 @@ use Rattle.bit_table_rows.proofs.PlaceLemmas.{place_end}
 use Rattle.bit_table_rows.proofs.RowListLemmas.{rows_inserted, rows_deleted, rows_repeated, rows_written, rows_copied}
 use Rattle.bit_table_rows.proofs.RowListLemmas.{rows_exchanged, exchanged_one, rows_turned, rows_behind, row_alone}
 pub use Rattle.bit_table_row_lists.proofs.NumberLemmas.{field_inside}
-use Rattle.bit_table_row_lists.proofs.NumberLemmas.{get_in_front, number_written, written_inside}
-use Rattle.bit_table_row_lists.proofs.NumberLemmas.{field_inside, front_written, get_in_front, number_written, written_inside}
+use Rattle.bit_table_row_lists.proofs.NumberLemmas.{front_written, get_in_front, number_written, written_inside}
 
 -- the rows of a layout are cut out of their bits
 pub numbers_as_rows : (l : LayoutShape) → CutsRows (row_width l.fields) (rows_from l)

@@ -3,7 +3,11 @@
 
 mod boxed;
 mod compare;
+mod convert;
+mod fill;
+mod make;
 mod operators;
 mod text;
+mod words;
 
 pub use boxed::BitBox;

@@ -44,8 +44,27 @@ pub(crate) fn fill_first<T: BitStore, O: BitOrder<T>>(
     ensures rest { drop count words.new.items ≡ drop count words.old.items }
     ensures size { length words.new.items ≡ length words.old.items }
 {
-    let all = words.as_mut_slice();
-    fill_beside::<T, O>(&mut all[..count], place, len, bit);
+    fill_part::<T, O>(words.as_mut_slice(), count, place, len, bit);
+}
+
+#[tactic(auto, using(crate::proofs::PartLemmas::parts))]
+fn fill_part<T: BitStore, O: BitOrder<T>>(
+    words: &mut [T],
+    count: usize,
+    place: usize,
+    len: usize,
+    bit: bool,
+)
+    requires held { count ≤ length words.old }
+    requires within { place + len ≤ count * T.BITS }
+    requires ends { count * T.BITS < 2 ^ 64 }
+    ensures first { memory (read_by T.BitRegister O.position) (take count words.new)
+        ≡ with_piece (replicate (count * T.BITS) bit) place
+        (piece (memory (read_by T.BitRegister O.position) (take count words.old)) place len) }
+    ensures rest { drop count words.new ≡ drop count words.old }
+    ensures size { length words.new ≡ length words.old }
+{
+    fill_beside::<T, O>(&mut words[..count], place, len, bit);
 }
 
 // Makes each bit of some words that is not one of `len` bits from a place on `bit`.
@@ -73,8 +92,19 @@ pub(crate) fn flip_first<T: BitStore, O: BitOrder<T>>(words: &mut Vec<T>, count:
     ensures rest { drop count words.new.items ≡ drop count words.old.items }
     ensures size { length words.new.items ≡ length words.old.items }
 {
-    let all = words.as_mut_slice();
-    flip_all::<T, O>(&mut all[..count]);
+    flip_part::<T, O>(words.as_mut_slice(), count);
+}
+
+#[tactic(auto, using(crate::proofs::PartLemmas::parts))]
+fn flip_part<T: BitStore, O: BitOrder<T>>(words: &mut [T], count: usize)
+    requires held { count ≤ length words.old }
+    requires ends { count * T.BITS < 2 ^ 64 }
+    ensures first { memory (read_by T.BitRegister O.position) (take count words.new)
+        ≡ map not (memory (read_by T.BitRegister O.position) (take count words.old)) }
+    ensures rest { drop count words.new ≡ drop count words.old }
+    ensures size { length words.new ≡ length words.old }
+{
+    flip_all::<T, O>(&mut words[..count]);
 }
 
 // Flips each bit of some words.

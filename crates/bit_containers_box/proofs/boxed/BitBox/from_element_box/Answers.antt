@@ -1,0 +1,4 @@
+use Rattle.bit_containers_box.proofs.boxed.BitBox.from_element_box.Goals as goal
+
+pub returns-in-Ok-clause-ok : goal.returns-in-Ok-clause-ok
+returns-in-Ok-clause-ok g c = ?

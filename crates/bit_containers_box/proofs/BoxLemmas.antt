@@ -1,9 +1,9 @@
 -- Boxes of bits made of a vector's visible words.
 --
 -- What is visible: `shown_is`, `first_bits`. A box of a vector: `visible_fits`, `boxed_whole`; of a vector of which all
--- words are visible: `boxed_words`.
+-- words are visible: `boxed_words`. A copy: `alone_as`.
 use Rattle.std.proofs.Common.{◌≡◌, ℕ, ◌+◌, ◌*◌, ◌<◌, ◌≤◌, Bool, List, [], length, take, drop, arith, ap, ap₂, sym, ◌∙◌}
-use Rattle.std.proofs.Common.{inl, inr}
+use Rattle.std.proofs.Common.{inl, inr, Result, IfOk}
 use Rattle.std.proofs.lemmas.Bool.{cases_lt}
 use Rattle.std.proofs.lemmas.List.{drop_all, take_all}
 use Rattle.std.proofs.Math.Nat.{mul-le-mul_right}
@@ -18,6 +18,7 @@ use Rattle.bit_containers_vector.proofs.GrownLemmas.{piece_taken}
 use Rattle.bit_containers_vector.proofs.VectorLemmas.{length-visible, visible_piece}
 use Rattle.bit_containers_vector.proofs.WordLemmas.{length-bits}
 use Rattle.bit_containers_box.specs.Box.{box_bits, box_shown, IsBoxed}
+use Rattle.bit_containers_box.specs.Fill.{HoldsAlone}
 use Rattle.bit_containers_box.specs.declared.boxed.BitBox.{BitBox}
 
 -- how many words of a box are visible
@@ -90,3 +91,9 @@ boxed_words reading v ws b some bits head words is =
     ap₂ (λ k xs. take (words_for reading.bits k) xs) (ap₂ (λ p n. p + n) head size) words
     ∙ take_all (words_for reading.bits (0 + length ws * reading.bits)) ws (whole_words reading.bits (length ws) some) in
     record { bits = is.bits ∙ bits; head = is.head ∙ head; words = is.words ∙ all; rest = is.rest }
+
+-- a copy of another window with the same bits from the same head on
+pub alone_as : {T O E : Type 0} {g : _} (reading : Reading T) (r : Result (BitBox T O g) E) (at h : ℕ)
+    (xs ys : List Bool) → at ≡ h → xs ≡ ys → IfOk r (λ made. HoldsAlone reading made at xs)
+    → IfOk r (λ made. HoldsAlone reading made h ys)
+alone_as reading r at h xs ys head bits is = rw (← head, ← bits) is

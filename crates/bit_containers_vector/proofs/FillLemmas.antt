@@ -12,6 +12,7 @@ use Rattle.bit_addressing_memory.proofs.WindowLemmas.{window_beside, window_bit}
 use Rattle.bit_slice_changes.proofs.ListLemmas.{inverted_list, overwritten_list}
 use Rattle.bit_containers_vector.specs.Count.{words_for}
 use Rattle.bit_containers_vector.specs.Fill.{Aligned, FillsBeside, FillsWords, Flips}
+use Rattle.bit_containers_vector.specs.Lending.{HasWords}
 use Rattle.bit_containers_vector.specs.Vector.{vec_bits, visible}
 use Rattle.bit_containers_vector.specs.declared.vector.BitVec.{BitVec}
 use Rattle.bit_containers_vector.proofs.CountLemmas.{words_hold, words_within}
@@ -70,6 +71,17 @@ module _ {T O : Type 0} {g : _} (reading : Reading T) (old new : BitVec T O g) (
 
   same_room : vec_capacity new.words * reading.bits - new.head ≡ vec_capacity old.words * reading.bits - old.head
   same_room = ap₂ (λ c p. c * reading.bits - p) capacity head
+
+  -- the visible words made others
+  pub words_written : (words : List T) → new.words.items ≡ words → HasWords reading old words new
+  words_written words is = record {
+    words = all_shown ∙ is;
+    bits =
+        ap₂ (λ p k. piece (memory reading new.words.items) p k) head (len ∙ sym (length-bits reading old fits))
+        ∙ ap (λ ws. piece (memory reading ws) old.head (length (vec_bits reading old))) is;
+    head = head;
+    room = same_room;
+  }
 
   -- each visible word made another one
   pub words_filled : (word : T) → new.words.items ≡ replicate (length new.words.items) word

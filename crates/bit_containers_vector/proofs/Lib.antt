@@ -6,6 +6,7 @@ pub mod VectorLemmas
 pub mod MadeLemmas
 pub mod SetLemmas
 pub mod FillLemmas
+pub mod LendLemmas
 pub mod EditLemmas
 pub mod DrainLemmas
 pub mod ElementLemmas

@@ -2,6 +2,7 @@ pub mod Count
 pub mod Vector
 pub mod Grown
 pub mod Fill
+pub mod Lending
 pub mod Drained
 pub mod Spliced
 pub mod Answers

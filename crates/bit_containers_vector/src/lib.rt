@@ -8,6 +8,7 @@ mod edits;
 mod fill;
 mod grow;
 mod items;
+mod lend;
 mod make;
 mod operators;
 mod size;

@@ -11,7 +11,7 @@ ghost use Rattle.bit_slice_views.specs.View.{view_bits, view_head};
 use crate::vector::BitVec;
 use crate::words::{copy, extend_words, fill, words_taken};
 use bit_addressing::{BitOrder, BitRegister, MAX_BITS, mem};
-use bit_slice_stores::BitStore;
+use bit_slice_stores::{BitStore, BitViewSized};
 use bit_slice_views::{BitSlice, Bits};
 use std::alloc::{AllocError, Global};
 use std::marker::PhantomData;
@@ -113,6 +113,20 @@ impl<T: BitStore, O: BitOrder<T>> BitVec<T, O> {
         ensures words { IfOk result (λ made. vec_words made ≡ words.now) }
     {
         Ok(BitVec::from_vec(Vec::from_slice(alloc, words)?))
+    }
+
+    /// All bits of a word or of an array of words.
+    pub fn from_array<A: BitViewSized<Store = T>>(
+        alloc: Global,
+        array: &A,
+    ) -> Result<BitVec<T, O>, AllocError>
+        requires { A.COUNT * T.BITS ≤ MAX_BITS }
+        ensures bits { IfOk result (λ made. vec_bits (read_by T.BitRegister O.position) made
+            ≡ memory (read_by T.BitRegister O.position) (A.words array.now)) }
+        ensures head { IfOk result (λ made. vec_head made ≡ 0) }
+        ensures words { IfOk result (λ made. vec_words made ≡ A.words array.now) }
+    {
+        BitVec::from_slice(alloc, array.as_raw_slice())
     }
 
     /// All bits of a vector's words. It takes no memory.

@@ -1,11 +1,11 @@
 -- Boxes of bits made of a vector's visible words.
 --
--- What is visible: `shown_is`, `first_bits`. A box of a vector: `visible_fits`, `boxed_whole`; of a vector of which all
+-- What is visible: `shown_is`, `first_bits`, `box_fits`, `box_shows`. A box of a vector: `visible_fits`, `boxed_whole`; of a vector of which all
 -- words are visible: `boxed_words`. A copy: `alone_as`.
 use Rattle.std.proofs.Common.{◌≡◌, ℕ, ◌+◌, ◌*◌, ◌<◌, ◌≤◌, Bool, List, [], length, take, drop, arith, ap, ap₂, sym, ◌∙◌}
 use Rattle.std.proofs.Common.{inl, inr, Result, IfOk}
 use Rattle.std.proofs.lemmas.Bool.{cases_lt}
-use Rattle.std.proofs.lemmas.List.{drop_all, take_all}
+use Rattle.std.proofs.lemmas.List.{drop_all, length-take-le, take_all}
 use Rattle.std.proofs.Math.Nat.{mul-le-mul_right}
 use Rattle.bit_addressing.specs.Memory.{Reading, memory, piece}
 use Rattle.bit_addressing_memory.proofs.MemoryLemmas.{length-memory}
@@ -17,7 +17,7 @@ use Rattle.bit_containers_vector.proofs.CountLemmas.{words_hold, words_within}
 use Rattle.bit_containers_vector.proofs.GrownLemmas.{piece_taken}
 use Rattle.bit_containers_vector.proofs.VectorLemmas.{length-visible, visible_piece}
 use Rattle.bit_containers_vector.proofs.WordLemmas.{length-bits}
-use Rattle.bit_containers_box.specs.Box.{box_bits, box_shown, IsBoxed}
+use Rattle.bit_containers_box.specs.Box.{box_bits, box_shown, box_visible, IsBoxed}
 use Rattle.bit_containers_box.specs.Fill.{HoldsAlone}
 use Rattle.bit_containers_box.specs.declared.boxed.BitBox.{BitBox}
 
@@ -37,6 +37,26 @@ first_bits reading b some fits =
     piece_taken reading b.words.items (words_for reading.bits (b.head + b.len)) b.head b.len
     (words_within reading.bits (b.head + b.len) (length b.words.items) some fits)
     (words_hold reading.bits (b.head + b.len) some)
+
+-- the visible words are so long
+pub box_fits : {T O : Type 0} {g : _} (reading : Reading T) (b : BitBox T O g) → 0 < reading.bits
+    → b.head + b.len ≤ length b.words.items * reading.bits
+    → b.head + b.len ≤ length (box_visible reading b) * reading.bits
+box_fits reading b some fits =
+    let w : ℕ = words_for reading.bits (b.head + b.len) in
+    let size : length (box_visible reading b) ≡ w =
+    ap (λ k. length (take k b.words.items)) (shown_is reading b fits)
+    ∙ length-take-le w b.words.items (words_within reading.bits (b.head + b.len) (length b.words.items) some fits) in
+    let product : length (box_visible reading b) * reading.bits ≡ w * reading.bits = ap (λ k. k * reading.bits) size in
+    omega (arith, product, words_hold reading.bits (b.head + b.len) some)
+
+-- and show the bits
+pub box_shows : {T O : Type 0} {g : _} (reading : Reading T) (b : BitBox T O g) → 0 < reading.bits
+    → b.head + b.len ≤ length b.words.items * reading.bits
+    → piece (memory reading (box_visible reading b)) b.head b.len ≡ box_bits reading b
+box_shows reading b some fits =
+    ap (λ k. piece (memory reading (take k b.words.items)) b.head b.len) (shown_is reading b fits)
+    ∙ first_bits reading b some fits
 
 module _ {T O : Type 0} {g : _} (reading : Reading T) (v : BitVec T O g) (some : 0 < reading.bits)
     (fits : v.head + v.len ≤ length v.words.items * reading.bits) where

@@ -1,3 +1,4 @@
 pub mod PartLemmas
 pub mod BoxLemmas
 pub mod FillLemmas
+pub mod LeftLemmas

@@ -131,7 +131,7 @@ module _ {T O : Type 0} {g : _} (reading : Reading T) (old new : BitBox T O g) (
         let long : length (box_visible reading old) ≡ k =
         ap length old_visible ∙ length-take-le k old.words.items within in
         let now : memory reading (take k new.words.items)
-            ≡ with_piece (replicate (k * reading.bits) bit) old.head (box_bits reading old) =
+        ≡ with_piece (replicate (k * reading.bits) bit) old.head (box_bits reading old) =
         written ∙ ap (with_piece (replicate (k * reading.bits) bit) old.head) old_bits in
         record {
           bits =

@@ -153,7 +153,8 @@ impl<T: BitStore, O: BitOrder<T>> DoubleEndedIterator for IntoIter<T, O> {
 #[tactic(auto, using(crate::proofs::LeftLemmas::left))]
 impl<T: BitStore, O: BitOrder<T>> ExactSizeIterator for IntoIter<T, O> {
     fn len(&self) -> usize {
-        self.as_bitslice().len()
+        let left = self.as_bitslice();
+        left.len()
     }
 }
 

@@ -38,8 +38,8 @@ impl<T: BitStore, O: BitOrder<T>> BitBox<T, O> {
         ensures { IfOk result (λ made. HoldsAlone (read_by T.BitRegister O.position) made (view_head view.entry)
             (view_bits (read_by T.BitRegister O.position) view.entry)) }
     {
-        let vector = BitVec::from_bitslice(alloc, view)?;
-        Ok(BitBox::of_vector(vector))
+        let copied = BitVec::from_bitslice(alloc, view)?;
+        Ok(BitBox::of_vector(copied))
     }
 
     /// The bits of a vector, in its visible words. It takes no memory, and so it is never refused.
@@ -83,8 +83,8 @@ impl<T: BitStore, O: BitOrder<T>> BitBox<T, O> {
         ensures head { IfOk result (λ made. box_head made ≡ 0) }
         ensures rest { IfOk result (λ made. box_rest (read_by T.BitRegister O.position) made ≡ []) }
     {
-        let vector = BitVec::collect(alloc, items)?;
-        Ok(BitBox::of_vector(vector))
+        let collected = BitVec::collect(alloc, items)?;
+        Ok(BitBox::of_vector(collected))
     }
 
     /// The same bits, from the same head on, with dead bits that are 0.
@@ -107,8 +107,8 @@ impl<T: BitStore, O: BitOrder<T>> BitBox<T, O> {
         ensures { IfOk result (IsBoxed (read_by T.BitRegister O.position)
             (memory (read_by T.BitRegister O.position) (A.words array.now)) 0 (A.words array.now)) }
     {
-        let vector = BitVec::from_slice(alloc, array.as_raw_slice())?;
-        Ok(BitBox::of_vector(vector))
+        let copied = BitVec::from_slice(alloc, array.as_raw_slice())?;
+        Ok(BitBox::of_vector(copied))
     }
 
     /// All bits of a box of words. It takes no memory.
@@ -128,7 +128,7 @@ impl<T: BitStore, O: BitOrder<T>> BitBox<T, O> {
         ensures err { IfErr result (λ back. boxed_slice_items back ≡ boxed_slice_items words) }
     {
         match BitVec::try_from_vec(words.into_vec()) {
-            Ok(vector) => Ok(BitBox::of_vector(vector)),
+            Ok(made) => Ok(BitBox::of_vector(made)),
             Err(back) => Err(back.into_boxed_slice()),
         }
     }
@@ -140,7 +140,7 @@ impl<T: BitStore, O: BitOrder<T>> BitBox<T, O> {
         ensures err { IfErr result (λ refused. refused.value ≡ word) }
     {
         match BitVec::from_element(*Box::allocator(&word), *word) {
-            Ok(vector) => Ok(BitBox::of_vector(vector)),
+            Ok(made) => Ok(BitBox::of_vector(made)),
             Err(_) => Err(AllocFailed { value: word }),
         }
     }

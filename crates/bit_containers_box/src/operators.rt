@@ -4,13 +4,15 @@ ghost use Rattle.std.specs.Prelude.{◌≡◌, ◌&&◌, ◌||◌};
 ghost use Rattle.std.specs.Bool.{xor};
 ghost use Rattle.bit_addressing.specs.Memory.{read_by};
 ghost use Rattle.bit_containers_box.specs.Box.{Combines};
+ghost use Rattle.bit_slice_writes.specs.Combined.{combined};
+ghost use Rattle.bit_slice_writes.specs.ViewMut.{lent_bits, lent_frame};
 
 use crate::boxed::BitBox;
 use bit_addressing::{BitOrder, BitRegister};
 use bit_slice_paths::WordPaths;
 use bit_slice_stores::BitStore;
 use bit_slice_views::Bits;
-use bit_slice_writes::{and_view, or_view, xor_view};
+use bit_slice_writes::{BitSliceMut, and_view, or_view, xor_view};
 use std::ops::{BitAnd, BitAndAssign, BitOr, BitOrAssign, BitXor, BitXorAssign};
 
 /// Each bit becomes what it and the other's bit are both; those past the other's end are cleared.
@@ -87,5 +89,55 @@ impl<T: BitStore, O: WordPaths<T>, V: Bits<Store = T, Order = O> + Drop> BitXor<
         let mut combined = self;
         xor_view(&mut combined, other.as_bitslice());
         combined
+    }
+}
+
+/// What `&=` does with the box's bits as a window.
+impl<'a, 'b, T: BitStore, O: WordPaths<T>> BitAndAssign<&'b BitBox<T, O>>
+    for BitSliceMut<'a, T, O> {
+    ghost use Rattle.bit_containers_box.specs.Box.{box_bits};
+
+    ghost bitand_assign_gives = { λ before other after.
+        (lent_bits (read_by T.BitRegister O.position) after
+        ≡ combined (λ a b. a && b) (lent_bits (read_by T.BitRegister O.position) before)
+        (box_bits (read_by T.BitRegister O.position) other.now))
+        × (lent_frame (read_by T.BitRegister O.position) after
+        ≡ lent_frame (read_by T.BitRegister O.position) before) };
+
+    fn bitand_assign(&mut self, other: &'b BitBox<T, O>) {
+        *self &= other.as_bitslice();
+    }
+}
+
+/// What `|=` does with the box's bits as a window.
+impl<'a, 'b, T: BitStore, O: WordPaths<T>> BitOrAssign<&'b BitBox<T, O>> for BitSliceMut<'a, T, O> {
+    ghost use Rattle.bit_containers_box.specs.Box.{box_bits};
+
+    ghost bitor_assign_gives = { λ before other after.
+        (lent_bits (read_by T.BitRegister O.position) after
+        ≡ combined (λ a b. a || b) (lent_bits (read_by T.BitRegister O.position) before)
+        (box_bits (read_by T.BitRegister O.position) other.now))
+        × (lent_frame (read_by T.BitRegister O.position) after
+        ≡ lent_frame (read_by T.BitRegister O.position) before) };
+
+    fn bitor_assign(&mut self, other: &'b BitBox<T, O>) {
+        *self |= other.as_bitslice();
+    }
+}
+
+/// What `^=` does with the box's bits as a window.
+impl<'a, 'b, T: BitStore, O: WordPaths<T>> BitXorAssign<&'b BitBox<T, O>>
+    for BitSliceMut<'a, T, O> {
+    ghost use Rattle.bit_containers_box.specs.Box.{box_bits};
+
+    ghost bitxor_assign_gives = { λ before other after.
+        (lent_bits (read_by T.BitRegister O.position) after
+        ≡ combined xor (lent_bits (read_by T.BitRegister O.position) before)
+        (box_bits (read_by T.BitRegister O.position) other.now))
+        × (lent_frame (read_by T.BitRegister O.position) after
+        ≡ lent_frame (read_by T.BitRegister O.position) before) };
+
+    fn bitxor_assign(&mut self, other: &'b BitBox<T, O>) {
+        *self ^= other.as_bitslice();
     }
 }

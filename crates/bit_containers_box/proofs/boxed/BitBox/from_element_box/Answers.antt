@@ -8,6 +8,6 @@ returns-in-Ok-clause-ok g c =
     let reading = read_by g.T.BitRegister g.O.Positions.position in
     let made = c.in-Ok.ensures in
     let value = ap (λ w. w ∷ []) c.deref.ensures in
-    boxed_words reading c.in-Ok.vector (c.args.word.value ∷ []) c.of_vector.result
+    boxed_words reading c.in-Ok.made (c.args.word.value ∷ []) c.of_vector.result
     (omega (arith, g.met.T.BitRegister.least_bits)) (made.bits ∙ ap (memory reading) value) made.head
     (made.words ∙ value) c.of_vector.ensures

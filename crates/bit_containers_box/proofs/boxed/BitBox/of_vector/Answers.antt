@@ -10,13 +10,18 @@ invariant_of-result g c =
     let reading = read_by g.T.BitRegister g.O.Positions.position in
     let some : 0 < g.T.BitRegister.BITS = omega (arith, g.met.T.BitRegister.least_bits) in
     let size : length c.shrink_to_fit.new.self.items * g.T.BitRegister.BITS
-        ≡ length (visible reading v) * g.T.BitRegister.BITS =
+    ≡ length (visible reading v) * g.T.BitRegister.BITS =
     ap (λ ws. length ws * g.T.BitRegister.BITS) (c.shrink_to_fit.ensures.items ∙ c.into_vec-words.ensures) in
     record {
       inside = omega (arith, c.first_place-head.ensures.value, v.inside);
       short = omega (arith, c.len-len.ensures, c.first_place-head.ensures.short);
-      fits = omega (arith, size, c.len-len.ensures, c.first_place-head.ensures.value,
-          visible_fits reading v some v.fits);
+      fits = omega (
+        arith,
+        size,
+        c.len-len.ensures,
+        c.first_place-head.ensures.value,
+        visible_fits reading v some v.fits,
+      );
     }
 
 -- the words are those that `into_vec` gave

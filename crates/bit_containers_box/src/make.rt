@@ -107,8 +107,8 @@ impl<T: BitStore, O: BitOrder<T>> BitBox<T, O> {
         ensures { IfOk result (IsBoxed (read_by T.BitRegister O.position)
             (memory (read_by T.BitRegister O.position) (A.words array.now)) 0 (A.words array.now)) }
     {
-        let copied = BitVec::from_slice(alloc, array.as_raw_slice())?;
-        Ok(BitBox::of_vector(copied))
+        let words = BitVec::from_slice(alloc, array.as_raw_slice())?;
+        Ok(BitBox::of_vector(words))
     }
 
     /// All bits of a box of words. It takes no memory.

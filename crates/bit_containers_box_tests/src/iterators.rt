@@ -16,7 +16,9 @@ fn come_in_turn<O: BitOrder<u8>>(bits: IntoIter<u8, O>, list: &List) -> bool {
         if bits.len() != left.len || !lists(&bits.as_bitslice(), &left) {
             return false;
         }
-        let Some(fewer) = left.len.checked_sub(1) else { break };
+        let Some(fewer) = left.len.checked_sub(1) else {
+            break
+        };
         if k % 3 == 2 {
             if bits.next_back() != Some(left.at(fewer)) {
                 return false;
@@ -53,8 +55,14 @@ fn bits_come_from_both_ends(rt: HostRuntime) -> Result<(), AllocError> {
     let alloc = rt.alloc();
     for head in 0..8usize {
         for len in 0..9usize {
-            assert!(rt; are_given::<Lsb0>(alloc, head, len)?, "head {head}, {len} bits");
-            assert!(rt; are_given::<Msb0>(alloc, head, len)?, "head {head}, {len} bits");
+            assert!(rt;
+                are_given::<Lsb0>(alloc, head, len)?,
+                "head {head}, {len} bits"
+            );
+            assert!(rt;
+                are_given::<Msb0>(alloc, head, len)?,
+                "head {head}, {len} bits"
+            );
         }
     }
     Ok(())

@@ -3,7 +3,7 @@
 use crate::plain::start;
 use bit_addressing::{Lsb0, Msb0};
 use bit_containers_box::BitBox;
-use bit_slice_access::{BitsAccess, BitsFill};
+use bit_slice_access::{BitsFill, BitsParts};
 use bit_slice_views::{BitSlice, Bits};
 use bit_slice_writes::{BitSliceMut, BitsMut};
 use std::alloc::AllocError;
@@ -27,7 +27,7 @@ fn lent_words_are_the_visible_ones(rt: HostRuntime) -> Result<(), AllocError> {
     bits.force_align();
     assert!(rt; bits.as_raw_slice().len() == 1 && bits.count_ones() == 2 && bits[0] && bits[1]);
     turn_last(bits.as_raw_mut_slice());
-    assert!(rt; bits.count_ones() == 4 && !bits[0] && bits[5]);
+    assert!(rt; bits.len() == 6 && bits.count_ones() == 4 && !bits[0] && bits[5]);
     assert!(rt; bits.into_boxed_slice().len() == 2);
     Ok(())
 }

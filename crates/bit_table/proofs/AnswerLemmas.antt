@@ -1,11 +1,12 @@
 -- A line with a word in a table: what it is answered, and what state it leaves.
 use Rattle.std.proofs.Common.{◌≡◌, ℕ, List, Option, Some, None, Ok, Err, Result, IfOk, OnOk, sym, ap, ◌∙◌}
 use Rattle.std.specs.Prelude.{option_map}
-use Rattle.bit_table_script.specs.declared.cause.Cause.{Cause}
+use Rattle.bit_table_layout.specs.declared.cause.Cause.{Cause}
 use Rattle.bit_table_script.specs.declared.command.Command.{Command}
 use Rattle.bit_table_script.specs.declared.reply.Reply.{Reply}
 use Rattle.bit_table_script.specs.Commands.{command_of, cut_off}
-use Rattle.bit_table_script.specs.Replies.{reply_text, refusal_text}
+use Rattle.bit_table_layout.specs.CauseWords.{refusal_text}
+use Rattle.bit_table_script.specs.Replies.{reply_text}
 use Rattle.bit_table.specs.Tables.{TableShape, IsTable, state_with}
 use Rattle.bit_table.specs.Causes.{cause_in, spelled_cause}
 use Rattle.bit_table.specs.Edits.{edit, reply_to}

@@ -6,8 +6,8 @@ use Rattle.bit_table_layout.specs.declared.layout.TheConstants.{MAX_BITS}
 use Rattle.bit_table_layout.specs.Layouts.{LayoutShape, row_width}
 use Rattle.bit_table_layout.specs.Rows.{take_all}
 use Rattle.bit_table_layout.proofs.RowLemmas.{length-rows_from}
-use Rattle.bit_table_script.specs.declared.cause.Cause.{Cause}
-use Rattle.bit_table_script.specs.declared.cause.Cause.TheVariants as refusal
+use Rattle.bit_table_layout.specs.declared.cause.Cause.{Cause}
+use Rattle.bit_table_layout.specs.declared.cause.Cause.TheVariants as refusal
 use Rattle.bit_table_script.specs.declared.command.Command.{Command}
 use Rattle.bit_table_script.specs.declared.command.Command.TheVariants.{Insert, Image}
 use Rattle.bit_table.specs.Tables.{TableShape, IsTable}

@@ -5,9 +5,9 @@ use Rattle.std.proofs.Common.{IsOkUnless, arith, refl, ap, subst}
 use Rattle.std.specs.Prelude.{option_map}
 use Rattle.bit_table_layout.specs.Layouts.{row_width}
 use Rattle.bit_table_layout.proofs.RowLemmas.{fields_lawful, some_row_bits}
-use Rattle.bit_table_script.specs.declared.cause.Cause.{Cause}
-use Rattle.bit_table_script.specs.declared.cause.Fault.{Fault}
-use Rattle.bit_table_script.specs.declared.cause.Fault.TheVariants.{Refused, Memory}
+use Rattle.bit_table_layout.specs.declared.cause.Cause.{Cause}
+use Rattle.bit_table_layout.specs.declared.cause.Fault.{Fault}
+use Rattle.bit_table_layout.specs.declared.cause.Fault.TheVariants.{Refused, Memory}
 use Rattle.bit_table_script.specs.declared.command.Command.{Command}
 use Rattle.bit_table_script.specs.declared.command.Command.TheVariants.{Insert, Image}
 use Rattle.bit_table_script.specs.declared.reply.Reply.{Reply}

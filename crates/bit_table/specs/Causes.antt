@@ -5,8 +5,8 @@ use Rattle.std.specs.Prelude.{if◌then◌else◌}
 use Rattle.bit_table_layout.specs.declared.layout.TheConstants.{MAX_BITS}
 use Rattle.bit_table_layout.specs.Layouts.{LayoutShape, row_width, layout_of}
 use Rattle.bit_table_layout.specs.Rows.{take_all}
-use Rattle.bit_table_script.specs.declared.cause.Cause.{Cause}
-use Rattle.bit_table_script.specs.declared.cause.Cause.TheVariants as refusal
+use Rattle.bit_table_layout.specs.declared.cause.Cause.{Cause}
+use Rattle.bit_table_layout.specs.declared.cause.Cause.TheVariants as refusal
 use Rattle.bit_table_script.specs.declared.command.Command.{Command}
 use Rattle.bit_table_script.specs.declared.command.Command.TheVariants.{Insert, Image}
 use Rattle.bit_table_script.specs.Commands.{command_of}

@@ -17,16 +17,16 @@ pub use Rattle.bit_table_layout.specs.declared.layout.LayoutError
 pub use Rattle.bit_table_layout.specs.declared.layout.Rule
 pub use Rattle.bit_table_layout.specs.declared.layout.TheConstants as Limits
 pub use Rattle.bit_table_layout.specs.declared.line_words.Words
-pub use Rattle.bit_table_script.specs.CauseWords
+pub use Rattle.bit_table_layout.specs.CauseWords
 pub use Rattle.bit_table_script.specs.Commands
 pub use Rattle.bit_table_script.specs.Ends
 pub use Rattle.bit_table_script.specs.Lines
 pub use Rattle.bit_table_script.specs.Replies
 pub use Rattle.bit_table_script.specs.Runs
 pub use Rattle.bit_table_script.specs.Streams
-pub use Rattle.bit_table_script.specs.declared.cause.Cause
-pub use Rattle.bit_table_script.specs.declared.cause.Fault
-pub use Rattle.bit_table_script.specs.declared.cause.RunError
+pub use Rattle.bit_table_layout.specs.declared.cause.Cause
+pub use Rattle.bit_table_layout.specs.declared.cause.Fault
+pub use Rattle.bit_table_script.specs.declared.run_error.RunError
 pub use Rattle.bit_table_script.specs.declared.command.Command
 pub use Rattle.bit_table_script.specs.declared.reply.Reply
 pub use Rattle.bit_table_script.specs.declared.streams.Input

@@ -3,12 +3,13 @@ use Rattle.std.specs.Prelude.{ℕ, ◌==◌, not, Bool, List, [], ◌∷◌, ◌
 use Rattle.std.specs.Prelude.{Option, Some, None, option_map, if◌then◌else◌}
 use Rattle.bit_table_layout.specs.LineWords.{words}
 use Rattle.bit_table_layout.specs.Layouts.{layout_of}
-use Rattle.bit_table_script.specs.declared.cause.Cause.{Cause}
+use Rattle.bit_table_layout.specs.declared.cause.Cause.{Cause}
 use Rattle.bit_table_script.specs.declared.command.Command.{Command}
 use Rattle.bit_table_script.specs.declared.reply.Reply.TheVariants.{Done}
 use Rattle.bit_table_script.specs.Commands.{command_of}
 use Rattle.bit_table_script.specs.Lines.{lines}
-use Rattle.bit_table_script.specs.Replies.{reply_text, refusal_text}
+use Rattle.bit_table_layout.specs.CauseWords.{refusal_text}
+use Rattle.bit_table_script.specs.Replies.{reply_text}
 use Rattle.bit_table.specs.Tables.{TableShape, State, start, table_in, state_with, new_table}
 use Rattle.bit_table.specs.Causes.{cause}
 use Rattle.bit_table.specs.Edits.{edit, reply_to}

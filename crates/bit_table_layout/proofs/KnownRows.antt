@@ -2,7 +2,9 @@
 use Rattle.std.proofs.Common.{◌≡◌, ℕ, true, false, List, [], ◌∷◌, Some, None, pos, negsuc, codes, refl}
 use Rattle.std.specs.Fmt.{digits}
 use Rattle.hex.proofs.OnLiterals.{hex_on_literals}
+use Rattle.bit_table_layout.specs.declared.cause.Cause.TheVariants.{Form, Layout}
 use Rattle.bit_table_layout.specs.declared.layout.Rule.TheVariants.{Low, High}
+use Rattle.bit_table_layout.specs.CauseWords.{refusal_text}
 use Rattle.bit_table_layout.specs.Digits.{digit}
 use Rattle.bit_table_layout.specs.LineWords.{words}
 use Rattle.bit_table_layout.specs.Numerals.{number_in, whole_number_in}
@@ -227,3 +229,11 @@ line-rows = refl
 line-none : image_line 0 [] ≡ codes "0"
 unfolding hex_on_literals digits
 line-none = refl
+
+-- ---- refusals
+
+refusal-form : refusal_text Form ≡ codes "refused form\n"
+refusal-form = refl
+
+refusal-layout : refusal_text Layout ≡ codes "refused layout\n"
+refusal-layout = refl

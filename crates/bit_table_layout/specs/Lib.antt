@@ -8,3 +8,4 @@ pub mod Images
 pub mod Readings
 pub mod LineWordsLeft
 pub mod Steps
+pub mod CauseWords

@@ -75,8 +75,8 @@ pub(crate) fn parts(word: &[u8]) -> (&[u8], &[u8])
     }
 }
 
-// Whether a word is a name.
-fn is_name(word: &[u8]) -> bool
+/// Whether a word is a name: 1 to 16 bytes, a letter `a` to `z` followed by `a` to `z`, `0` to `9` or `_`.
+pub fn is_name(word: &[u8]) -> bool
     ensures { result ≡ is_name word.now }
 {
     !word.is_empty() && word.len() <= 16 && word[0].is_ascii_lowercase() && are_name_bytes(word)

@@ -1,6 +1,7 @@
 //! Layouts of packed rows: their lines, their fields, and the image of rows.
 #![tactic(auto)]
 
+mod cause;
 mod field;
 mod field_word;
 pub mod image;
@@ -8,7 +9,9 @@ mod layout;
 mod line_words;
 mod numerals;
 
+pub use cause::{Cause, Fault};
 pub use field::Field;
+pub use field_word::is_name;
 pub use layout::{Layout, LayoutError, MAX_BITS, MAX_ROW_BITS, Rule};
 pub use line_words::{Words, is_separator};
 pub use numerals::{is_number, number_up_to};

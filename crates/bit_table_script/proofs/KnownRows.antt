@@ -3,12 +3,11 @@ use Rattle.std.proofs.Common.{◌≡◌, ◌-◌, ◌+◌, ◌^◌, true, false,
 use Rattle.std.specs.Fmt.{digits}
 use Rattle.bit_table_layout.specs.declared.layout.Rule.TheVariants.{Low}
 use Rattle.bit_table_layout.specs.Layouts.{LayoutShape}
-use Rattle.bit_table_script.specs.declared.cause.Cause.TheVariants.{Form, Layout}
 use Rattle.bit_table_script.specs.declared.command.Command.TheVariants.{Insert, Image}
 use Rattle.bit_table_script.specs.declared.reply.Reply.TheVariants.{Done, Image as ImageReply}
 use Rattle.bit_table_script.specs.Commands.{command_of, cut_place, cut_value, cut_off}
 use Rattle.bit_table_script.specs.Lines.{lines, whole_lines}
-use Rattle.bit_table_script.specs.Replies.{reply_text, refusal_text}
+use Rattle.bit_table_script.specs.Replies.{reply_text}
 
 -- ---- lines
 
@@ -137,12 +136,6 @@ cut_off-image : cut_off Image ≡ Image
 cut_off-image = refl
 
 -- ---- answers
-
-refusal-form : refusal_text Form ≡ codes "refused form\n"
-refusal-form = refl
-
-refusal-layout : refusal_text Layout ≡ codes "refused layout\n"
-refusal-layout = refl
 
 reply-done : reply_text Done ≡ codes "ok\n"
 reply-done = refl

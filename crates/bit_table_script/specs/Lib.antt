@@ -1,4 +1,3 @@
-pub mod CauseWords
 pub mod Lines
 pub mod Streams
 pub mod Ends
@@ -16,3 +15,4 @@ pub use Rattle.bit_table_layout.specs.Numerals
 pub use Rattle.bit_table_layout.specs.Rows
 pub use Rattle.bit_table_layout.specs.declared.layout.Rule
 pub use Rattle.bit_table_layout.specs.declared.layout.TheConstants as Limits
+pub use Rattle.bit_table_layout.specs.CauseWords

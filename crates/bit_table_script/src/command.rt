@@ -5,9 +5,8 @@ ghost use Rattle.bit_table_layout.specs.LineWordsLeft.{words_left};
 ghost use Rattle.bit_table_script.specs.Commands.{command_of, cut_off, cut_value, image_in, whole_numbers_in};
 ghost use Rattle.bit_table_script.specs.CommandSteps.{insert_with, have_values, kept_values};
 
-use super::cause::{Cause, Fault};
 use super::items::Items;
-use bit_table_layout::{Layout, Words, is_number, number_up_to};
+use bit_table_layout::{Cause, Fault, Layout, Words, is_number, number_up_to};
 use std::alloc::{AllocError, Global};
 
 // The refusal of a line that spells no command.

@@ -9,7 +9,7 @@ ghost use Rattle.bit_table_script.specs.Runs.{AppendsFirstLines, RanToEnd, Stopp
 ghost use Rattle.bit_table_script.specs.Runs.{StoppedByMemory};
 ghost use Rattle.bit_table_script.specs.Going.{Going};
 
-use super::cause::RunError;
+use super::run_error::RunError;
 use super::streams::{Input, Output};
 use std::alloc::{AllocError, Global};
 use std::io::{Read, Write};

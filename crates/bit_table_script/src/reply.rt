@@ -1,8 +1,7 @@
 //! The replies to commands that were carried out.
 ghost use Rattle.std.specs.Prelude.{◌≡◌, IfOk};
-ghost use Rattle.bit_table_script.specs.Replies.{reply_text, refusal_text};
+ghost use Rattle.bit_table_script.specs.Replies.{reply_text};
 
-use super::cause::Cause;
 use super::items::Items;
 use bit_table_layout::image;
 use std::alloc::{AllocError, Global};
@@ -33,17 +32,5 @@ impl Reply {
                 Ok(text)
             }
         }
-    }
-}
-
-impl Cause {
-    /// The answer line of a refusal for this cause, with its line end.
-    pub fn line(self, alloc: Global) -> Result<Vec<u8>, AllocError>
-        ensures { IfOk result (λ text. text.items ≡ refusal_text self) }
-    {
-        let mut text = Vec::from_slice(alloc, b"refused ")?;
-        text.extend_from_slice(self.word().as_bytes())?;
-        text.push(b'\n')?;
-        Ok(text)
     }
 }

@@ -4,7 +4,7 @@ ghost use Rattle.std.specs.Io.{ReadsAtMost};
 ghost use Rattle.std.specs.Io.KnownBytes.{Appends, ReadConsumes};
 ghost use Rattle.bit_table_script.specs.Streams.{AppendsPart};
 
-use super::cause::RunError;
+use super::run_error::RunError;
 use std::io::{Read, Write};
 
 /// The reader of a script. It remembers whether a read failed.

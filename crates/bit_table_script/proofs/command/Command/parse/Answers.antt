@@ -1,8 +1,8 @@
 use Rattle.std.proofs.Common.{◌≡◌, ◌↔◌, None, Some, IfOk, IsErrOf, option_map, refl, sym, ap, ◌∙◌, subst}
 use Rattle.bit_table_layout.specs.LineWords.{words}
 use Rattle.bit_table_layout.specs.LineWordsLeft.{words_left}
-use Rattle.bit_table_script.specs.declared.cause.Cause.TheVariants.{Form}
-use Rattle.bit_table_script.specs.declared.cause.Fault.TheVariants.{Refused}
+use Rattle.bit_table_layout.specs.declared.cause.Cause.TheVariants.{Form}
+use Rattle.bit_table_layout.specs.declared.cause.Fault.TheVariants.{Refused}
 use Rattle.bit_table_script.specs.Commands.{command_of, cut_off}
 use Rattle.bit_table_script.proofs.CommandLemmas.{command_in-none, command_in-insert, command_in-image}
 use Rattle.bit_table_script.proofs.CommandLemmas.{command_in-other, cut_off-image_in}

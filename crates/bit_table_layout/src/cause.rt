@@ -1,7 +1,8 @@
-//! Why a line is refused, and what ends a call or a run early.
-ghost use Rattle.std.specs.Prelude.{◌≡◌};
-ghost use Rattle.bit_table_script.specs.CauseWords.{cause_word};
+//! Why a line is refused.
+ghost use Rattle.std.specs.Prelude.{◌≡◌, IfOk};
+ghost use Rattle.bit_table_layout.specs.CauseWords.{cause_word, refusal_text};
 
+use std::alloc::{AllocError, Global};
 use std::fmt;
 use thiserror::Error;
 
@@ -42,6 +43,16 @@ impl Cause {
             Cause::Kept => "kept",
         }
     }
+
+    /// The answer line of a refusal for this cause, with its line end.
+    pub fn line(self, alloc: Global) -> Result<Vec<u8>, AllocError>
+        ensures { IfOk result (λ text. text.items ≡ refusal_text self) }
+    {
+        let mut text = Vec::from_slice(alloc, b"refused ")?;
+        text.extend_from_slice(self.word().as_bytes())?;
+        text.push(b'\n')?;
+        Ok(text)
+    }
 }
 
 impl fmt::Display for Cause {
@@ -61,20 +72,6 @@ pub enum Fault {
     /// The line or the command is refused, for this cause.
     #[error("refused {0}")]
     Refused(Cause),
-    /// No memory was found.
-    #[error("no memory")]
-    Memory,
-}
-
-/// What ends a run before the clean end of its script.
-#[derive(Clone, Copy, Debug, PartialEq, Eq, Error)]
-pub enum RunError {
-    /// A read failed.
-    #[error("read fault")]
-    Read,
-    /// A write failed, or took no byte.
-    #[error("write fault")]
-    Write,
     /// No memory was found.
     #[error("no memory")]
     Memory,

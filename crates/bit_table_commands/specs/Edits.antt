@@ -1,0 +1,44 @@
+-- What a command does to a table, and what it answers.
+use Rattle.std.specs.Prelude.{ℕ, ◌+◌, ◌-◌, ℤ, List, [], ◌∷◌, ◌++◌, length, map, take, drop}
+use Rattle.std.specs.Prelude.{slice_get, slice_range, slice_set, Option, Some, None}
+use Rattle.std.specs.List.{swap}
+use Rattle.std.specs.Option.{option_map_or}
+use Rattle.bit_table_layout.specs.Rows.{Row, new_row}
+use Rattle.bit_table_layout.specs.Images.{image_bytes}
+use Rattle.bit_table_commands.specs.declared.command.Command.{Command}
+use Rattle.bit_table_commands.specs.declared.command.Command.TheVariants.{Insert, Delete, Set, Get, Copy, Swap, Rotate}
+use Rattle.bit_table_commands.specs.declared.command.Command.TheVariants.{Dup, Image}
+use Rattle.bit_table_commands.specs.declared.reply.Reply.{Reply}
+use Rattle.bit_table_commands.specs.declared.reply.Reply.TheVariants as answered
+use Rattle.bit_table_commands.specs.Tables.{TableShape}
+
+-- a row with v as its number of this field
+abbrev pub with_number : Option ℕ → ℤ → Row → Row
+with_number None v row = row
+with_number (Some f) v row = record row { numbers = slice_set row.numbers f v }
+
+-- the rows that a command leaves. Rows keep their letters wherever they go, and a new row bears none
+abbrev pub edited : List Row → Command → List Row
+edited rows (Insert p vs) = take p rows ++ (new_row vs ∷ drop p rows)
+edited rows (Delete p q) = take p rows ++ drop q rows
+edited rows (Set p f v) = take p rows ++ (map (with_number f v) (slice_range rows p (p + 1)) ++ drop (p + 1) rows)
+edited rows (Copy p q r) = take r rows ++ (slice_range rows p q ++ drop (r + (q - p)) rows)
+edited rows (Swap p q) = swap rows p q
+edited rows (Rotate p q k) =
+    take p rows ++ (slice_range rows (p + k) q ++ (slice_range rows p (p + k) ++ drop q rows))
+edited rows (Dup p q) = rows ++ slice_range rows p q
+edited rows c = rows
+
+-- the table that a command leaves
+abbrev pub edit : TableShape → Command → TableShape
+edit t c = record t { rows = edited t.rows c }
+
+-- the numbers of row p
+abbrev pub numbers_at : ℕ → List Row → List ℤ
+numbers_at p rows = option_map_or (λ (row : Row). row.numbers) (slice_get rows p) []
+
+-- what a command that is carried out answers
+abbrev pub reply_to : TableShape → Command → Reply
+reply_to t (Get p) = answered.Numbers (numbers_at p t.rows)
+reply_to t Image = answered.Image (length t.rows) (image_bytes t.layout t.rows)
+reply_to t c = answered.Done

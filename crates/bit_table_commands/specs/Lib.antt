@@ -1,0 +1,10 @@
+pub mod Names
+pub mod Commands
+pub mod CommandSteps
+pub mod Replies
+pub mod Tables
+pub mod Edits
+pub mod Causes
+pub mod CauseSteps
+pub mod Accepted
+pub mod CuttingOff

@@ -1,0 +1,61 @@
+//! The replies to commands that were carried out.
+ghost use Rattle.std.specs.Prelude.{◌≡◌, IfOk, map};
+ghost use Rattle.std.specs.Fmt.{signed_decimal};
+ghost use Rattle.std.specs.List.{join_with_byte};
+ghost use Rattle.bit_table_commands.specs.Replies.{reply_text};
+
+use super::items::Items;
+use bit_table_layout::image;
+use std::alloc::{AllocError, Global};
+
+/// The numbers of a row, one a field, in order.
+pub type Numbers = Items<i128>;
+
+/// The bytes of an image.
+pub type ImageBytes = Items<u8>;
+
+/// What a command that was carried out answers.
+#[derive(Debug, Drop, PartialEq, Eq)]
+pub enum Reply {
+    /// The command was carried out, and there is nothing more to tell.
+    Done,
+    /// The numbers of a row.
+    Numbers(Numbers),
+    /// The row count and the image bytes of the rows.
+    Image { rows: usize, bytes: ImageBytes },
+}
+
+impl Reply {
+    /// The answer line of the reply, with its line end: `ok`, the numbers in decimal with a space between each two, or
+    /// the image line.
+    pub fn line(&self, alloc: Global) -> Result<Vec<u8>, AllocError>
+        ensures { IfOk result (λ text. text.items ≡ reply_text self.now) }
+    {
+        let mut text = match self {
+            Reply::Done => Vec::from_slice(alloc, b"ok")?,
+            Reply::Numbers(numbers) => spaced(alloc, numbers.as_slice())?,
+            Reply::Image { rows, bytes } => {
+                let line = image::line(alloc, *rows, bytes.as_slice())?;
+                Vec::from_slice(alloc, line.as_bytes())?
+            }
+        };
+        text.push(b'\n')?;
+        Ok(text)
+    }
+}
+
+// The numbers in decimal, with a space between each two.
+fn spaced(alloc: Global, numbers: &[i128]) -> Result<Vec<u8>, AllocError>
+    ensures { IfOk result (λ text. text.items ≡ join_with_byte 32 (map signed_decimal numbers.now)) }
+{
+    let mut text = Vec::new(alloc);
+    let Some((first, rest)) = numbers.split_first() else {
+        return Ok(text);
+    };
+    text.extend_from_slice(first.to_string(alloc)?.as_bytes())?;
+    for number in rest {
+        text.push(b' ')?;
+        text.extend_from_slice(number.to_string(alloc)?.as_bytes())?;
+    }
+    Ok(text)
+}

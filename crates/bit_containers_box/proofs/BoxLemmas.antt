@@ -1,8 +1,8 @@
 -- Boxes of bits made of a vector's visible words.
 --
--- What is visible: `shown_is`, `first_bits`, `box_fits`, `box_shows`. A box of a vector: `visible_fits`, `boxed_whole`; of a vector of which all
--- words are visible: `boxed_words`. A copy: `alone_as`.
-use Rattle.std.proofs.Common.{◌≡◌, ℕ, ◌+◌, ◌*◌, ◌<◌, ◌≤◌, Bool, List, [], length, take, drop, arith, ap, ap₂, sym, ◌∙◌}
+-- What is visible: `shown_is`, `first_bits`, `box_fits`, `box_shows`. A box of a vector: `visible_fits`, `boxed_whole`; of
+-- a vector of which all words are visible: `boxed_words`. A copy: `alone_as`.
+use Rattle.std.proofs.Common.{◌≡◌, ℕ, ◌+◌, ◌*◌, ◌<◌, ◌≤◌, Bool, List, length, take, arith, ap, ap₂, ◌∙◌}
 use Rattle.std.proofs.Common.{inl, inr, Result, IfOk}
 use Rattle.std.proofs.lemmas.Bool.{cases_lt}
 use Rattle.std.proofs.lemmas.List.{drop_all, length-take-le, take_all}

@@ -6,7 +6,7 @@ use Rattle.std.proofs.Common.{arith, ap, ap₂, sym, ◌∙◌}
 use Rattle.std.proofs.lemmas.List.{places, same_lists, length-replicate, get_or-replicate, drop-map, take-map, length-take-le}
 use Rattle.bit_addressing.specs.Memory.{Reading, entry, memory, piece, with_piece, Overwrites}
 use Rattle.bit_addressing.specs.Moves.{Moves}
-use Rattle.bit_addressing_memory.proofs.MemoryLemmas.{length-memory, length-piece, memory_overwritten, piece_all}
+use Rattle.bit_addressing_memory.proofs.MemoryLemmas.{length-memory, memory_overwritten, piece_all}
 use Rattle.bit_addressing_memory.proofs.WindowLemmas.{length-window, window_bit}
 use Rattle.bit_slice_changes.proofs.ListLemmas.{inverted_list, overwritten_list}
 use Rattle.bit_containers_vector.specs.Count.{words_for}

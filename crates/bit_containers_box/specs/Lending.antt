@@ -20,11 +20,12 @@ same_facts b inside short fits =
 
 -- an iterator with these in place of its first words
 abbrev pub left_with : {T O : Type 0} {g : _} → IntoIter T O g → List T → IntoIter T O g
-left_with iter ws = record iter { words = with_items_from iter.words 0 ws; fits = rw (← as_many iter.words ws) iter.fits }
+left_with iter ws =
+    record iter { words = with_items_from iter.words 0 ws; fits = rw (← as_many iter.words ws) iter.fits }
 
 -- an iterator of which the facts are shown in another way is the same
-pub same_left : {T O : Type 0} {g : _} (iter : IntoIter T O g) (short : iter.len ≤ _) (small : iter.place + iter.len < _)
-    (fits : iter.place + iter.len ≤ _) → record iter { short = short; small = small; fits = fits } ≡ iter
+pub same_left : {T O : Type 0} {g : _} (iter : IntoIter T O g) (short : iter.len ≤ _)
+    (small : iter.place + iter.len < _) (fits : iter.place + iter.len ≤ _) → record iter { short = short; small = small; fits = fits } ≡ iter
 same_left iter short small fits =
     ap (λ p. record iter { short = p; small = small; fits = fits }) (le_prop short iter.short)
     ∙ ap (λ p. record iter { small = p; fits = fits }) (le_prop small iter.small)

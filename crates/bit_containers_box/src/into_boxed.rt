@@ -12,7 +12,7 @@ use bit_containers_vector::BitVec;
 use bit_slice_stores::BitStore;
 use std::alloc::AllocFailed;
 
-/// What becomes a box of its own bits: a vector. Its words are not copied, and so it is never refused.
+/// What becomes a box of its own bits: a vector, whose words are not copied.
 pub trait IntoBoxed: Sized {
     type Store: BitStore;
 
@@ -26,7 +26,7 @@ pub trait IntoBoxed: Sized {
     // The visible words.
     ghost shown: { Self → List Self.Store };
 
-    /// A box of the same bits, in the visible words. Without memory the vector would come back; none is taken.
+    /// A box of the same bits, in the visible words. It takes no memory, and so the vector never comes back.
     fn into_boxed_bitslice(self) -> Result<BitBox<Self::Store, Self::Order>, AllocFailed<Self>>
         ensures done { IsOk result }
         ensures same { IfOk result (IsBoxed (read_by Self.Store.BitRegister Self.Order.position) (list self)
@@ -38,8 +38,7 @@ pub trait IntoBoxed: Sized {
         ensures same { IfOk result (IsBoxed (read_by Self.Store.BitRegister Self.Order.position) (list self)
             (head self) (shown self)) };
 
-    /// The bits one after another: the iterator of the vector's box. Without memory the vector would come back; none is
-    /// taken.
+    /// The bits one after another: the iterator of that box. It takes no memory, and so the vector never comes back.
     fn into_iter(self) -> Result<IntoIter<Self::Store, Self::Order>, AllocFailed<Self>>
         ensures done { IsOk result }
         ensures bits { IfOk result (λ iter. left_bits (read_by Self.Store.BitRegister Self.Order.position) iter

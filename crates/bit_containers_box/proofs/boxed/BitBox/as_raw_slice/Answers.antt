@@ -1,4 +1,4 @@
-use Rattle.std.proofs.Common.{◌+◌, length, take, arith, sym, ap, ap₂, ◌∙◌}
+use Rattle.std.proofs.Common.{◌+◌, length, take, arith, sym, ap₂, ◌∙◌}
 use Rattle.bit_addressing.specs.Memory.{read_by}
 use Rattle.bit_containers_vector.proofs.CountLemmas.{words_within}
 use Rattle.bit_containers_box.proofs.BoxLemmas.{shown_is}

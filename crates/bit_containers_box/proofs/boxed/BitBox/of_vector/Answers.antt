@@ -1,4 +1,4 @@
-use Rattle.std.proofs.Common.{◌≡◌, ◌*◌, ◌<◌, length, arith, ap, sym, ◌∙◌}
+use Rattle.std.proofs.Common.{◌≡◌, ◌*◌, ◌<◌, length, arith, ap, ◌∙◌}
 use Rattle.bit_addressing.specs.Memory.{read_by}
 use Rattle.bit_containers_vector.specs.Vector.{visible}
 use Rattle.bit_containers_box.proofs.BoxLemmas.{boxed_whole, visible_fits}

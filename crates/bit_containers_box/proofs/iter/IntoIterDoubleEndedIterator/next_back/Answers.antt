@@ -1,4 +1,4 @@
-use Rattle.std.proofs.Common.{◌≡◌, ◌-◌, ◌<◌, ◌∷◌, [], length, get_or, false, arith, rules, ap, ◌∙◌}
+use Rattle.std.proofs.Common.{◌-◌, ◌∷◌, [], length, get_or, false, arith, rules, ap, ◌∙◌}
 use Rattle.std.proofs.lemmas.List.{length-append}
 use Rattle.bit_addressing.specs.Memory.{memory, piece, read_by}
 use Rattle.bit_addressing_memory.proofs.WindowLemmas.{length-window}

@@ -16,6 +16,14 @@ fn turn_last(words: &mut [u16]) {
     }
 }
 
+// Turns the first bit round, of whatever is written.
+fn turn_first<V: BitsMut>(bits: &mut V) {
+    if bits.len() > 0 {
+        let first = bits.bit(0);
+        bits.set(0, !first);
+    }
+}
+
 #[test]
 fn lent_words_are_the_visible_ones(rt: HostRuntime) -> Result<(), AllocError> {
     let alloc = rt.alloc();
@@ -41,6 +49,8 @@ fn lent_bits_are_written(rt: HostRuntime) -> Result<(), AllocError> {
     assert!(rt; window.len() == 8 && window.count_ones() == 5);
     window.invert();
     assert!(rt; bits.as_raw_slice() == [0b1111_0010u8, 0b0011_1111].as_slice());
+    turn_first(&mut bits);
+    assert!(rt; bits.as_raw_slice() == [0b1101_0010u8, 0b0011_1111].as_slice());
     bits.as_mut_slice().fill(true);
     assert!(rt; bits.as_slice().all() && bits.len() == 8 && bits.as_raw_slice().len() == 2);
     Ok(())

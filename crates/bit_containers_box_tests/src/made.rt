@@ -6,7 +6,7 @@ ghost use Rattle.bit_addressing_span.specs.declared.span.TheConstants.{MAX_BITS}
 use bit_addressing::{BitOrder, Lsb0, Msb0};
 use bit_containers_box::{BitBox, IntoBoxed};
 use bit_containers_vector::BitVec;
-use bit_slice_stores::{BitStore, BitViewSized};
+use bit_slice_stores::BitViewSized;
 use bit_slice_views::{BitSlice, Bits};
 use bit_slice_writes::BitsMut;
 use std::alloc::{AllocError, Global};

@@ -1,8 +1,10 @@
--- A box of bits, or an iterator over one, after its words were lent to be written.
-use Rattle.std.proofs.Common.{◌≡◌, ◌+◌, ◌<◌, ◌≤◌, ◌∙◌, List, ap}
+-- A box of bits, or an iterator over one, after its words were lent to be written: `HasWords`.
+use Rattle.std.proofs.Common.{◌≡◌, ◌+◌, ◌<◌, ◌≤◌, ◌∙◌, List, length, ap}
 use Rattle.std.specs.Coded.{le_prop}
 use Rattle.std.specs.Vec.{with_items_from}
+use Rattle.bit_addressing.specs.Memory.{Reading, memory, piece}
 use Rattle.bit_containers_vector.specs.Lending.{as_many}
+use Rattle.bit_containers_box.specs.Box.{box_bits, box_head, box_rest, box_visible}
 use Rattle.bit_containers_box.specs.declared.boxed.BitBox.{BitBox}
 use Rattle.bit_containers_box.specs.declared.iter.IntoIter.{IntoIter}
 
@@ -17,6 +19,14 @@ same_facts b inside short fits =
     ap (λ p. record b { inside = p; short = short; fits = fits }) (le_prop inside b.inside)
     ∙ ap (λ p. record b { short = p; fits = fits }) (le_prop short b.short)
     ∙ ap (λ p. record b { fits = p }) (le_prop fits b.fits)
+
+-- new is old with these in place of its visible words: as many bits, from the same head on, and the same words behind
+pub record HasWords {T O : Type 0} {g : _} (reading : Reading T) (old : BitBox T O g) (ws : List T) (new : BitBox T O g)
+    : Type 0 where
+  pub words : box_visible reading new ≡ ws
+  pub bits : box_bits reading new ≡ piece (memory reading ws) (box_head old) (length (box_bits reading old))
+  pub head : box_head new ≡ box_head old
+  pub rest : box_rest reading new ≡ box_rest reading old
 
 -- an iterator with these in place of its first words
 abbrev pub left_with : {T O : Type 0} {g : _} → IntoIter T O g → List T → IntoIter T O g

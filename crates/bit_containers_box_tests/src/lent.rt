@@ -1,13 +1,34 @@
 //! The words and the bits of boxes, lent to be written.
 
+ghost use Rattle.std.specs.Prelude.{◌≡◌, reverse};
+ghost use Rattle.bit_addressing.specs.Memory.{read_by};
+ghost use Rattle.bit_containers_box.specs.Box.{box_visible};
+ghost use Rattle.bit_containers_box.specs.Lending.{HasWords};
+
 use crate::plain::start;
-use bit_addressing::{Lsb0, Msb0};
+use bit_addressing::{BitOrder, BitRegister, Lsb0, Msb0};
 use bit_containers_box::BitBox;
 use bit_slice_access::{BitsFill, BitsParts};
+use bit_slice_stores::BitStore;
 use bit_slice_views::{BitSlice, Bits};
 use bit_slice_writes::{BitSliceMut, BitsMut};
 use std::alloc::AllocError;
 use std::process::Abort;
+
+// Turns the order of words round.
+fn turn_all<T: BitRegister>(words: &mut [T])
+    ensures { words.new ≡ reverse words.old }
+{
+    words.reverse();
+}
+
+// Turns the order of a box's visible words round: what a caller knows of words that were lent.
+fn turn_visible<T: BitStore, O: BitOrder<T>>(bits: &mut BitBox<T, O>)
+    ensures { HasWords (read_by T.BitRegister O.position) bits.old
+        (reverse (box_visible (read_by T.BitRegister O.position) bits.old)) bits.new }
+{
+    turn_all::<T>(bits.as_raw_mut_slice());
+}
 
 // Turns the last word round.
 fn turn_last(words: &mut [u16]) {
@@ -51,6 +72,8 @@ fn lent_bits_are_written(rt: HostRuntime) -> Result<(), AllocError> {
     assert!(rt; bits.as_raw_slice() == [0b1111_0010u8, 0b0011_1111].as_slice());
     turn_first(&mut bits);
     assert!(rt; bits.as_raw_slice() == [0b1101_0010u8, 0b0011_1111].as_slice());
+    turn_visible(&mut bits);
+    assert!(rt; bits.as_raw_slice() == [0b0011_1111u8, 0b1101_0010].as_slice());
     bits.as_mut_slice().fill(true);
     assert!(rt; bits.as_slice().all() && bits.len() == 8 && bits.as_raw_slice().len() == 2);
     Ok(())

@@ -16,7 +16,7 @@ use Rattle.bit_table_layout.specs.Layouts.{LayoutShape, row_width}
 use Rattle.bit_table_layout.specs.Rows.{Row}
 use Rattle.bit_table_commands.specs.declared.command.Command.{Command}
 use Rattle.bit_table_commands.specs.declared.command.Command.TheVariants.{Insert, Delete, Set, Get, Copy, Swap, Rotate}
-use Rattle.bit_table_commands.specs.declared.command.Command.TheVariants.{Dup, Image}
+use Rattle.bit_table_commands.specs.declared.command.Command.TheVariants.{Dup}
 use Rattle.bit_table_commands.specs.Tables.{TableShape, IsTable, IsTableOf}
 use Rattle.bit_table_commands.specs.Edits.{edited, edit}
 use Rattle.bit_table_commands.specs.Causes.{cause_in, first_of, wrong_form, wrong_field, wrong_row, wrong_value, too_full}
@@ -67,13 +67,12 @@ pub length-not_added : (rows : List Row) (c : Command) → IsInRange (length row
 length-not_added rows (Insert p vs) h k = absurd (omega arith)
 length-not_added rows (Delete p q) h k = simp (length-append, length-take, length-drop) (omega (arith, h.0, h.1))
 length-not_added rows (Set p f v) h k = simp (length-append, length-take, length-drop, length-map) (omega arith)
-length-not_added rows (Get p) h k = omega arith
 length-not_added rows (Copy p q r) h k =
     simp (length-append, length-take, length-drop) (omega (arith, h.0, h.1, h.2))
 length-not_added rows (Swap p q) h k = omega (arith, length-swap rows p q)
 length-not_added rows (Rotate p q k) (a, b, d) e = simp (length-append, length-take, length-drop) (omega arith)
 length-not_added rows (Dup p q) h k = simp (length-append, length-take, length-drop) (omega (arith, h.0, h.1))
-length-not_added rows Image h k = omega arith
+length-not_added rows c h k = omega arith
 
 -- where there are no more rows than before, they have room
 full-not_more : (t : TableShape) (c : Command) → IsTable t → length (edit t c).rows ≤ length t.rows
@@ -127,7 +126,7 @@ in_range-facts n (Copy p q r) e = three p q n (r + (q - p)) n e
 in_range-facts n (Swap p q) e = let h = both _ _ e in (lt-true p n h.0, lt-true q n h.1)
 in_range-facts n (Rotate p q k) e = three p q n k (q - p) e
 in_range-facts n (Dup p q) e = between p q n e
-in_range-facts n Image e = tt
+in_range-facts n c e = tt
 
 pub not-false : (b : Bool) → not b ≡ false → b ≡ true
 not-false true e = refl
@@ -182,13 +181,7 @@ values-facts l (Insert p vs) a b =
     let same : (length vs == length l.fields) ≡ true = not-false _ a in
     record { count = grind (arith, nat_tests); taken = not-false _ b }
 values-facts l (Set p f v) a b = taken-facts l f v (not-false _ b)
-values-facts l (Delete p q) a b = tt
-values-facts l (Get p) a b = tt
-values-facts l (Copy p q r) a b = tt
-values-facts l (Swap p q) a b = tt
-values-facts l (Rotate p q k) a b = tt
-values-facts l (Dup p q) a b = tt
-values-facts l Image a b = tt
+values-facts l c a b = tt
 
 -- the conditions of a command that no cause refuses
 pub no_conditions : (t : TableShape) (c : Command) → cause_in t c ≡ None

@@ -10,7 +10,7 @@ use Rattle.bit_table_layout.specs.Layouts.{LayoutShape, row_width}
 use Rattle.bit_table_layout.proofs.RowLemmas.{fields_lawful, some_row_bits}
 use Rattle.bit_table_commands.specs.declared.command.Command.{Command}
 use Rattle.bit_table_commands.specs.declared.command.Command.TheVariants.{Insert, Delete, Set, Get, Copy, Swap, Rotate}
-use Rattle.bit_table_commands.specs.declared.command.Command.TheVariants.{Dup, Image}
+use Rattle.bit_table_commands.specs.declared.command.Command.TheVariants.{Dup}
 use Rattle.bit_table_commands.specs.Commands.{cut_off, cut_place, cut_value}
 use Rattle.bit_table_commands.specs.Tables.{TableShape, IsTable}
 use Rattle.bit_table_commands.specs.Causes.{cause_in, wrong_form, wrong_field, wrong_row, wrong_value, too_full, is_in_range}
@@ -74,7 +74,7 @@ is_in_range-cut n (Copy p q r) h = cut_copy (2 ^ 64 - 1) n p q r h
 is_in_range-cut n (Swap p q) h = cut_both (2 ^ 64 - 1) n p q h
 is_in_range-cut n (Rotate p q k) h = cut_rotate (2 ^ 64 - 1) n p q k h
 is_in_range-cut n (Dup p q) h = cut_between (2 ^ 64 - 1) n p q h
-is_in_range-cut n Image h = refl
+is_in_range-cut n c h = refl
 
 -- a field of a lawful layout is lawful
 field-lawful : (fs : List FieldShape) (k : ℕ) (f : FieldShape) → list_all is_field fs ≡ true → slice_get fs k ≡ Some f
@@ -133,7 +133,7 @@ cut_off-within l n (Rotate p q k) h lawful (a, b, d) v =
     cc
 cut_off-within l n (Dup p q) h lawful (a, b) v =
     let first = cut_within n p h (omega arith) in let second = cut_within n q h b in cc
-cut_off-within l n Image h lawful k v = refl
+cut_off-within l n c h lawful k v = refl
 
 -- a command that no cause refuses is kept as it is spelled
 pub cut_off-accepted : (t : TableShape) → IsTable t → (c : Command) → cause_in t c ≡ None → cut_off c ≡ c

@@ -5,11 +5,9 @@ use Rattle.std.specs.Fmt.{digits}
 use Rattle.std.specs.List.{slice_split}
 use Rattle.hex.proofs.OnLiterals.{hex_on_literals}
 use Rattle.bit_table_layout.specs.declared.cause.Cause.{Cause}
-use Rattle.bit_table_layout.specs.declared.cause.Cause.TheVariants as refusal
 use Rattle.bit_table_layout.specs.declared.layout.Rule.{Rule}
 use Rattle.bit_table_layout.specs.declared.layout.Rule.TheVariants.{Low, High}
 use Rattle.bit_table_layout.specs.CauseWords.{refusal_text}
-use Rattle.bit_table_layout.specs.Fields.{FieldShape}
 use Rattle.bit_table_layout.specs.Layouts.{LayoutShape}
 use Rattle.bit_table_layout.specs.Rows.{Row, new_row}
 use Rattle.bit_table_commands.specs.declared.command.Command.{Command}
@@ -34,6 +32,17 @@ two_fields rule = record {
 -- one field of so many bits
 one_field : Rule → ℕ → LayoutShape
 one_field rule n = record { rule = rule; fields = record { name = codes "f"; width = n; signed = false } ∷ [] }
+
+-- `n:i64`, and `p:u3 q:u64`
+signed_field : Rule → LayoutShape
+signed_field rule = record { rule = rule; fields = record { name = codes "n"; width = 64; signed = true } ∷ [] }
+
+wide_fields : Rule → LayoutShape
+wide_fields rule = record {
+  rule = rule;
+  fields = record { name = codes "p"; width = 3; signed = false }
+      ∷ record { name = codes "q"; width = 64; signed = false } ∷ [];
+}
 
 -- the rows 5 and -1, 2 and 3
 two_rows : Rule → TableShape
@@ -331,7 +340,7 @@ answered t text = answers t (slice_split (λ b. b == 10) text)
 
 -- what computes answers at a literal
 unfoldable on_literals : ⊤
-unfolding two_fields one_field two_rows told next answers answered command_of cause_in hex_on_literals digits
+unfolding two_fields one_field signed_field wide_fields two_rows told next answers answered command_of cause_in hex_on_literals digits
 on_literals = tt
 
 answered-image_low : answered (two_rows Low)
@@ -411,3 +420,19 @@ answered-great_numbers : answered (two_rows High)
     ≡ codes "refused row\nrefused row\nrefused value\nrefused row\n"
 unfolding on_literals
 answered-great_numbers = refl
+
+answered-least : answered (new_table (signed_field High))
+    (codes "insert 0 -9223372036854775808\nimage\nget 0\ninsert 0 9223372036854775808")
+    ≡ codes "ok\n1 8000000000000000\n-9223372036854775808\nrefused value\n"
+unfolding on_literals
+answered-least = refl
+
+answered-wide_low : answered (new_table (wide_fields Low)) (codes "insert 0 7 18446744073709551615\nimage\nget 0")
+    ≡ codes "ok\n1 ffffffffffffffff07\n7 18446744073709551615\n"
+unfolding on_literals
+answered-wide_low = refl
+
+answered-wide_high : answered (new_table (wide_fields High)) (codes "insert 0 7 18446744073709551615\nimage")
+    ≡ codes "ok\n1 ffffffffffffffffe0\n"
+unfolding on_literals
+answered-wide_high = refl

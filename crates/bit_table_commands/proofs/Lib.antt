@@ -3,5 +3,7 @@ mod ReplyLemmas
 pub mod CauseLemmas
 pub mod ValueLemmas
 pub mod CutLemmas
+pub mod EditLemmas
+pub mod SpelledLemmas
 pub mod CallerLemmas
 mod KnownRows

@@ -1,6 +1,6 @@
 -- Commands as words spell them.
 use Rattle.std.specs.Prelude.{ℕ, ◌-◌, ◌^◌, ◌==◌, min, ℤ, pos, neg_ℤ, List, []}
-use Rattle.std.specs.Prelude.{◌∷◌, length, map, position, Option, Some, None}
+use Rattle.std.specs.Prelude.{◌∷◌, length, map, find, position, codes, Option, Some, None}
 use Rattle.std.specs.Prelude.{option_and_then, option_map, if◌then◌else◌}
 use Rattle.std.specs.Int.{int_min, int_max}
 use Rattle.std.specs.Str.{bytes_eq}
@@ -13,7 +13,29 @@ use Rattle.bit_table_commands.specs.declared.name.Name.TheVariants as name
 use Rattle.bit_table_commands.specs.declared.command.Command.{Command}
 use Rattle.bit_table_commands.specs.declared.command.Command.TheVariants.{Insert, Delete, Set, Get, Copy, Swap, Rotate}
 use Rattle.bit_table_commands.specs.declared.command.Command.TheVariants.{Dup, Image}
-use Rattle.bit_table_commands.specs.Names.{name_of}
+
+-- ---- names
+
+-- all names
+abbrev pub names : List Name
+names =
+    name.Insert ∷ name.Delete ∷ name.Set ∷ name.Get ∷ name.Copy ∷ name.Swap ∷ name.Rotate ∷ name.Dup ∷ name.Image ∷ []
+
+-- a name as a line has it
+abbrev pub name_text : Name → List ℕ
+name_text name.Insert = codes "insert"
+name_text name.Delete = codes "delete"
+name_text name.Set = codes "set"
+name_text name.Get = codes "get"
+name_text name.Copy = codes "copy"
+name_text name.Swap = codes "swap"
+name_text name.Rotate = codes "rotate"
+name_text name.Dup = codes "dup"
+name_text name.Image = codes "image"
+
+-- the name that a word is, if it is one
+abbrev pub name_of : List ℕ → Option Name
+name_of word = find (λ n. bytes_eq (name_text n) word) names
 
 -- ---- the words behind a name
 
@@ -59,12 +81,12 @@ insert_in l (place ∷ values) =
 
 -- the place of the field of this name, if the layout has one
 abbrev pub field_place : LayoutShape → List ℕ → Option ℕ
-field_place l name = position (λ f. bytes_eq f.name name) l.fields
+field_place l word = position (λ f. bytes_eq f.name word) l.fields
 
 -- `set p f v`: a row number, a word of the shape of a name, and a value
 abbrev pub field_and_value : LayoutShape → List (List ℕ) → Option (Option ℕ × ℤ)
 field_and_value l [] = None
-field_and_value l (name ∷ rest) = if is_name name then option_map (λ v. (field_place l name, v)) (one_value rest) else None
+field_and_value l (word ∷ rest) = if is_name word then option_map (λ v. (field_place l word, v)) (one_value rest) else None
 
 abbrev pub set_in : LayoutShape → List (List ℕ) → Option Command
 set_in l [] = None
@@ -91,7 +113,7 @@ command_named l name.Image ws = alone Image ws
 -- however great
 abbrev pub command_in : LayoutShape → List (List ℕ) → Option Command
 command_in l [] = None
-command_in l (first ∷ rest) = option_and_then (λ name. command_named l name rest) (name_of first)
+command_in l (first ∷ rest) = option_and_then (λ n. command_named l n rest) (name_of first)
 
 -- the command that a line spells over a layout, where it spells one
 unfoldable pub command_of : LayoutShape → List ℕ → Option Command

@@ -17,7 +17,7 @@ abbrev pub with_number : Option ℕ → ℤ → Row → Row
 with_number None v row = row
 with_number (Some f) v row = record row { numbers = slice_set row.numbers f v }
 
--- the rows that a command leaves. Rows keep their letters wherever they go, and a new row bears none
+-- what a command makes of rows. They keep their letters wherever they go, and a new row bears none
 abbrev pub edited : List Row → Command → List Row
 edited rows (Insert p vs) = take p rows ++ (new_row vs ∷ drop p rows)
 edited rows (Delete p q) = take p rows ++ drop q rows
@@ -29,9 +29,17 @@ edited rows (Rotate p q k) =
 edited rows (Dup p q) = rows ++ slice_range rows p q
 edited rows c = rows
 
+-- the rows that a command leaves
+abbrev pub rows_after : TableShape → Command → List Row
+rows_after t c = edited t.rows c
+
+-- the rows that are kept after a command, if any
+abbrev pub kept_after : TableShape → Command → Option (List Row)
+kept_after t c = t.kept
+
 -- the table that a command leaves
 abbrev pub edit : TableShape → Command → TableShape
-edit t c = record t { rows = edited t.rows c }
+edit t c = record { layout = t.layout; rows = rows_after t c; kept = kept_after t c }
 
 -- the numbers of row p
 abbrev pub numbers_at : ℕ → List Row → List ℤ

@@ -2,7 +2,6 @@
 ghost use Rattle.std.specs.Prelude.{◌≡◌};
 ghost use Rattle.std.specs.Option.{option_copied};
 ghost use Rattle.bit_table_layout.specs.Rows.{take_all};
-ghost use Rattle.bit_table_commands.specs.Accepted.{IsInRange};
 ghost use Rattle.bit_table_commands.specs.Causes.{cause_in, field_at, is_in_range, is_taken, wrong_field};
 ghost use Rattle.bit_table_commands.specs.Causes.{wrong_form, wrong_value};
 ghost use Rattle.bit_table_commands.specs.CauseSteps.{rows_added};
@@ -78,7 +77,7 @@ impl Command {
                 upto,
                 amount,
             } => *start <= *upto && *upto <= rows && *amount <= *upto - *start,
-            Command::Image => true,
+            _ => true,
         }
     }
 

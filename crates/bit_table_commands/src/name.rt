@@ -1,6 +1,6 @@
 //! The names of commands.
 ghost use Rattle.std.specs.Prelude.{◌≡◌};
-ghost use Rattle.bit_table_commands.specs.Names.{name_text, name_of};
+ghost use Rattle.bit_table_commands.specs.Commands.{name_text, name_of};
 
 // The name of a command: the first word of its line.
 #[derive(Clone, Copy)]

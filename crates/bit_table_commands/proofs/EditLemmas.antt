@@ -1,0 +1,100 @@
+-- The table that a command leaves is a table.
+use Rattle.std.proofs.Common.{◌≡◌, ℕ, zero, suc, ◌+◌, ◌-◌, ◌<◌, true, ℤ, List, [], ◌∷◌, ◌++◌}
+use Rattle.std.proofs.Common.{length, map, take, drop, get_or, set, Option, Some, None, refl, ap, ◌∙◌, arith}
+use Rattle.std.specs.Prelude.{slice_get, slice_range}
+use Rattle.std.specs.List.{All, swap}
+use Rattle.std.proofs.lemmas.List.Elements.{All-get_or, All-append, All-cons, All-take, All-drop, All-map, All-set}
+use Rattle.std.proofs.lemmas.List.Sums.{AllPass-from_list_all, list_all-from_AllPass}
+use Rattle.bit_table_layout.specs.Fields.{FieldShape, takes}
+use Rattle.bit_table_layout.specs.Layouts.{LayoutShape}
+use Rattle.bit_table_layout.specs.Rows.{Row, new_row, take_all, is_row}
+use Rattle.bit_table_commands.specs.declared.command.Command.{Command}
+use Rattle.bit_table_commands.specs.declared.command.Command.TheVariants.{Insert, Delete, Set, Copy, Swap, Rotate, Dup}
+use Rattle.bit_table_commands.specs.Accepted.{IsInRange, HasLawfulValues, IsTaken}
+use Rattle.bit_table_commands.specs.Causes.{cause_in}
+use Rattle.bit_table_commands.specs.Edits.{edit, edited, with_number}
+use Rattle.bit_table_commands.specs.Tables.{TableShape, IsTable}
+use Rattle.bit_table_commands.proofs.CauseLemmas.{accepted}
+
+-- numbers of which one is put in another's place, which its field takes
+take_all-set : (fs : List FieldShape) (vs : List ℤ) (k : ℕ) (f : FieldShape) (v : ℤ) → take_all fs vs ≡ true
+    → slice_get fs k ≡ Some f → takes f v ≡ true → take_all fs (set vs k v) ≡ true
+take_all-set [] vs k f v h e t = absurd cc
+take_all-set (g ∷ fs) [] k f v h e t = absurd cc
+take_all-set (g ∷ fs) (w ∷ vs) zero f v h e t =
+    let same : g ≡ f = cc in
+    let rest : take_all fs vs ≡ true = grind arith in
+    let one : takes g v ≡ true = cc in
+    rw (one, rest) refl
+take_all-set (g ∷ fs) (w ∷ vs) (suc k) f v h e t =
+    let first : takes g w ≡ true = grind arith in
+    let rest : take_all fs vs ≡ true = grind arith in
+    let others = take_all-set fs vs k f v rest e t in
+    rw (first, others) refl
+
+-- a row of the layout
+abbrev IsRow : LayoutShape → Row → Type 0
+IsRow l row = is_row l row ≡ true
+
+numbered : (l : LayoutShape) (place : Option ℕ) (v : ℤ) (row : Row) → IsTaken l place v → IsRow l row
+    → IsRow l (with_number place v row)
+numbered l None v row t h = h
+numbered l (Some k) v row t h =
+    let same : k ≡ t.index = cc (t.place_is) in
+    take_all-set l.fields row.numbers k t.field v h (ap (slice_get l.fields) same ∙ t.field_is) t.taken
+
+part : (l : LayoutShape) (rows : List Row) (p q : ℕ) → All (IsRow l) rows → All (IsRow l) (slice_range rows p q)
+part l rows p q h = All-take (IsRow l) (q - p) (drop p rows) (All-drop (IsRow l) p rows h)
+
+swapped : (l : LayoutShape) (rows : List Row) (p q : ℕ) → p < length rows → q < length rows → All (IsRow l) rows
+    → All (IsRow l) (swap rows p q)
+swapped l [] p q a b h = absurd (omega arith)
+swapped l (d ∷ rows) p q a b h =
+    let all = d ∷ rows in
+    let once = All-set (IsRow l) all p (get_or all q d) (All-get_or (IsRow l) all q d b h) h in
+    All-set (IsRow l) (set all p (get_or all q d)) q (get_or all p d) (All-get_or (IsRow l) all p d a h) once
+
+-- rows that are rows of the layout stay so
+pub edited-rows : (l : LayoutShape) (rows : List Row) (c : Command) → All (IsRow l) rows → IsInRange (length rows) c
+    → HasLawfulValues l c → All (IsRow l) (edited rows c)
+edited-rows l rows (Insert p vs) h k v =
+    All-append (IsRow l) (take p rows) (new_row vs ∷ drop p rows) (All-take (IsRow l) p rows h)
+    (All-cons (IsRow l) (new_row vs) (drop p rows) v.taken (All-drop (IsRow l) p rows h))
+edited-rows l rows (Delete p q) h k v =
+    All-append (IsRow l) (take p rows) (drop q rows) (All-take (IsRow l) p rows h) (All-drop (IsRow l) q rows h)
+edited-rows l rows (Set p f x) h k v =
+    All-append (IsRow l) (take p rows) (map (with_number f x) (slice_range rows p (p + 1)) ++ drop (p + 1) rows)
+    (All-take (IsRow l) p rows h)
+    (All-append (IsRow l) (map (with_number f x) (slice_range rows p (p + 1))) (drop (p + 1) rows)
+    (All-map (IsRow l) (with_number f x) (slice_range rows p (p + 1))
+    (λ i d below. numbered l f x (get_or (slice_range rows p (p + 1)) i d) v (part l rows p (p + 1) h i d below)))
+    (All-drop (IsRow l) (p + 1) rows h))
+edited-rows l rows (Copy p q r) h k v =
+    All-append (IsRow l) (take r rows) (slice_range rows p q ++ drop (r + (q - p)) rows) (All-take (IsRow l) r rows h)
+    (All-append (IsRow l) (slice_range rows p q) (drop (r + (q - p)) rows) (part l rows p q h)
+    (All-drop (IsRow l) (r + (q - p)) rows h))
+edited-rows l rows (Swap p q) h (a, b) v = swapped l rows p q a b h
+edited-rows l rows (Rotate p q k) h r v =
+    All-append (IsRow l) (take p rows) (slice_range rows (p + k) q ++ (slice_range rows p (p + k) ++ drop q rows))
+    (All-take (IsRow l) p rows h)
+    (All-append (IsRow l) (slice_range rows (p + k) q) (slice_range rows p (p + k) ++ drop q rows)
+    (part l rows (p + k) q h)
+    (All-append (IsRow l) (slice_range rows p (p + k)) (drop q rows) (part l rows p (p + k) h)
+    (All-drop (IsRow l) q rows h)))
+edited-rows l rows (Dup p q) h k v = All-append (IsRow l) rows (slice_range rows p q) h (part l rows p q h)
+edited-rows l rows c h k v = h
+
+-- the table that a command leaves which no cause refuses
+pub edit-is_table : (t : TableShape) → IsTable t → (c : Command) → cause_in t c ≡ None → IsTable (edit t c)
+edit-is_table t h c e =
+    let a = accepted t c e in
+    let rows = AllPass-from_list_all (is_row t.layout) t.rows h.rows.lawful in
+    record {
+      layout = h.layout;
+      rows = record {
+        lawful = list_all-from_AllPass (is_row t.layout) (edited t.rows c)
+            (edited-rows t.layout t.rows c rows a.in_range a.values);
+        room = a.room;
+      };
+      kept = h.kept;
+    }

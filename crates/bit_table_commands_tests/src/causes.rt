@@ -1,0 +1,185 @@
+//! What refuses a command, over two rows of `high a:u3 b:i4` where nothing else is said.
+use bit_table_commands::{Command, Values, cutting_off_changes_nothing};
+use bit_table_layout::{Cause, Layout};
+use std::alloc::Global;
+use std::process::Abort;
+use std::test::Fail;
+
+// Whether lines are refused for this cause, or for none, over so many rows of the layout.
+fn check_lines(
+    rt: &impl Abort,
+    alloc: Global,
+    layout: &Layout,
+    rows: usize,
+    cause: Option<Cause>,
+    lines: &[&[u8]],
+) -> Result<(), Fail> {
+    for line in lines {
+        let command = Command::parse(alloc, layout, line)?;
+        assert!(rt; command.cause(layout, rows, false) == cause, "{line:?}");
+    }
+    Ok(())
+}
+
+#[test]
+fn refuses_rows_out_of_range(rt: HostRuntime) -> Result<(), Fail> {
+    let layout = Layout::parse(rt.alloc(), b"high a:u3 b:i4")?;
+    let lines = [
+        b"delete 1 0".as_slice(),
+        b"delete 0 3".as_slice(),
+        b"rotate 0 1 2".as_slice(),
+        b"rotate 1 0 0".as_slice(),
+        b"rotate 0 3 0".as_slice(),
+        b"copy 0 2 1".as_slice(),
+        b"copy 1 0 0".as_slice(),
+        b"copy 2 2 3".as_slice(),
+        b"insert 3 0 0".as_slice(),
+        b"get 2".as_slice(),
+        b"set 2 a 0".as_slice(),
+        b"swap 0 2".as_slice(),
+        b"swap 2 0".as_slice(),
+        b"dup 1 0".as_slice(),
+        b"dup 0 3".as_slice(),
+        b"get 18446744073709551616".as_slice(),
+        b"delete 0 18446744073709551616".as_slice(),
+    ];
+    check_lines(
+        &rt,
+        rt.alloc(),
+        &layout,
+        2,
+        Some(Cause::Row),
+        lines.as_slice(),
+    )
+}
+
+#[test]
+fn carries_out_rows_in_range(rt: HostRuntime) -> Result<(), Fail> {
+    let layout = Layout::parse(rt.alloc(), b"high a:u3 b:i4")?;
+    let lines = [
+        b"delete 1 1".as_slice(),
+        b"delete 2 2".as_slice(),
+        b"delete 0 2".as_slice(),
+        b"rotate 0 2 2".as_slice(),
+        b"rotate 2 2 0".as_slice(),
+        b"copy 0 1 1".as_slice(),
+        b"copy 2 2 2".as_slice(),
+        b"insert 2 7 -8".as_slice(),
+        b"get 1".as_slice(),
+        b"set 1 b 7".as_slice(),
+        b"swap 1 1".as_slice(),
+        b"dup 0 2".as_slice(),
+        b"image".as_slice(),
+    ];
+    check_lines(&rt, rt.alloc(), &layout, 2, None, lines.as_slice())
+}
+
+#[test]
+fn tells_the_first_cause(rt: HostRuntime) -> Result<(), Fail> {
+    let layout = Layout::parse(rt.alloc(), b"high a:u3 b:i4")?;
+    for (cause, line) in [
+        (Cause::Field, b"set 9 c 99".as_slice()),
+        (Cause::Row, b"set 9 a 99".as_slice()),
+        (Cause::Value, b"set 1 a 8".as_slice()),
+        (Cause::Value, b"set 1 b -9".as_slice()),
+        (Cause::Row, b"insert 3 8 0".as_slice()),
+        (Cause::Value, b"insert 0 8 0".as_slice()),
+        (Cause::Value, b"insert 0 18446744073709551616 0".as_slice()),
+    ] {
+        check_lines(&rt, rt.alloc(), &layout, 2, Some(cause), [line].as_slice())?;
+    }
+    Ok(())
+}
+
+#[test]
+fn refuses_values_that_are_not_one_a_field(rt: HostRuntime) -> Result<(), Fail> {
+    let layout = Layout::parse(rt.alloc(), b"high a:u3 b:i4")?;
+    let one_value = Command::Insert {
+        place: 9,
+        values: Values::new(Vec::from_slice(rt.alloc(), &[99])?),
+    };
+    assert!(rt; one_value.cause(&layout, 2, false) == Some(Cause::Form));
+    for field in [None, Some(2), Some(usize::MAX)] {
+        let change = Command::Set {
+            row: 9,
+            field,
+            value: 99,
+        };
+        assert!(rt;
+            change.cause(&layout, 2, false) == Some(Cause::Field),
+            "{field:?}"
+        );
+    }
+    Ok(())
+}
+
+// 2,305,843,009,213,693,951 bits are the most: so many rows of one bit, and 7 times 329,406,144,173,384,850 and one.
+#[test]
+fn is_full_past_the_most_bits(rt: HostRuntime) -> Result<(), Fail> {
+    let one_bit = Layout::parse(rt.alloc(), b"low f:u1")?;
+    let most = 2_305_843_009_213_693_951;
+    check_lines(
+        &rt,
+        rt.alloc(),
+        &one_bit,
+        most,
+        Some(Cause::Full),
+        [b"insert 0 0".as_slice(), b"dup 3 4"].as_slice(),
+    )?;
+    check_lines(
+        &rt,
+        rt.alloc(),
+        &one_bit,
+        most,
+        None,
+        [b"dup 3 3".as_slice(), b"delete 0 9", b"image"].as_slice(),
+    )?;
+    check_lines(
+        &rt,
+        rt.alloc(),
+        &one_bit,
+        most - 1,
+        None,
+        [b"insert 0 1".as_slice(), b"dup 3 4"].as_slice(),
+    )?;
+    check_lines(
+        &rt,
+        rt.alloc(),
+        &one_bit,
+        most - 1,
+        Some(Cause::Full),
+        [b"dup 3 5".as_slice()].as_slice(),
+    )?;
+    let seven_bits = Layout::parse(rt.alloc(), b"high a:u3 b:i4")?;
+    let most = 329_406_144_173_384_850;
+    check_lines(
+        &rt,
+        rt.alloc(),
+        &seven_bits,
+        most,
+        Some(Cause::Full),
+        [b"insert 0 0 0".as_slice()].as_slice(),
+    )?;
+    check_lines(
+        &rt,
+        rt.alloc(),
+        &seven_bits,
+        most,
+        Some(Cause::Value),
+        [b"insert 0 8 0".as_slice()].as_slice(),
+    )?;
+    check_lines(
+        &rt,
+        rt.alloc(),
+        &seven_bits,
+        most - 1,
+        None,
+        [b"insert 0 0 0".as_slice()].as_slice(),
+    )
+}
+
+// The law is a call that does nothing.
+#[test]
+fn law_returns() {
+    cutting_off_changes_nothing();
+}

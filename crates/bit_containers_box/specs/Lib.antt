@@ -1,1 +1,4 @@
 pub mod Box
+pub mod Fill
+pub mod Left
+pub mod Lending

@@ -3,7 +3,16 @@
 
 mod boxed;
 mod compare;
+mod convert;
+mod fill;
+mod into_boxed;
+mod iter;
+mod lend;
+mod make;
 mod operators;
 mod text;
+mod words;
 
 pub use boxed::BitBox;
+pub use into_boxed::IntoBoxed;
+pub use iter::IntoIter;

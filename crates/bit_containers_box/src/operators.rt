@@ -3,24 +3,26 @@
 ghost use Rattle.std.specs.Prelude.{◌≡◌, ◌&&◌, ◌||◌};
 ghost use Rattle.std.specs.Bool.{xor};
 ghost use Rattle.bit_addressing.specs.Memory.{read_by};
-ghost use Rattle.bit_containers_box.specs.Box.{boxed};
-ghost use Rattle.bit_containers_vector.specs.Vector.{Combines};
+ghost use Rattle.bit_containers_box.specs.Box.{Combines};
+ghost use Rattle.bit_slice_writes.specs.Combined.{combined};
+ghost use Rattle.bit_slice_writes.specs.ViewMut.{lent_bits, lent_frame};
 
 use crate::boxed::BitBox;
 use bit_addressing::{BitOrder, BitRegister};
 use bit_slice_paths::WordPaths;
 use bit_slice_stores::BitStore;
 use bit_slice_views::Bits;
+use bit_slice_writes::{BitSliceMut, and_view, or_view, xor_view};
 use std::ops::{BitAnd, BitAndAssign, BitOr, BitOrAssign, BitXor, BitXorAssign};
 
 /// Each bit becomes what it and the other's bit are both; those past the other's end are cleared.
 impl<T: BitStore, O: WordPaths<T>, V: Bits<Store = T, Order = O> + Drop> BitAndAssign<V>
     for BitBox<T, O> {
     ghost bitand_assign_gives = { λ before other after.
-        Combines (read_by T.BitRegister O.position) (λ a b. a && b) (boxed before) (V.bits other) (boxed after) };
+        Combines (read_by T.BitRegister O.position) (λ a b. a && b) before (V.bits other) after };
 
     fn bitand_assign(&mut self, other: V) {
-        self.vector &= other;
+        and_view(self, other.as_bitslice());
     }
 }
 
@@ -30,11 +32,11 @@ impl<T: BitStore, O: WordPaths<T>, V: Bits<Store = T, Order = O> + Drop> BitAnd<
     type Output = BitBox<T, O>;
 
     ghost bitand_gives = { λ before other after.
-        Combines (read_by T.BitRegister O.position) (λ a b. a && b) (boxed before) (V.bits other) (boxed after) };
+        Combines (read_by T.BitRegister O.position) (λ a b. a && b) before (V.bits other) after };
 
     fn bitand(self, other: V) -> BitBox<T, O> {
         let mut combined = self;
-        combined.vector &= other;
+        and_view(&mut combined, other.as_bitslice());
         combined
     }
 }
@@ -43,10 +45,10 @@ impl<T: BitStore, O: WordPaths<T>, V: Bits<Store = T, Order = O> + Drop> BitAnd<
 impl<T: BitStore, O: WordPaths<T>, V: Bits<Store = T, Order = O> + Drop> BitOrAssign<V>
     for BitBox<T, O> {
     ghost bitor_assign_gives = { λ before other after.
-        Combines (read_by T.BitRegister O.position) (λ a b. a || b) (boxed before) (V.bits other) (boxed after) };
+        Combines (read_by T.BitRegister O.position) (λ a b. a || b) before (V.bits other) after };
 
     fn bitor_assign(&mut self, other: V) {
-        self.vector |= other;
+        or_view(self, other.as_bitslice());
     }
 }
 
@@ -55,11 +57,11 @@ impl<T: BitStore, O: WordPaths<T>, V: Bits<Store = T, Order = O> + Drop> BitOr<V
     type Output = BitBox<T, O>;
 
     ghost bitor_gives = { λ before other after.
-        Combines (read_by T.BitRegister O.position) (λ a b. a || b) (boxed before) (V.bits other) (boxed after) };
+        Combines (read_by T.BitRegister O.position) (λ a b. a || b) before (V.bits other) after };
 
     fn bitor(self, other: V) -> BitBox<T, O> {
         let mut combined = self;
-        combined.vector |= other;
+        or_view(&mut combined, other.as_bitslice());
         combined
     }
 }
@@ -68,10 +70,10 @@ impl<T: BitStore, O: WordPaths<T>, V: Bits<Store = T, Order = O> + Drop> BitOr<V
 impl<T: BitStore, O: WordPaths<T>, V: Bits<Store = T, Order = O> + Drop> BitXorAssign<V>
     for BitBox<T, O> {
     ghost bitxor_assign_gives = { λ before other after.
-        Combines (read_by T.BitRegister O.position) xor (boxed before) (V.bits other) (boxed after) };
+        Combines (read_by T.BitRegister O.position) xor before (V.bits other) after };
 
     fn bitxor_assign(&mut self, other: V) {
-        self.vector ^= other;
+        xor_view(self, other.as_bitslice());
     }
 }
 
@@ -81,11 +83,61 @@ impl<T: BitStore, O: WordPaths<T>, V: Bits<Store = T, Order = O> + Drop> BitXor<
     type Output = BitBox<T, O>;
 
     ghost bitxor_gives = { λ before other after.
-        Combines (read_by T.BitRegister O.position) xor (boxed before) (V.bits other) (boxed after) };
+        Combines (read_by T.BitRegister O.position) xor before (V.bits other) after };
 
     fn bitxor(self, other: V) -> BitBox<T, O> {
         let mut combined = self;
-        combined.vector ^= other;
+        xor_view(&mut combined, other.as_bitslice());
         combined
+    }
+}
+
+/// What `&=` does with the box's bits as a window.
+impl<'a, 'b, T: BitStore, O: WordPaths<T>> BitAndAssign<&'b BitBox<T, O>>
+    for BitSliceMut<'a, T, O> {
+    ghost use Rattle.bit_containers_box.specs.Box.{box_bits};
+
+    ghost bitand_assign_gives = { λ before other after.
+        (lent_bits (read_by T.BitRegister O.position) after
+        ≡ combined (λ a b. a && b) (lent_bits (read_by T.BitRegister O.position) before)
+        (box_bits (read_by T.BitRegister O.position) other.now))
+        × (lent_frame (read_by T.BitRegister O.position) after
+        ≡ lent_frame (read_by T.BitRegister O.position) before) };
+
+    fn bitand_assign(&mut self, other: &'b BitBox<T, O>) {
+        *self &= other.as_bitslice();
+    }
+}
+
+/// What `|=` does with the box's bits as a window.
+impl<'a, 'b, T: BitStore, O: WordPaths<T>> BitOrAssign<&'b BitBox<T, O>> for BitSliceMut<'a, T, O> {
+    ghost use Rattle.bit_containers_box.specs.Box.{box_bits};
+
+    ghost bitor_assign_gives = { λ before other after.
+        (lent_bits (read_by T.BitRegister O.position) after
+        ≡ combined (λ a b. a || b) (lent_bits (read_by T.BitRegister O.position) before)
+        (box_bits (read_by T.BitRegister O.position) other.now))
+        × (lent_frame (read_by T.BitRegister O.position) after
+        ≡ lent_frame (read_by T.BitRegister O.position) before) };
+
+    fn bitor_assign(&mut self, other: &'b BitBox<T, O>) {
+        *self |= other.as_bitslice();
+    }
+}
+
+/// What `^=` does with the box's bits as a window.
+impl<'a, 'b, T: BitStore, O: WordPaths<T>> BitXorAssign<&'b BitBox<T, O>>
+    for BitSliceMut<'a, T, O> {
+    ghost use Rattle.bit_containers_box.specs.Box.{box_bits};
+
+    ghost bitxor_assign_gives = { λ before other after.
+        (lent_bits (read_by T.BitRegister O.position) after
+        ≡ combined xor (lent_bits (read_by T.BitRegister O.position) before)
+        (box_bits (read_by T.BitRegister O.position) other.now))
+        × (lent_frame (read_by T.BitRegister O.position) after
+        ≡ lent_frame (read_by T.BitRegister O.position) before) };
+
+    fn bitxor_assign(&mut self, other: &'b BitBox<T, O>) {
+        *self ^= other.as_bitslice();
     }
 }

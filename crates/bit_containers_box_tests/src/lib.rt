@@ -3,3 +3,13 @@
 
 #[cfg(test)]
 mod boxes;
+#[cfg(test)]
+mod heads;
+#[cfg(test)]
+mod iterators;
+#[cfg(test)]
+mod lent;
+#[cfg(test)]
+mod made;
+#[cfg(test)]
+mod plain;

@@ -1,8 +1,10 @@
-//! The program `bit-table`: it runs the script on standard input and writes the answers to standard output.
+//! The program `bit-table`: it runs the script on standard input and writes the answers to standard output. Its rows lie
+//! in words of 64 bits, the first bit the lowest.
 #![tactic(auto)]
 
 ghost use Rattle.std.specs.Prelude.{◌≡◌, OnOk, OnErr, true, false};
 
+use bit_addressing::Lsb0;
 use bit_table::{Input, Output, RunError, run};
 use std::io::Write;
 use std::process::ExitCode;
@@ -11,7 +13,7 @@ use std::process::ExitCode;
 fn main(rt: HostRuntime) -> ExitCode {
     let mut input = Input::new(rt.stdin());
     let mut output = Output::new(rt.stdout());
-    let outcome = run(rt.alloc(), &mut input, &mut output);
+    let outcome = run::<[u64; 4], Lsb0, _, _>(rt.alloc(), &mut input, &mut output);
     let flushed = output.into_inner().flush().is_ok();
     match told(outcome, flushed) {
         Ok(()) => ExitCode::SUCCESS,

@@ -1,24 +1,27 @@
 //! A run between any reader and any writer.
-ghost use Rattle.std.specs.Prelude.{◌≡◌, IfSome, OnOk, false};
+ghost use Rattle.std.specs.Prelude.{◌≡◌, ◌*◌, ◌≤◌, IfSome, OnOk, false};
 ghost use Rattle.std.specs.Io.KnownBytes.{Appends};
 ghost use Rattle.bit_table.specs.Ends.{input_reader, input_failed, output_writer, output_failed};
 ghost use Rattle.bit_table.specs.Scripts.{script_answer};
 
-use bit_table::{Input, Output, RunError, run};
+use bit_slice_paths::WordPaths;
+use bit_slice_stores::BitViewSized;
+use bit_table::{Digits, Input, Output, RunError, run};
 use std::alloc::Global;
 use std::io::{Read, Write};
 
 /// Runs a script. Where it ends well and the reader tells its bytes, what was written is the answer to all of them.
-pub fn answer_whole<R: Read, W: Write>(
+pub fn answer_whole<A: BitViewSized, O: WordPaths<A::Store> + Digits<A::Store>, R: Read, W: Write>(
     alloc: Global,
     input: &mut Input<R>,
     output: &mut Output<W>,
 ) -> Result<(), RunError>
+    requires buffer { 256 ≤ A.COUNT * A.Store.BITS }
     requires readable { input_failed input.old ≡ false }
     requires writable { output_failed output.old ≡ false }
     ensures { OnOk result (IfSome (R.remaining (input_reader input.old)) (λ text.
         Appends (W.contents (output_writer output.old)) (W.contents (output_writer output.new))
         (script_answer text))) }
 {
-    run(alloc, input, output)
+    run::<A, O, R, W>(alloc, input, output)
 }

@@ -1,4 +1,5 @@
 //! Each public call that takes memory, once where there is some.
+use bit_addressing::Lsb0;
 use bit_table::{
     Cause, Command, Fault, Input, Layout, Output, Reply, Rule, Table, Values,
     cutting_off_changes_nothing, image, run,
@@ -16,7 +17,7 @@ fn insertion(alloc: Global, place: u64, values: [i128; 2]) -> Result<Command, Al
 }
 
 // Whether a table is answered to have so many rows and these bytes.
-fn has_image(table: &mut Table, count: usize, image: &[u8]) -> bool {
+fn has_image(table: &mut Table<[u64; 4], Lsb0>, count: usize, image: &[u8]) -> bool {
     match table.apply(&Command::Image) {
         Ok(Reply::Image { rows, bytes }) => rows == count && bytes.as_slice() == image,
         _ => false,
@@ -24,14 +25,14 @@ fn has_image(table: &mut Table, count: usize, image: &[u8]) -> bool {
 }
 
 // Whether a table refuses a command for this cause.
-fn refuses(table: &mut Table, command: &Command, cause: Cause) -> bool {
+fn refuses(table: &mut Table<[u64; 4], Lsb0>, command: &Command, cause: Cause) -> bool {
     table.apply(command) == Err(Fault::Refused(cause))
 }
 
 #[test]
 fn a_table_is_edited_and_told(rt: HostRuntime) -> Result<(), Fail> {
     let layout = Layout::parse(rt.alloc(), b"low a:u3 b:i4")?;
-    let mut table = Table::new(rt.alloc(), layout);
+    let mut table = Table::<[u64; 4], Lsb0>::new(rt.alloc(), layout);
     assert!(rt; table.rows() == 0);
     assert!(rt; table.layout().row_bits() == 7);
     assert!(rt; table.layout().rule() == Rule::Low);
@@ -47,9 +48,9 @@ fn a_table_is_edited_and_told(rt: HostRuntime) -> Result<(), Fail> {
 }
 
 // A table with the one row 5 and -1.
-fn one_row(alloc: Global) -> Result<Table, Fail> {
+fn one_row(alloc: Global) -> Result<Table<[u64; 4], Lsb0>, Fail> {
     let layout = Layout::parse(alloc, b"low a:u3 b:i4")?;
-    let mut table = Table::new(alloc, layout);
+    let mut table = Table::<[u64; 4], Lsb0>::new(alloc, layout);
     table.apply(&insertion(alloc, 0, [5, -1])?)?;
     Ok(table)
 }
@@ -88,7 +89,7 @@ fn a_table_refuses_one_value_for_two_fields(rt: HostRuntime) -> Result<(), Fail>
 fn a_script_runs(rt: HostRuntime) -> Result<(), Fail> {
     let mut input = Input::new(b"low a:u3 b:u5\ninsert 0 5 17\nimage".as_slice());
     let mut output = Output::new(Vec::new(rt.alloc()));
-    run(rt.alloc(), &mut input, &mut output)?;
+    run::<[u64; 4], Lsb0, _, _>(rt.alloc(), &mut input, &mut output)?;
     assert!(rt; input.into_inner().is_empty());
     assert!(rt; output.into_inner().as_slice() == b"ok\nok\n1 8d\n".as_slice());
     Ok(())
@@ -98,7 +99,7 @@ fn a_script_runs(rt: HostRuntime) -> Result<(), Fail> {
 fn a_script_is_answered_whole(rt: HostRuntime) -> Result<(), Fail> {
     let mut input = Input::new(b"low f:u1\ninsert 0 1\nimage".as_slice());
     let mut output = Output::new(Vec::new(rt.alloc()));
-    answer_whole(rt.alloc(), &mut input, &mut output)?;
+    answer_whole::<[u64; 4], Lsb0, _, _>(rt.alloc(), &mut input, &mut output)?;
     assert!(rt; output.into_inner().as_slice() == b"ok\nok\n1 01\n".as_slice());
     Ok(())
 }

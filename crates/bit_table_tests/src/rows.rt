@@ -1,5 +1,6 @@
 //! Worked scripts and their answers.
 use crate::plain::plain_answer;
+use bit_addressing::Lsb0;
 use bit_table_samples::answer_to;
 use std::alloc::{AllocError, Global};
 use std::test::Fail;
@@ -85,7 +86,7 @@ const ROWS: [Row; 17] = [
 fn answers_worked_scripts(rt: HostRuntime) -> Result<(), Fail> {
     for (script, answer) in ROWS {
         assert!(rt;
-            answer_to(rt.alloc(), script)?.as_slice() == answer,
+            answer_to::<[u64; 4], Lsb0>(rt.alloc(), script)?.as_slice() == answer,
             "{script:?}"
         );
         assert!(rt;
@@ -114,7 +115,8 @@ fn a_refused_line_changes_nothing(rt: HostRuntime) -> Result<(), Fail> {
         answer.extend_from_slice(refusal)?;
         answer.extend_from_slice(b"2 7d0d\n")?;
         assert!(rt;
-            answer_to(rt.alloc(), script.as_slice())?.as_slice() == answer.as_slice(),
+            answer_to::<[u64; 4], Lsb0>(rt.alloc(), script.as_slice())?.as_slice()
+                == answer.as_slice(),
             "{line:?}"
         );
     }
@@ -177,7 +179,7 @@ fn takes_numbers_of_any_length(rt: HostRuntime) -> Result<(), Fail> {
     for (before, fill, behind, answer) in LONG_ROWS {
         let script = long_script(rt.alloc(), before, fill, behind)?;
         assert!(rt;
-            answer_to(rt.alloc(), script.as_slice())?.as_slice() == answer,
+            answer_to::<[u64; 4], Lsb0>(rt.alloc(), script.as_slice())?.as_slice() == answer,
             "{before:?}"
         );
     }

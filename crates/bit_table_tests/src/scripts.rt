@@ -2,6 +2,7 @@
 ghost use Rattle.std.specs.Prelude.{◌<◌, ◌≤◌, length};
 
 use crate::plain::plain_answer;
+use bit_addressing::Lsb0;
 use bit_table_samples::answer_to;
 use std::alloc::{AllocError, Global};
 use std::test::Fail;
@@ -201,7 +202,7 @@ fn the_plain_program_agrees(rt: HostRuntime) -> Result<(), Fail> {
     let mut answers = Vec::new(rt.alloc());
     for seed in 0..60 {
         let script = thrown(rt.alloc(), seed)?;
-        let answer = answer_to(rt.alloc(), script.as_slice())?;
+        let answer = answer_to::<[u64; 4], Lsb0>(rt.alloc(), script.as_slice())?;
         let plain = plain_answer(rt.alloc(), script.as_slice())?;
         assert!(rt; answer.as_slice() == plain.as_slice(), "{seed}: {script:?}");
         answers.extend_from_slice(answer.as_slice())?;

@@ -1,6 +1,7 @@
 //! A script read and answered in pieces, and runs that a fault ends.
 ghost use Rattle.std.specs.Prelude.{◌≤◌};
 
+use bit_addressing::Lsb0;
 use bit_table::{Input, Output, RunError, run};
 use bit_table_samples::{Cut, Narrow, Stop};
 use std::test::Fail;
@@ -25,7 +26,7 @@ fn answers_however_it_is_cut(rt: HostRuntime) -> Result<(), Fail> {
                 until_fault: usize::MAX,
             });
             let mut output = Output::new(Vec::new(rt.alloc()));
-            let result = run(rt.alloc(), &mut input, &mut output);
+            let result = run::<[u64; 4], Lsb0, _, _>(rt.alloc(), &mut input, &mut output);
             let faults = (input.failed(), output.failed());
             assert!(rt; (result, faults) == (Ok(()), (false, false)));
             assert!(rt; input.into_inner().rest.is_empty());
@@ -62,7 +63,7 @@ fn a_read_fault_ends_it(rt: HostRuntime) -> Result<(), Fail> {
                 until_fault: read,
             });
             let mut output = Output::new(Vec::new(rt.alloc()));
-            let result = run(rt.alloc(), &mut input, &mut output);
+            let result = run::<[u64; 4], Lsb0, _, _>(rt.alloc(), &mut input, &mut output);
             let faults = (input.failed(), output.failed());
             assert!(rt; (result, faults) == (Err(RunError::Read), (true, false)));
             assert!(rt;
@@ -86,7 +87,7 @@ fn a_write_fault_ends_it(rt: HostRuntime) -> Result<(), Fail> {
                     room,
                     stop,
                 });
-                let result = run(rt.alloc(), &mut input, &mut output);
+                let result = run::<[u64; 4], Lsb0, _, _>(rt.alloc(), &mut input, &mut output);
                 let count = if stop == Stop::Never {
                     ANSWER.len()
                 } else {

@@ -1,7 +1,13 @@
 //! Each public call that takes memory, once where there is some.
-use bit_addressing::Lsb0;
+
+ghost use Rattle.std.specs.Prelude.{◌*◌, ◌≤◌};
+
+use bit_addressing::{Lsb0, Msb0};
+use bit_slice_paths::WordPaths;
+use bit_slice_stores::BitViewSized;
+use bit_slice_views::Bits;
 use bit_table::{
-    Cause, Command, Fault, Input, Layout, Output, Reply, Rule, Table, Values,
+    Cause, Command, Digits, Fault, HiLo, Input, Layout, Output, Reply, Rule, Table, Values,
     cutting_off_changes_nothing, image, run,
 };
 use bit_table_samples::answer_whole;
@@ -17,7 +23,11 @@ fn insertion(alloc: Global, place: u64, values: [i128; 2]) -> Result<Command, Al
 }
 
 // Whether a table is answered to have so many rows and these bytes.
-fn has_image(table: &mut Table<[u64; 4], Lsb0>, count: usize, image: &[u8]) -> bool {
+fn has_image<A: BitViewSized, O: WordPaths<A::Store> + Digits<A::Store>>(
+    table: &mut Table<A, O>,
+    count: usize,
+    image: &[u8],
+) -> bool {
     match table.apply(&Command::Image) {
         Ok(Reply::Image { rows, bytes }) => rows == count && bytes.as_slice() == image,
         _ => false,
@@ -25,63 +35,117 @@ fn has_image(table: &mut Table<[u64; 4], Lsb0>, count: usize, image: &[u8]) -> b
 }
 
 // Whether a table refuses a command for this cause.
-fn refuses(table: &mut Table<[u64; 4], Lsb0>, command: &Command, cause: Cause) -> bool {
+fn refuses<A: BitViewSized, O: WordPaths<A::Store> + Digits<A::Store>>(
+    table: &mut Table<A, O>,
+    command: &Command,
+    cause: Cause,
+) -> bool {
     table.apply(command) == Err(Fault::Refused(cause))
+}
+
+// Whether a new table is told as it is, edited by two insertions, and told again.
+fn is_edited_and_told<A: BitViewSized, O: WordPaths<A::Store> + Digits<A::Store>>(
+    alloc: Global,
+) -> Result<bool, Fail>
+    requires { 256 ≤ A.COUNT * A.Store.BITS }
+{
+    let layout = Layout::parse(alloc, b"low a:u3 b:i4")?;
+    let mut table = Table::<A, O>::new(alloc, layout);
+    let mut told = table.rows() == 0
+        && table.layout().row_bits() == 7
+        && table.layout().rule() == Rule::Low
+        && table.layout().fields().len() == 2
+        && has_image(&mut table, 0, b"");
+    for (place, values) in [(0, [2, 3]), (0, [5, -1])] {
+        let command = insertion(alloc, place, values)?;
+        told = table.apply(&command) == Ok(Reply::Done) && told;
+    }
+    Ok(told && table.rows() == 2 && has_image(&mut table, 2, b"\x7d\x0d"))
 }
 
 #[test]
 fn a_table_is_edited_and_told(rt: HostRuntime) -> Result<(), Fail> {
-    let layout = Layout::parse(rt.alloc(), b"low a:u3 b:i4")?;
-    let mut table = Table::<[u64; 4], Lsb0>::new(rt.alloc(), layout);
-    assert!(rt; table.rows() == 0);
-    assert!(rt; table.layout().row_bits() == 7);
-    assert!(rt; table.layout().rule() == Rule::Low);
-    assert!(rt; table.layout().fields().len() == 2);
-    assert!(rt; has_image(&mut table, 0, b""));
-    for (place, values) in [(0, [2, 3]), (0, [5, -1])] {
-        let command = insertion(rt.alloc(), place, values)?;
-        assert!(rt; table.apply(&command) == Ok(Reply::Done), "{values:?}");
-    }
-    assert!(rt; table.rows() == 2);
-    assert!(rt; has_image(&mut table, 2, b"\x7d\x0d"));
+    assert!(rt; is_edited_and_told::<[u8; 32], Lsb0>(rt.alloc())?);
+    assert!(rt; is_edited_and_told::<[u16; 16], Msb0>(rt.alloc())?);
+    assert!(rt; is_edited_and_told::<[u32; 8], HiLo>(rt.alloc())?);
+    assert!(rt; is_edited_and_told::<[u64; 4], Lsb0>(rt.alloc())?);
     Ok(())
 }
 
 // A table with the one row 5 and -1.
-fn one_row(alloc: Global) -> Result<Table<[u64; 4], Lsb0>, Fail> {
+fn one_row<A: BitViewSized, O: WordPaths<A::Store> + Digits<A::Store>>(
+    alloc: Global,
+) -> Result<Table<A, O>, Fail>
+    requires { 256 ≤ A.COUNT * A.Store.BITS }
+{
     let layout = Layout::parse(alloc, b"low a:u3 b:i4")?;
-    let mut table = Table::<[u64; 4], Lsb0>::new(alloc, layout);
+    let mut table = Table::<A, O>::new(alloc, layout);
     table.apply(&insertion(alloc, 0, [5, -1])?)?;
     Ok(table)
 }
 
-#[test]
-fn a_table_refuses(rt: HostRuntime) -> Result<(), Fail> {
-    let mut table = one_row(rt.alloc())?;
+// Whether a table of one row refuses what does not fit it, and stays as it is.
+fn refuses_what_does_not_fit<A: BitViewSized, O: WordPaths<A::Store> + Digits<A::Store>>(
+    alloc: Global,
+) -> Result<bool, Fail>
+    requires { 256 ≤ A.COUNT * A.Store.BITS }
+{
+    let mut table = one_row::<A, O>(alloc)?;
+    let one_value = Command::Insert {
+        place: 9,
+        values: Values::new(Vec::from_slice(alloc, &[8])?),
+    };
+    let mut refused = refuses(&mut table, &one_value, Cause::Form);
     for (place, values, cause) in [
         (2, [8, 0], Cause::Row),
         (u64::MAX, [0, 0], Cause::Row),
         (0, [8, 0], Cause::Value),
         (1, [0, -9], Cause::Value),
     ] {
-        let command = insertion(rt.alloc(), place, values)?;
-        assert!(rt; refuses(&mut table, &command, cause), "{values:?}");
+        let command = insertion(alloc, place, values)?;
+        refused = refuses(&mut table, &command, cause) && refused;
     }
-    assert!(rt; table.rows() == 1);
-    assert!(rt; has_image(&mut table, 1, b"\x7d"));
-    Ok(())
+    Ok(refused && table.rows() == 1 && has_image(&mut table, 1, b"\x7d"))
 }
 
 #[test]
-fn a_table_refuses_one_value_for_two_fields(rt: HostRuntime) -> Result<(), Fail> {
-    let mut table = one_row(rt.alloc())?;
-    let one_value = Command::Insert {
-        place: 9,
-        values: Values::new(Vec::from_slice(rt.alloc(), &[8])?),
-    };
-    assert!(rt; refuses(&mut table, &one_value, Cause::Form));
-    assert!(rt; table.rows() == 1);
-    assert!(rt; has_image(&mut table, 1, b"\x7d"));
+fn a_table_refuses(rt: HostRuntime) -> Result<(), Fail> {
+    assert!(rt; refuses_what_does_not_fit::<[u8; 32], Msb0>(rt.alloc())?);
+    assert!(rt; refuses_what_does_not_fit::<[u64; 4], Lsb0>(rt.alloc())?);
+    Ok(())
+}
+
+// The bits of the rows 5 and -1, 2 and 3 under `high`, and how many words each list's move wrote after a row was put
+// between them.
+fn tells_bits_and_moves<A: BitViewSized, O: WordPaths<A::Store> + Digits<A::Store>>(
+    alloc: Global,
+    writes: usize,
+) -> Result<bool, Fail>
+    requires { 256 ≤ A.COUNT * A.Store.BITS }
+{
+    let layout = Layout::parse(alloc, b"high a:u3 b:i4")?;
+    let mut table = Table::<A, O>::new(alloc, layout);
+    table.apply(&insertion(alloc, 0, [5, -1])?)?;
+    table.apply(&insertion(alloc, 1, [2, 3])?)?;
+    let bits = [1, 0, 1, 1, 1, 1, 1, 0, 1, 0, 0, 0, 1, 1];
+    let mut told = table.row_bits().len() == 14;
+    for (index, bit) in bits.iter().enumerate() {
+        told = table
+            .row_bits()
+            .get(index)
+            .is_some_and(|found| *found == (*bit == 1))
+            && told;
+    }
+    table.apply(&insertion(alloc, 1, [0, -8])?)?;
+    let moved = table.moved();
+    Ok(told && moved[0] == writes && moved[1..].iter().all(|count| *count == 0))
+}
+
+#[test]
+fn a_table_tells_its_bits_and_moves(rt: HostRuntime) -> Result<(), Fail> {
+    assert!(rt; tells_bits_and_moves::<[u8; 32], Lsb0>(rt.alloc(), 2)?);
+    assert!(rt; tells_bits_and_moves::<[u8; 32], Msb0>(rt.alloc(), 2)?);
+    assert!(rt; tells_bits_and_moves::<[u64; 4], HiLo>(rt.alloc(), 1)?);
     Ok(())
 }
 

@@ -25,4 +25,6 @@ mod rows;
 #[cfg(test)]
 mod scripts;
 #[cfg(test)]
+mod storages;
+#[cfg(test)]
 mod streams;

@@ -1,0 +1,109 @@
+//! Scripts over each storage word and order: one answer.
+
+ghost use Rattle.std.specs.Prelude.{◌*◌, ◌≤◌};
+
+use bit_addressing::{Lsb0, Msb0};
+use bit_slice_paths::WordPaths;
+use bit_slice_stores::BitViewSized;
+use bit_table::{Digits, HiLo};
+use bit_table_samples::answer_to;
+use std::alloc::Global;
+use std::test::Fail;
+
+// A script and its answer.
+type Row = (&'static [u8], &'static [u8]);
+
+// Scripts with their answers, worked by hand. Two rows are 5 and -1, then 2 and 3.
+const ROWS: [Row; 13] = [
+    (b"high a:u3 b:u5\ninsert 0 5 17\nimage", b"ok\nok\n1 b1\n"),
+    (b"low a:u3 b:u5\ninsert 0 5 17\nimage", b"ok\nok\n1 8d\n"),
+    (
+        b"high a:u3 b:i4\ninsert 0 5 -1\ninsert 1 2 3\nimage\ninsert 1 0 -8\nimage\ndelete 0 1\nimage",
+        b"ok\nok\nok\n2 be8c\nok\n3 be2118\nok\n2 108c\n",
+    ),
+    (
+        b"low a:u3 b:i4\ninsert 0 5 -1\ninsert 1 2 3\nimage\nget 1\nget\t0\r",
+        b"ok\nok\nok\n2 7d0d\n2 3\n5 -1\n",
+    ),
+    (
+        b"high a:u3 b:i4\ninsert 0 5 -1\ninsert 1 2 3\ninsert 1 0 -8\nrotate 0 3 1\nimage\nrotate 0 3 2\nimage",
+        b"ok\nok\nok\nok\nok\n3 108ef8\nok\n3 be2118\n",
+    ),
+    (
+        b"high a:u3 b:i4\ninsert 0 5 -1\ninsert 1 2 3\ndup 0 1\nimage\ndelete 2 3\nrotate 0 2 1\nimage",
+        b"ok\nok\nok\nok\n3 be8ef8\nok\nok\n2 477c\n",
+    ),
+    (
+        b"high a:u3 b:i4\ninsert 0 5 -1\ninsert 1 2 3\nset 1 a 7\nimage\nget 0\nget 1",
+        b"ok\nok\nok\nok\n2 bfcc\n5 -1\n7 3\n",
+    ),
+    (
+        b"low f:u1\nimage\ninsert 0 0\ninsert 0 0\ninsert 0 0\nimage\ninsert 0 0\nimage",
+        b"ok\n0\nok\nok\nok\n3 00\nok\n4 00\n",
+    ),
+    (
+        b"high n:i64\ninsert 0 -9223372036854775808\nimage\ninsert 0 9223372036854775808",
+        b"ok\nok\n1 8000000000000000\nrefused value\n",
+    ),
+    (
+        b"low p:u3 q:u64\ninsert 0 7 18446744073709551615\nimage\nget 0",
+        b"ok\nok\n1 ffffffffffffffff07\n7 18446744073709551615\n",
+    ),
+    (
+        b"high p:u3 q:u64\ninsert 0 7 18446744073709551615\nimage",
+        b"ok\nok\n1 ffffffffffffffffe0\n",
+    ),
+    (
+        b"high a:u3 b:i4\ninsert 0 5 -1\ninsert 1 2 3\ndelete 1 0\ndelete 0 3\nrotate 0 1 2\ncopy 0 2 1\ndelete 1 1\nimage",
+        b"ok\nok\nok\nrefused row\nrefused row\nrefused row\nrefused row\nok\n2 be8c\n",
+    ),
+    (
+        b"high a:u3 b:i4\ninsert 0 5 -1\ninsert 1 2 3\nswap 0 0\nswap 0 1\nimage\nswap 1 0\ncopy 0 1 1\nimage\nset 0 c 1",
+        b"ok\nok\nok\nok\nok\n2 477c\nok\nok\n2 bf7c\nrefused field\n",
+    ),
+];
+
+// Whether each script has its answer over a storage.
+fn answers<A: BitViewSized, O: WordPaths<A::Store> + Digits<A::Store>>(
+    alloc: Global,
+) -> Result<bool, Fail>
+    requires { 256 ≤ A.COUNT * A.Store.BITS }
+{
+    let mut same = true;
+    for (script, answer) in ROWS {
+        same = answer_to::<A, O>(alloc, script)?.as_slice() == answer && same;
+    }
+    Ok(same)
+}
+
+#[test]
+fn answers_over_bytes(rt: HostRuntime) -> Result<(), Fail> {
+    assert!(rt; answers::<[u8; 32], Lsb0>(rt.alloc())?);
+    assert!(rt; answers::<[u8; 32], Msb0>(rt.alloc())?);
+    assert!(rt; answers::<[u8; 32], HiLo>(rt.alloc())?);
+    Ok(())
+}
+
+#[test]
+fn answers_over_two_bytes(rt: HostRuntime) -> Result<(), Fail> {
+    assert!(rt; answers::<[u16; 16], Lsb0>(rt.alloc())?);
+    assert!(rt; answers::<[u16; 16], Msb0>(rt.alloc())?);
+    assert!(rt; answers::<[u16; 16], HiLo>(rt.alloc())?);
+    Ok(())
+}
+
+#[test]
+fn answers_over_four_bytes(rt: HostRuntime) -> Result<(), Fail> {
+    assert!(rt; answers::<[u32; 8], Lsb0>(rt.alloc())?);
+    assert!(rt; answers::<[u32; 8], Msb0>(rt.alloc())?);
+    assert!(rt; answers::<[u32; 8], HiLo>(rt.alloc())?);
+    Ok(())
+}
+
+#[test]
+fn answers_over_eight_bytes(rt: HostRuntime) -> Result<(), Fail> {
+    assert!(rt; answers::<[u64; 4], Lsb0>(rt.alloc())?);
+    assert!(rt; answers::<[u64; 4], Msb0>(rt.alloc())?);
+    assert!(rt; answers::<[u64; 4], HiLo>(rt.alloc())?);
+    Ok(())
+}

@@ -59,8 +59,8 @@ impl<A: BitViewSized, O: WordPaths<A::Store> + Digits<A::Store>> Model for Table
     ghost coded = { Prim.hlevel (codes, letters_code) };
 
     ghost view = { λ t. record {
-        shape = table_from t.layout t.rows (vec_bits (read_by A.Store.BitRegister O.position) t.bits);
-        moved = moved_rows t.moved;
+      shape = table_from t.layout t.rows (vec_bits (read_by A.Store.BitRegister O.position) t.bits);
+      moved = moved_rows t.moved;
     } };
 
     ghost invariant = { λ t. (is_layout t.layout ≡ true)
@@ -238,7 +238,14 @@ impl<A: BitViewSized, O: WordPaths<A::Store> + Digits<A::Store>> Table<A, O> {
     {
         let width = self.layout.row_bits();
         let (start, upto) = (start as usize, upto as usize);
-        copy_rows(&mut self.bits, self.rows, width, start, upto, place as usize);
+        copy_rows(
+            &mut self.bits,
+            self.rows,
+            width,
+            start,
+            upto,
+            place as usize,
+        );
         Reply::Done
     }
 
@@ -248,7 +255,13 @@ impl<A: BitViewSized, O: WordPaths<A::Store> + Digits<A::Store>> Table<A, O> {
         ensures reply { result ≡ Done }
     {
         let width = self.layout.row_bits();
-        swap_rows(&mut self.bits, self.rows, width, row as usize, other as usize);
+        swap_rows(
+            &mut self.bits,
+            self.rows,
+            width,
+            row as usize,
+            other as usize,
+        );
         Reply::Done
     }
 
@@ -259,7 +272,14 @@ impl<A: BitViewSized, O: WordPaths<A::Store> + Digits<A::Store>> Table<A, O> {
     {
         let width = self.layout.row_bits();
         let (start, upto) = (start as usize, upto as usize);
-        rotate_rows(&mut self.bits, self.rows, width, start, upto, amount as usize);
+        rotate_rows(
+            &mut self.bits,
+            self.rows,
+            width,
+            start,
+            upto,
+            amount as usize,
+        );
         Reply::Done
     }
 

@@ -47,7 +47,7 @@ returns-clause-ok g c =
     let w = row_width t.layout.fields in
     let buffer = array_bits (read_by g.A.Store.BitRegister g.O.Positions.position) g.A.BitViewSized.words c.row_of-row.result in
     let row : view_bits (read_by g.A.Store.BitRegister g.O.Positions.position) c.part-row.result
-        ≡ numbers_bits t.layout.rule t.layout.fields c.args.values.now =
+    ≡ numbers_bits t.layout.rule t.layout.fields c.args.values.now =
     c.part-row.ensures.bits
     ∙ ap (λ xs. piece xs 0 c.row_bits-width.result) c.as_bitslice.ensures
     ∙ front_is buffer c.row_bits-width.result

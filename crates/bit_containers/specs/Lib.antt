@@ -1,1 +1,39 @@
 pub mod Repeated
+pub mod Retained
+-- the words of containers
+pub use Rattle.bit_containers_array.specs.Array
+pub use Rattle.bit_containers_array.specs.FromView
+pub use Rattle.bit_containers_array.specs.Left as ArrayLeft
+pub use Rattle.bit_containers_vector.specs.Answers
+pub use Rattle.bit_containers_vector.specs.Count
+pub use Rattle.bit_containers_vector.specs.Drained
+pub use Rattle.bit_containers_vector.specs.Fill
+pub use Rattle.bit_containers_vector.specs.Grown
+pub use Rattle.bit_containers_vector.specs.Lending
+pub use Rattle.bit_containers_vector.specs.SliceFault
+pub use Rattle.bit_containers_vector.specs.Spliced
+pub use Rattle.bit_containers_vector.specs.Vector
+pub use Rattle.bit_containers_box.specs.Box
+pub use Rattle.bit_containers_box.specs.Fill as BoxFill
+pub use Rattle.bit_containers_box.specs.Left as BoxLeft
+pub use Rattle.bit_containers_box.specs.Lending as BoxLending
+-- of windows
+pub use Rattle.bit_slice_views.specs.BitRef
+pub use Rattle.bit_slice_views.specs.Compare
+pub use Rattle.bit_slice_views.specs.Ends
+pub use Rattle.bit_slice_views.specs.Parts as DomainParts
+pub use Rattle.bit_slice_views.specs.Texts
+pub use Rattle.bit_slice_views.specs.View
+pub use Rattle.bit_slice_writes.specs.Combined
+pub use Rattle.bit_slice_writes.specs.Frame
+pub use Rattle.bit_slice_writes.specs.Pair
+pub use Rattle.bit_slice_writes.specs.Parts
+pub use Rattle.bit_slice_writes.specs.ViewMut
+-- of splits, by which a predicate is asked
+pub use Rattle.bit_slice_splits.specs.Ways
+-- of word paths, memories and sweeps
+pub use Rattle.bit_slice_paths.specs.Steps
+pub use Rattle.bit_addressing.specs.Memory
+pub use Rattle.bit_addressing.specs.Moves
+pub use Rattle.bit_addressing.specs.Sweep
+pub use Rattle.bit_addressing.specs.Ways as SweepWays

@@ -1,5 +1,6 @@
 -- A line with a word in a table: what it is answered, and what state it leaves.
-use Rattle.std.proofs.Common.{◌≡◌, ℕ, List, Option, Some, None, Ok, Err, Result, IfOk, OnOk, MatchOption, IsOkUnless, refl, subst, sym, ap, ◌∙◌}
+use Rattle.std.proofs.Common.{◌≡◌, ℕ, List, Option, Some, None, Ok, Err, Result, IfOk, OnOk, MatchOption, IsOkUnless}
+use Rattle.std.proofs.Common.{refl, subst, sym, ap, ◌∙◌}
 use Rattle.std.specs.Prelude.{option_map}
 use Rattle.bit_table_layout.specs.declared.cause.Cause.{Cause}
 use Rattle.bit_table_layout.specs.declared.cause.Fault.{Fault}

@@ -75,7 +75,8 @@ fn answer_layout_line<A: BitViewSized, O: WordPaths<A::Store> + Digits<A::Store>
 ) -> Result<(Option<Table<A, O>>, Vec<u8>), AllocError>
     requires { 256 ≤ A.COUNT * A.Store.BITS }
     ensures text { IfOk result (λ begun. begun.1.items ≡ answer_by (line_cause None line.now) None line.now) }
-    ensures state { IfOk result (λ begun. state_of (shape_in begun.0) ≡ after_by (line_cause None line.now) start line.now) }
+    ensures state { IfOk result (λ begun.
+        state_of (shape_in begun.0) ≡ after_by (line_cause None line.now) start line.now) }
 {
     match Layout::parse(alloc, line) {
         Ok(layout) => {
@@ -96,7 +97,8 @@ fn answer_command_line<A: BitViewSized, O: WordPaths<A::Store> + Digits<A::Store
     ensures text { IfOk result (λ text.
         text.items ≡ answer_by (line_cause (Some table.old.shape) line.now) (Some table.old.shape) line.now) }
     ensures state { OnOk result (
-        state_with table.new.shape ≡ after_by (line_cause (Some table.old.shape) line.now) (state_with table.old.shape) line.now) }
+        state_with table.new.shape
+            ≡ after_by (line_cause (Some table.old.shape) line.now) (state_with table.old.shape) line.now) }
 {
     let command = match Command::parse(alloc, table.layout(), line) {
         Ok(command) => command,

@@ -8,4 +8,5 @@ pub use Rattle.bit_table_commands.proofs.EditLemmas.{edit-is_table, edited-rows}
 -- ---- commands that are cut off
 pub use Rattle.bit_table_commands.proofs.CutLemmas.{cause_in-cut_off, cut_off-accepted, cut_off-acts}
 pub use Rattle.bit_table_commands.proofs.ValueLemmas.{take_all-cut_value, cut_value-all_taken, length-cut_value}
-pub use Rattle.bit_table_commands.proofs.ValueLemmas.{takes-cut_value, cut_value-taken, cut_place-below, cut_place-within}
+pub use Rattle.bit_table_commands.proofs.ValueLemmas.{takes-cut_value, cut_value-taken, cut_place-below}
+pub use Rattle.bit_table_commands.proofs.ValueLemmas.{cut_place-within}

@@ -1,8 +1,9 @@
 -- Which cause refuses a command, and what holds of a command that none refuses.
-use Rattle.std.proofs.Common.{◌≡◌, ℕ, ◌+◌, ◌-◌, ◌*◌, ◌≤◌, ◌<◌, ◌==◌, ◌&&◌, not, nat_lt, nat_le, Bool, true, false, ℤ, List}
-use Rattle.std.proofs.Common.{[], ◌∷◌, length, Option, None, Some, refl, sym, ap, ◌∙◌, arith}
+use Rattle.std.proofs.Common.{◌≡◌, ℕ, ◌+◌, ◌-◌, ◌*◌, ◌≤◌, ◌<◌, ◌==◌, ◌&&◌, not, nat_lt, nat_le, Bool, true, false}
+use Rattle.std.proofs.Common.{ℤ, List}
+use Rattle.std.proofs.Common.{[], ◌∷◌, length, Option, None, Some, refl, sym, ap, ap₂, ◌∙◌, arith}
 use Rattle.std.proofs.Common.{length-append}
-use Rattle.std.specs.Prelude.{slice_range}
+use Rattle.std.specs.Prelude.{slice_range, is_some, unwrap_or, IfSome}
 use Rattle.std.specs.Option.{option_map_or}
 use Rattle.std.proofs.lemmas.Bool.Decides.{nat_tests}
 use Rattle.std.proofs.lemmas.List.{length-take, length-drop, length-map}
@@ -16,44 +17,82 @@ use Rattle.bit_table_layout.specs.Layouts.{LayoutShape, row_width}
 use Rattle.bit_table_layout.specs.Rows.{Row}
 use Rattle.bit_table_commands.specs.declared.command.Command.{Command}
 use Rattle.bit_table_commands.specs.declared.command.Command.TheVariants.{Insert, Delete, Set, Get, Copy, Swap, Rotate}
-use Rattle.bit_table_commands.specs.declared.command.Command.TheVariants.{Dup}
-use Rattle.bit_table_commands.specs.Tables.{TableShape, IsTable, IsTableOf}
+use Rattle.bit_table_commands.specs.declared.command.Command.TheVariants.{Dup, Back}
+use Rattle.bit_table_commands.specs.Tables.{TableShape, AreHeld, IsTable, IsTableOf}
 use Rattle.bit_table_commands.specs.Edits.{edited, edit}
-use Rattle.bit_table_commands.specs.Causes.{cause_in, first_of, wrong_form, wrong_field, wrong_row, wrong_value, too_full}
-use Rattle.bit_table_commands.specs.Causes.{is_in_range, is_taken, field_at}
+use Rattle.bit_table_commands.specs.Causes.{cause_in, first_of, wrong_form, wrong_field, wrong_row, wrong_value}
+use Rattle.bit_table_commands.specs.Causes.{too_full}
+use Rattle.bit_table_commands.specs.Causes.{wrong_image, nothing_kept, is_in_range, is_taken, field_at}
 use Rattle.bit_table_commands.specs.CauseSteps.{rows_added}
-use Rattle.bit_table_commands.specs.Accepted.{IsInRange, IsAccepted, IsTaken, HasLawfulValues}
+use Rattle.bit_table_commands.specs.Accepted.{IsInRange, IsAccepted, IsTaken, HasLawfulValues, HasKept}
 
 -- ---- the first condition that holds
 
 -- the first cause, by the conditions that may hold
-abbrev pub by_conditions : Bool → Bool → Bool → Bool → Bool → Option Cause
-by_conditions form field row value full =
+abbrev pub by_conditions : Bool → Bool → Bool → Bool → Bool → Bool → Bool → Option Cause
+by_conditions form field row value full image kept =
     first_of ((form, refusal.Form) ∷ (field, refusal.Field) ∷ (row, refusal.Row) ∷ (value, refusal.Value)
-    ∷ (full, refusal.Full) ∷ (false, refusal.Image) ∷ (false, refusal.Kept) ∷ [])
+    ∷ (full, refusal.Full) ∷ (image, refusal.Image) ∷ (kept, refusal.Kept) ∷ [])
 
 -- the conditions of a command in a table
-pub record HasConditions (t : TableShape) (c : Command) (form field row value full : Bool) : Type 0 where
+pub record HasConditions (t : TableShape) (c : Command) (form field row value full image kept : Bool) : Type 0 where
   pub form_is : wrong_form t.layout c ≡ form
   pub field_is : wrong_field t.layout c ≡ field
   pub row_is : wrong_row (length t.rows) c ≡ row
   pub value_is : wrong_value t.layout c ≡ value
   pub full_is : too_full t c ≡ full
+  pub image_is : wrong_image t.layout c ≡ image
+  pub kept_is : nothing_kept (is_some t.kept) c ≡ kept
 
-pub cause_in-conditions : (t : TableShape) (c : Command) (form field row value full : Bool)
-    → HasConditions t c form field row value full → cause_in t c ≡ by_conditions form field row value full
+pub cause_in-conditions : (t : TableShape) (c : Command) (form field row value full image kept : Bool)
+    → HasConditions t c form field row value full image kept
+    → cause_in t c ≡ by_conditions form field row value full image kept
 unfolding cause_in
-cause_in-conditions t c form field row value full h =
-    rw (h.form_is, h.field_is, h.row_is, h.value_is, h.full_is) refl
+cause_in-conditions t c form field row value full image kept h =
+    λ i. by_conditions (h.form_is i) (h.field_is i) (h.row_is i) (h.value_is i) (h.full_is i) (h.image_is i) (h.kept_is i)
 
-no_cause : (form field row value full : Bool) → by_conditions form field row value full ≡ None
-    → (form ≡ false) × (field ≡ false) × (row ≡ false) × (value ≡ false) × (full ≡ false)
-no_cause true field row value full e = cc
-no_cause false true row value full e = cc
-no_cause false false true value full e = cc
-no_cause false false false true full e = cc
-no_cause false false false false true e = cc
-no_cause false false false false false e = (refl, refl, refl, refl, refl)
+-- a command has its conditions
+pub conditions-of : (t : TableShape) (c : Command) → HasConditions t c (wrong_form t.layout c) (wrong_field t.layout c)
+    (wrong_row (length t.rows) c) (wrong_value t.layout c) (too_full t c) (wrong_image t.layout c)
+    (nothing_kept (is_some t.kept) c)
+conditions-of t c = record {
+  form_is = refl;
+  field_is = refl;
+  row_is = refl;
+  value_is = refl;
+  full_is = refl;
+  image_is = refl;
+  kept_is = refl;
+}
+
+-- none of these conditions holds
+record HoldNone (form field row value full image kept : Bool) : Type 0 where
+  form_is : form ≡ false
+  field_is : field ≡ false
+  row_is : row ≡ false
+  value_is : value ≡ false
+  full_is : full ≡ false
+  image_is : image ≡ false
+  kept_is : kept ≡ false
+
+no_cause : (form field row value full image kept : Bool)
+    → by_conditions form field row value full image kept ≡ None → HoldNone form field row value full image kept
+no_cause true field row value full image kept e = cc
+no_cause false true row value full image kept e = cc
+no_cause false false true value full image kept e = cc
+no_cause false false false true full image kept e = cc
+no_cause false false false false true image kept e = cc
+no_cause false false false false false true kept e = cc
+no_cause false false false false false false true e = cc
+no_cause false false false false false false false e = record {
+  form_is = refl;
+  field_is = refl;
+  row_is = refl;
+  value_is = refl;
+  full_is = refl;
+  image_is = refl;
+  kept_is = refl;
+}
 
 -- ---- how many rows there are after a command
 
@@ -83,6 +122,16 @@ full-not_more t c h k =
     let room = h.rows.room in
     grind (arith, nat_tests)
 
+-- the kept rows, or the others where none are kept
+pub held-kept : (l : LayoutShape) (kept : Option (List Row)) (rows : List Row) → IfSome kept (AreHeld l)
+    → AreHeld l rows → AreHeld l (unwrap_or kept rows)
+held-kept l None rows h k = k
+held-kept l (Some kept) rows h k = h
+
+-- kept rows have room
+full-back : (t : TableShape) → IsTable t → too_full t Back ≡ false
+full-back t h = let room = (held-kept t.layout t.kept t.rows h.kept h.rows).room in grind (arith, nat_tests)
+
 full-same : (t : TableShape) → IsTable t → nat_lt MAX_BITS ((length t.rows + 0) * row_width t.layout.fields) ≡ false
 full-same t h = let room = h.rows.room in grind (arith, nat_tests)
 
@@ -97,6 +146,7 @@ full-count t (Dup p q) h (a, b) =
     let count : length (edited t.rows (Dup p q)) ≡ length t.rows + (q - p) =
     simp (length-append, length-take, length-drop) (omega arith) in
     ap (λ n. nat_lt MAX_BITS (n * row_width t.layout.fields)) count
+full-count t Back h k = full-back t h ∙ sym (full-same t h)
 full-count t c h k = full-not_more t c h (length-not_added t.rows c k refl) ∙ sym (full-same t h)
 
 -- ---- row numbers in range
@@ -137,22 +187,26 @@ not-false false e = absurd cc
 -- the cause of a table by its layout and how many rows it has
 pub cause-of : (l : LayoutShape) (n : ℕ) (kept : Bool) (t : TableShape) (c : Command) (form field row value : Bool)
     → IsTableOf l n kept t → wrong_form l c ≡ form → wrong_field l c ≡ field → wrong_row n c ≡ row
-    → wrong_value l c ≡ value → by_conditions form field row value (too_full t c) ≡ cause_in t c
+    → wrong_value l c ≡ value
+    → by_conditions form field row value (too_full t c) (wrong_image l c) (nothing_kept kept c) ≡ cause_in t c
 cause-of l n kept t c form field row value h a b d e =
-    sym (cause_in-conditions t c form field row value (too_full t c) (record {
+    sym (cause_in-conditions t c form field row value (too_full t c) (wrong_image l c) (nothing_kept kept c) (record {
       form_is = ap (λ x. wrong_form x c) h.layout ∙ a;
       field_is = ap (λ x. wrong_field x c) h.layout ∙ b;
       row_is = ap (λ m. wrong_row m c) h.count ∙ d;
       value_is = ap (λ x. wrong_value x c) h.layout ∙ e;
       full_is = refl;
+      image_is = ap (λ x. wrong_image x c) h.layout;
+      kept_is = ap (λ b. nothing_kept b c) h.kept;
     }))
 
--- where no earlier condition holds, the rows after the command decide
-pub cause-by_room : (l : LayoutShape) (n : ℕ) (kept : Bool) (t : TableShape) (c : Command) (full : Bool)
+-- where no earlier condition holds, the rows after the command decide, and then whether it finds what it wants
+pub cause-by_room : (l : LayoutShape) (n : ℕ) (kept : Bool) (t : TableShape) (c : Command) (full image none : Bool)
     → IsTableOf l n kept t → wrong_form l c ≡ false → wrong_field l c ≡ false → wrong_row n c ≡ false
     → wrong_value l c ≡ false → nat_lt MAX_BITS ((n + rows_added c) * row_width l.fields) ≡ full
-    → by_conditions false false false false full ≡ cause_in t c
-cause-by_room l n kept t c full h a b d e k =
+    → wrong_image l c ≡ image → nothing_kept kept c ≡ none
+    → by_conditions false false false false full image none ≡ cause_in t c
+cause-by_room l n kept t c full image none h a b d e k i j =
     let in_range : IsInRange (length t.rows) c =
     in_range-facts (length t.rows) c (ap (λ m. is_in_range m c) h.count ∙ not-false _ d) in
     let room : too_full t c ≡ full =
@@ -160,7 +214,9 @@ cause-by_room l n kept t c full h a b d e k =
     ∙ ap (λ m. nat_lt MAX_BITS ((m + rows_added c) * row_width t.layout.fields)) h.count
     ∙ ap (λ (x : LayoutShape). nat_lt MAX_BITS ((n + rows_added c) * row_width x.fields)) h.layout
     ∙ k in
-    ap (λ b. by_conditions false false false false b) (sym room) ∙ cause-of l n kept t c false false false false h a b d e
+    ap (λ b. by_conditions false false false false b image none) (sym room)
+    ∙ ap₂ (by_conditions false false false false (too_full t c)) (sym i) (sym j)
+    ∙ cause-of l n kept t c false false false false h a b d e
 
 -- ---- commands that no cause refuses
 
@@ -176,27 +232,24 @@ taken-facts l (Some k) v e =
     let h = field-cases (field_at l (Some k)) v e in
     record { index = k; field = h.0; place_is = refl; field_is = h.1; taken = h.2 }
 
-pub values-facts : (l : LayoutShape) (c : Command) → wrong_form l c ≡ false → wrong_value l c ≡ false → HasLawfulValues l c
+pub values-facts : (l : LayoutShape) (c : Command) → wrong_form l c ≡ false → wrong_value l c ≡ false
+    → HasLawfulValues l c
 values-facts l (Insert p vs) a b =
     let same : (length vs == length l.fields) ≡ true = not-false _ a in
     record { count = grind (arith, nat_tests); taken = not-false _ b }
 values-facts l (Set p f v) a b = taken-facts l f v (not-false _ b)
 values-facts l c a b = tt
 
+kept-facts : (kept : Bool) (c : Command) → nothing_kept kept c ≡ false → HasKept kept c
+kept-facts kept Back e = not-false kept e
+kept-facts kept c e = tt
+
 -- the conditions of a command that no cause refuses
-pub no_conditions : (t : TableShape) (c : Command) → cause_in t c ≡ None
-    → HasConditions t c false false false false false
+no_conditions : (t : TableShape) (c : Command) → cause_in t c ≡ None
+    → HoldNone (wrong_form t.layout c) (wrong_field t.layout c) (wrong_row (length t.rows) c) (wrong_value t.layout c)
+    (too_full t c) (wrong_image t.layout c) (nothing_kept (is_some t.kept) c)
 no_conditions t c e =
-    let h = no_cause (wrong_form t.layout c) (wrong_field t.layout c) (wrong_row (length t.rows) c)
-    (wrong_value t.layout c) (too_full t c)
-    (sym (cause_in-conditions t c _ _ _ _ _ (record {
-      form_is = refl;
-      field_is = refl;
-      row_is = refl;
-      value_is = refl;
-      full_is = refl;
-    })) ∙ e) in
-    record { form_is = h.0; field_is = h.1; row_is = h.2; value_is = h.3; full_is = h.4 }
+    no_cause _ _ _ _ _ _ _ (sym (cause_in-conditions t c _ _ _ _ _ _ _ (conditions-of t c)) ∙ e)
 
 -- what holds of a command that no cause refuses
 pub accepted : (t : TableShape) (c : Command) → cause_in t c ≡ None → IsAccepted t c
@@ -207,4 +260,5 @@ accepted t c e =
       in_range = in_range-facts (length t.rows) c (not-false _ h.row_is);
       values = values-facts t.layout c h.form_is h.value_is;
       room = grind (arith, nat_tests);
+      kept = kept-facts (is_some t.kept) c h.kept_is;
     }

@@ -1,7 +1,8 @@
 -- A command that is kept cut off is refused, edits and answers as the one that its words spell.
-use Rattle.std.proofs.Common.{◌≡◌, ℕ, ◌+◌, ◌-◌, ◌*◌, ◌^◌, ◌<◌, ◌≤◌, ◌&&◌, not, nat_lt, nat_le, Bool, true, false, ℤ, List, [], ◌∷◌}
+use Rattle.std.proofs.Common.{◌≡◌, ℕ, ◌+◌, ◌-◌, ◌*◌, ◌^◌, ◌<◌, ◌≤◌, ◌&&◌, not, nat_lt, nat_le, Bool, true, false, ℤ}
+use Rattle.std.proofs.Common.{List, [], ◌∷◌}
 use Rattle.std.proofs.Common.{length, map, Option, Some, None, refl, sym, ap, ◌∙◌, arith, zero, suc}
-use Rattle.std.specs.Prelude.{slice_get, min}
+use Rattle.std.specs.Prelude.{slice_get, min, is_some}
 use Rattle.std.specs.List.{list_all}
 use Rattle.std.specs.Option.{option_map_or}
 use Rattle.std.proofs.lemmas.Bool.Decides.{nat_tests}
@@ -10,15 +11,16 @@ use Rattle.bit_table_layout.specs.Layouts.{LayoutShape, row_width}
 use Rattle.bit_table_layout.proofs.RowLemmas.{fields_lawful, some_row_bits}
 use Rattle.bit_table_commands.specs.declared.command.Command.{Command}
 use Rattle.bit_table_commands.specs.declared.command.Command.TheVariants.{Insert, Delete, Set, Get, Copy, Swap, Rotate}
-use Rattle.bit_table_commands.specs.declared.command.Command.TheVariants.{Dup}
+use Rattle.bit_table_commands.specs.declared.command.Command.TheVariants.{Dup, Back}
 use Rattle.bit_table_commands.specs.Commands.{cut_off, cut_place, cut_value}
 use Rattle.bit_table_commands.specs.Tables.{TableShape, IsTable}
-use Rattle.bit_table_commands.specs.Causes.{cause_in, wrong_form, wrong_field, wrong_row, wrong_value, too_full, is_in_range}
-use Rattle.bit_table_commands.specs.Causes.{is_taken}
+use Rattle.bit_table_commands.specs.Causes.{cause_in, wrong_form, wrong_field, wrong_row, wrong_value, too_full}
+use Rattle.bit_table_commands.specs.Causes.{is_in_range}
+use Rattle.bit_table_commands.specs.Causes.{wrong_image, nothing_kept, is_taken}
 use Rattle.bit_table_commands.specs.Accepted.{IsInRange, HasLawfulValues}
 use Rattle.bit_table_commands.specs.Edits.{edit, reply_to}
 use Rattle.bit_table_commands.specs.CuttingOff.{CuttingOffChangesNothing}
-use Rattle.bit_table_commands.proofs.CauseLemmas.{by_conditions, cause_in-conditions, in_range-facts}
+use Rattle.bit_table_commands.proofs.CauseLemmas.{by_conditions, cause_in-conditions, conditions-of, in_range-facts}
 use Rattle.bit_table_commands.proofs.CauseLemmas.{values-facts, not-false, accepted}
 use Rattle.bit_table_commands.proofs.ValueLemmas.{take_all-cut_value, cut_value-all_taken, length-cut_value}
 use Rattle.bit_table_commands.proofs.ValueLemmas.{takes-cut_value, cut_value-taken, cut_place-within}
@@ -40,6 +42,10 @@ wrong_form-cut l c = refl
 wrong_field-cut : (l : LayoutShape) (c : Command) → wrong_field l (cut_off c) ≡ wrong_field l c
 wrong_field-cut l (Set p f v) = refl
 wrong_field-cut l c = refl
+
+nothing_kept-cut : (kept : Bool) (c : Command) → nothing_kept kept (cut_off c) ≡ nothing_kept kept c
+nothing_kept-cut kept Back = refl
+nothing_kept-cut kept c = refl
 
 -- comparisons of numbers that are cut off at m, where n is less
 cut_le : (m n p : ℕ) → n < m → nat_le (min p m) n ≡ nat_le p n
@@ -144,36 +150,34 @@ cut_off-accepted t h c e =
 -- ---- the law
 
 -- the rows after a command matter only where nothing refuses it before
-by_earlier : (form field row value one other : Bool)
+by_earlier : (form field row value one other image kept : Bool)
     → (form ≡ false → row ≡ false → value ≡ false → one ≡ other)
-    → by_conditions form field row value one ≡ by_conditions form field row value other
-by_earlier true field row value one other h = refl
-by_earlier false true row value one other h = refl
-by_earlier false false true value one other h = refl
-by_earlier false false false true one other h = refl
-by_earlier false false false false one other h = ap (by_conditions false false false false) (h refl refl refl)
+    → by_conditions form field row value one image kept ≡ by_conditions form field row value other image kept
+by_earlier true field row value one other image kept h = refl
+by_earlier false true row value one other image kept h = refl
+by_earlier false false true value one other image kept h = refl
+by_earlier false false false true one other image kept h = refl
+by_earlier false false false false one other image kept h =
+    ap (λ b. by_conditions false false false false b image kept) (h refl refl refl)
 
 -- what a command keeps is refused for the causes for which its words are
 pub cause_in-cut_off : (t : TableShape) → IsTable t → (c : Command) → cause_in t (cut_off c) ≡ cause_in t c
 cause_in-cut_off t h c =
     let few = few_rows t h in
     let lawful = fields_lawful t.layout h.layout in
-    let one = cause_in-conditions t (cut_off c) _ _ _ _ _ (record {
+    let one = cause_in-conditions t (cut_off c) _ _ _ _ _ _ _ (record {
       form_is = wrong_form-cut t.layout c;
       field_is = wrong_field-cut t.layout c;
       row_is = ap not (is_in_range-cut (length t.rows) c few);
       value_is = wrong_value-cut t.layout c lawful;
       full_is = refl;
+      image_is = refl;
+      kept_is = nothing_kept-cut (is_some t.kept) c;
     }) in
-    let other = cause_in-conditions t c _ _ _ _ _ (record {
-      form_is = refl;
-      field_is = refl;
-      row_is = refl;
-      value_is = refl;
-      full_is = refl;
-    }) in
+    let other = cause_in-conditions t c _ _ _ _ _ _ _ (conditions-of t c) in
     let same = by_earlier (wrong_form t.layout c) (wrong_field t.layout c) (wrong_row (length t.rows) c)
-    (wrong_value t.layout c) (too_full t (cut_off c)) (too_full t c)
+    (wrong_value t.layout c) (too_full t (cut_off c)) (too_full t c) (wrong_image t.layout c)
+    (nothing_kept (is_some t.kept) c)
     (λ form row value. ap (too_full t) (cut_off-within t.layout (length t.rows) c few lawful
     (in_range-facts (length t.rows) c (not-false _ row)) (values-facts t.layout c form value))) in
     one ∙ same ∙ sym other

@@ -1,7 +1,7 @@
 -- The table that a command leaves is a table.
 use Rattle.std.proofs.Common.{◌≡◌, ℕ, zero, suc, ◌+◌, ◌-◌, ◌<◌, true, ℤ, List, [], ◌∷◌, ◌++◌}
 use Rattle.std.proofs.Common.{length, map, take, drop, get_or, set, Option, Some, None, refl, ap, ◌∙◌, arith}
-use Rattle.std.specs.Prelude.{slice_get, slice_range}
+use Rattle.std.specs.Prelude.{slice_get, slice_range, unwrap_or, IfSome}
 use Rattle.std.specs.List.{All, swap}
 use Rattle.std.proofs.lemmas.List.Elements.{All-get_or, All-append, All-cons, All-take, All-drop, All-map, All-set}
 use Rattle.std.proofs.lemmas.List.Sums.{AllPass-from_list_all, list_all-from_AllPass}
@@ -10,11 +10,12 @@ use Rattle.bit_table_layout.specs.Layouts.{LayoutShape}
 use Rattle.bit_table_layout.specs.Rows.{Row, new_row, take_all, is_row}
 use Rattle.bit_table_commands.specs.declared.command.Command.{Command}
 use Rattle.bit_table_commands.specs.declared.command.Command.TheVariants.{Insert, Delete, Set, Copy, Swap, Rotate, Dup}
+use Rattle.bit_table_commands.specs.declared.command.Command.TheVariants.{Keep, Back}
 use Rattle.bit_table_commands.specs.Accepted.{IsInRange, HasLawfulValues, IsTaken}
 use Rattle.bit_table_commands.specs.Causes.{cause_in}
-use Rattle.bit_table_commands.specs.Edits.{edit, edited, with_number}
-use Rattle.bit_table_commands.specs.Tables.{TableShape, IsTable}
-use Rattle.bit_table_commands.proofs.CauseLemmas.{accepted}
+use Rattle.bit_table_commands.specs.Edits.{edit, edited, rows_after, kept_after, with_number}
+use Rattle.bit_table_commands.specs.Tables.{TableShape, AreHeld, IsTable}
+use Rattle.bit_table_commands.proofs.CauseLemmas.{accepted, held-kept}
 
 -- numbers of which one is put in another's place, which its field takes
 take_all-set : (fs : List FieldShape) (vs : List ℤ) (k : ℕ) (f : FieldShape) (v : ℤ) → take_all fs vs ≡ true
@@ -84,17 +85,30 @@ edited-rows l rows (Rotate p q k) h r v =
 edited-rows l rows (Dup p q) h k v = All-append (IsRow l) rows (slice_range rows p q) h (part l rows p q h)
 edited-rows l rows c h k v = h
 
+-- the rows that a command leaves are rows of the layout
+rows-after : (t : TableShape) (c : Command) → IsTable t → IsInRange (length t.rows) c → HasLawfulValues t.layout c
+    → All (IsRow t.layout) (rows_after t c)
+rows-after t Back h k v =
+    AllPass-from_list_all (is_row t.layout) (unwrap_or t.kept t.rows)
+    (held-kept t.layout t.kept t.rows h.kept h.rows).lawful
+rows-after t c h k v =
+    edited-rows t.layout t.rows c (AllPass-from_list_all (is_row t.layout) t.rows h.rows.lawful) k v
+
+-- the rows that are kept after a command are held, too
+kept-after : (t : TableShape) (c : Command) → IsTable t → IfSome (kept_after t c) (AreHeld t.layout)
+kept-after t Keep h = h.rows
+kept-after t Back h = tt
+kept-after t c h = h.kept
+
 -- the table that a command leaves which no cause refuses
 pub edit-is_table : (t : TableShape) → IsTable t → (c : Command) → cause_in t c ≡ None → IsTable (edit t c)
 edit-is_table t h c e =
     let a = accepted t c e in
-    let rows = AllPass-from_list_all (is_row t.layout) t.rows h.rows.lawful in
     record {
       layout = h.layout;
       rows = record {
-        lawful = list_all-from_AllPass (is_row t.layout) (edited t.rows c)
-            (edited-rows t.layout t.rows c rows a.in_range a.values);
+        lawful = list_all-from_AllPass (is_row t.layout) (rows_after t c) (rows-after t c h a.in_range a.values);
         room = a.room;
       };
-      kept = h.kept;
+      kept = kept-after t c h;
     }

@@ -1,5 +1,6 @@
 -- Known lines, commands, edits and answers, computed: a wrong rule among the definitions does not check.
-use Rattle.std.proofs.Common.{◌≡◌, ℕ, ◌-◌, ◌+◌, ◌^◌, ◌==◌, true, false, pos, neg_ℤ, List, [], ◌∷◌, ◌++◌, codes, Option, None, Some, refl}
+use Rattle.std.proofs.Common.{◌≡◌, ℕ, ◌-◌, ◌+◌, ◌^◌, ◌==◌, true, false, pos, neg_ℤ, List, [], ◌∷◌, ◌++◌, codes}
+use Rattle.std.proofs.Common.{Option, None, Some, refl}
 use Rattle.std.specs.Prelude.{⊤}
 use Rattle.std.specs.Fmt.{digits}
 use Rattle.std.specs.List.{slice_split}
@@ -12,7 +13,7 @@ use Rattle.bit_table_layout.specs.Layouts.{LayoutShape}
 use Rattle.bit_table_layout.specs.Rows.{Row, new_row}
 use Rattle.bit_table_commands.specs.declared.command.Command.{Command}
 use Rattle.bit_table_commands.specs.declared.command.Command.TheVariants.{Insert, Delete, Set, Get, Copy, Swap, Rotate}
-use Rattle.bit_table_commands.specs.declared.command.Command.TheVariants.{Dup, Image}
+use Rattle.bit_table_commands.specs.declared.command.Command.TheVariants.{Dup, Image, Keep, Back}
 use Rattle.bit_table_commands.specs.Commands.{command_of, cut_place, cut_value, cut_off}
 use Rattle.bit_table_commands.specs.Causes.{cause_in, line_cause}
 use Rattle.bit_table_commands.specs.Edits.{edit, edited, reply_to}
@@ -62,7 +63,8 @@ command-zeros : command_of (two_fields Low) (codes "\tinsert 0001  5 -0\r") ≡ 
 unfolding command_of two_fields
 command-zeros = refl
 
-command-great : command_of (two_fields Low) (codes "insert 18446744073709551616 9 -99999999999999999999") ≡ Some (Insert (2 ^ 64) (pos 9 ∷ neg_ℤ (pos 99999999999999999999) ∷ []))
+command-great : command_of (two_fields Low) (codes "insert 18446744073709551616 9 -99999999999999999999")
+    ≡ Some (Insert (2 ^ 64) (pos 9 ∷ neg_ℤ (pos 99999999999999999999) ∷ []))
 unfolding command_of two_fields
 command-great = refl
 
@@ -210,6 +212,22 @@ command-line_end : command_of (two_fields Low) (codes "image\n") ≡ None
 unfolding command_of two_fields
 command-line_end = refl
 
+command-keep : command_of (two_fields Low) (codes "keep") ≡ Some Keep
+unfolding command_of two_fields
+command-keep = refl
+
+command-keep_more : command_of (two_fields Low) (codes "keep 0") ≡ None
+unfolding command_of two_fields
+command-keep_more = refl
+
+command-back : command_of (two_fields Low) (codes " back") ≡ Some Back
+unfolding command_of two_fields
+command-back = refl
+
+command-back_more : command_of (two_fields Low) (codes "back back") ≡ None
+unfolding command_of two_fields
+command-back_more = refl
+
 command-none : command_of (two_fields Low) ([]) ≡ None
 unfolding command_of two_fields
 command-none = refl
@@ -250,7 +268,8 @@ cut_off-insert = refl
 cut_off-rotate : cut_off (Rotate 1 (2 ^ 64) (2 ^ 65)) ≡ Rotate 1 (2 ^ 64 - 1) (2 ^ 64 - 1)
 cut_off-rotate = refl
 
-cut_off-set : cut_off (Set (2 ^ 64) (Some 3) (neg_ℤ (pos (2 ^ 65)))) ≡ Set (2 ^ 64 - 1) (Some 3) (neg_ℤ (pos (2 ^ 64)))
+cut_off-set : cut_off (Set (2 ^ 64) (Some 3) (neg_ℤ (pos (2 ^ 65))))
+    ≡ Set (2 ^ 64 - 1) (Some 3) (neg_ℤ (pos (2 ^ 64)))
 cut_off-set = refl
 
 -- ---- edits of any rows: they go whole, with their letters
@@ -340,7 +359,8 @@ answered t text = answers t (slice_split (λ b. b == 10) text)
 
 -- what computes answers at a literal
 unfoldable on_literals : ⊤
-unfolding two_fields one_field signed_field wide_fields two_rows told next answers answered command_of cause_in hex_on_literals digits
+unfolding two_fields one_field signed_field wide_fields two_rows told next answers answered
+    command_of cause_in hex_on_literals digits
 on_literals = tt
 
 answered-image_low : answered (two_rows Low)
@@ -393,7 +413,8 @@ answered-ones = refl
 
 answered-out_of_range : answered (two_rows High)
     (codes "delete 1 0\ndelete 0 3\nrotate 0 1 2\ncopy 0 2 1\nswap 0 2\nget 2\ndup 0 3\ndup 1 0")
-    ≡ codes "refused row\nrefused row\nrefused row\nrefused row\nrefused row\nrefused row\nrefused row\nrefused row\n"
+    ≡ codes "refused row\nrefused row\nrefused row\nrefused row\n"
+    ++ codes "refused row\nrefused row\nrefused row\nrefused row\n"
 unfolding on_literals
 answered-out_of_range = refl
 
@@ -404,8 +425,10 @@ unfolding on_literals
 answered-nothing_goes = refl
 
 answered-order_of_causes : answered (two_rows High)
-    (codes "set 9 c 99\nset 9 a 99\ninsert 3 8 0\ninsert 0 8 0\ninsert 0 5\nget -0\nset 0 a +1\nset 0 A 1\nget 0001\nget\t0\r")
-    ≡ codes "refused field\nrefused row\nrefused row\nrefused value\nrefused form\nrefused form\nrefused form\nrefused form\n2 3\n5 -1\n"
+    (codes "set 9 c 99\nset 9 a 99\ninsert 3 8 0\ninsert 0 8 0\ninsert 0 5\n"
+    ++ codes "get -0\nset 0 a +1\nset 0 A 1\nget 0001\nget\t0\r")
+    ≡ codes "refused field\nrefused row\nrefused row\nrefused value\nrefused form\n"
+    ++ codes "refused form\nrefused form\nrefused form\n2 3\n5 -1\n"
 unfolding on_literals
 answered-order_of_causes = refl
 
@@ -416,7 +439,8 @@ unfolding on_literals
 answered-no_commands = refl
 
 answered-great_numbers : answered (two_rows High)
-    (codes "get 18446744073709551616\nswap 0 18446744073709551616\nset 0 a 18446744073709551616\ndelete 0 99999999999999999999")
+    (codes "get 18446744073709551616\nswap 0 18446744073709551616\n"
+    ++ codes "set 0 a 18446744073709551616\ndelete 0 99999999999999999999")
     ≡ codes "refused row\nrefused row\nrefused value\nrefused row\n"
 unfolding on_literals
 answered-great_numbers = refl
@@ -436,3 +460,16 @@ answered-wide_high : answered (new_table (wide_fields High)) (codes "insert 0 7 
     ≡ codes "ok\n1 ffffffffffffffffe0\n"
 unfolding on_literals
 answered-wide_high = refl
+
+answered-kept : answered (two_rows High)
+    (codes "back\nkeep\ndelete 0 2\nimage\nback\nimage\nback")
+    ≡ codes "refused kept\nok\nok\n0\nok\n2 be8c\nrefused kept\n"
+unfolding on_literals
+answered-kept = refl
+
+-- what is kept last comes back
+answered-kept_again : answered (two_rows High)
+    (codes "keep\ndelete 0 1\nkeep\ndup 0 1\nset 0 a 7\nback\nimage\nback")
+    ≡ codes "ok\nok\nok\nok\nok\nok\n1 46\nrefused kept\n"
+unfolding on_literals
+answered-kept_again = refl

@@ -9,7 +9,7 @@ use Rattle.bit_table_commands.specs.declared.name.Name.{Name}
 use Rattle.bit_table_commands.specs.declared.name.Name.TheVariants as name
 use Rattle.bit_table_commands.specs.declared.command.Command.{Command}
 use Rattle.bit_table_commands.specs.declared.command.Command.TheVariants.{Insert, Delete, Set, Get, Copy, Swap, Rotate}
-use Rattle.bit_table_commands.specs.declared.command.Command.TheVariants.{Dup, Image}
+use Rattle.bit_table_commands.specs.declared.command.Command.TheVariants.{Dup, Image, Keep, Back}
 use Rattle.bit_table_commands.specs.Commands.{command_of, command_in, command_named, insert_in, insert_from, set_in}
 use Rattle.bit_table_commands.specs.Commands.{field_and_value, alone, one_number, two_numbers, three_numbers}
 use Rattle.bit_table_commands.specs.Commands.{whole_numbers_in, name_of, cut_off}
@@ -60,6 +60,8 @@ named-form l name.Rotate ws c e =
     mapped-form l (λ pqk. Rotate pqk.0 pqk.1 pqk.2) (three_numbers ws) c (λ pqk. refl) e
 named-form l name.Dup ws c e = mapped-form l (λ pq. Dup pq.0 pq.1) (two_numbers ws) c (λ pq. refl) e
 named-form l name.Image ws c e = alone-form l Image c ws refl e
+named-form l name.Keep ws c e = alone-form l Keep c ws refl e
+named-form l name.Back ws c e = alone-form l Back c ws refl e
 
 spelled_in-form : (l : LayoutShape) (ws : List (List ℕ)) (c : Command) → command_in l ws ≡ Some c
     → wrong_form l c ≡ false

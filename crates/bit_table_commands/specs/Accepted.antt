@@ -1,12 +1,13 @@
 -- What holds of a command that no cause refuses.
-use Rattle.std.specs.Prelude.{◌≡◌, ℕ, ◌+◌, ◌-◌, ◌*◌, ◌<◌, ◌≤◌, true, ℤ, List, length, slice_get, Option, Some, ⊤}
+use Rattle.std.specs.Prelude.{◌≡◌, ℕ, ◌+◌, ◌-◌, ◌*◌, ◌<◌, ◌≤◌, true, Bool, is_some, ℤ, List, length, slice_get}
+use Rattle.std.specs.Prelude.{Option, Some, ⊤}
 use Rattle.bit_table_layout.specs.declared.layout.TheConstants.{MAX_BITS}
 use Rattle.bit_table_layout.specs.Fields.{FieldShape, takes}
 use Rattle.bit_table_layout.specs.Layouts.{LayoutShape, row_width}
 use Rattle.bit_table_layout.specs.Rows.{take_all}
 use Rattle.bit_table_commands.specs.declared.command.Command.{Command}
 use Rattle.bit_table_commands.specs.declared.command.Command.TheVariants.{Insert, Delete, Set, Get, Copy, Swap, Rotate}
-use Rattle.bit_table_commands.specs.declared.command.Command.TheVariants.{Dup}
+use Rattle.bit_table_commands.specs.declared.command.Command.TheVariants.{Dup, Back}
 use Rattle.bit_table_commands.specs.Tables.{TableShape}
 use Rattle.bit_table_commands.specs.Edits.{edit}
 
@@ -41,8 +42,14 @@ HasLawfulValues l (Insert p vs) = AreTaken l vs
 HasLawfulValues l (Set p f v) = IsTaken l f v
 HasLawfulValues l c = ⊤
 
+-- rows are kept, where a command wants them
+abbrev pub HasKept : Bool → Command → Type 0
+HasKept kept Back = kept ≡ true
+HasKept kept c = ⊤
+
 -- what holds of a command that no cause refuses in a table
 pub record IsAccepted (t : TableShape) (c : Command) : Type 0 where
   pub in_range : IsInRange (length t.rows) c
   pub values : HasLawfulValues t.layout c
   pub room : length (edit t c).rows * row_width t.layout.fields ≤ MAX_BITS
+  pub kept : HasKept (is_some t.kept) c

@@ -11,7 +11,7 @@ use Rattle.bit_table_layout.specs.Layouts.{LayoutShape, row_width, layout_of}
 use Rattle.bit_table_layout.specs.Rows.{take_all}
 use Rattle.bit_table_commands.specs.declared.command.Command.{Command}
 use Rattle.bit_table_commands.specs.declared.command.Command.TheVariants.{Insert, Delete, Set, Get, Copy, Swap, Rotate}
-use Rattle.bit_table_commands.specs.declared.command.Command.TheVariants.{Dup}
+use Rattle.bit_table_commands.specs.declared.command.Command.TheVariants.{Dup, Back}
 use Rattle.bit_table_commands.specs.Commands.{command_of}
 use Rattle.bit_table_commands.specs.Tables.{TableShape, State, table_in}
 use Rattle.bit_table_commands.specs.Edits.{edit}
@@ -66,6 +66,7 @@ wrong_image l c = false
 
 -- kept: nothing is kept
 abbrev pub nothing_kept : Bool → Command → Bool
+nothing_kept kept Back = not kept
 nothing_kept kept c = false
 
 -- the cause of the first condition that holds

@@ -12,14 +12,15 @@ use Rattle.bit_table_commands.specs.declared.name.Name.{Name}
 use Rattle.bit_table_commands.specs.declared.name.Name.TheVariants as name
 use Rattle.bit_table_commands.specs.declared.command.Command.{Command}
 use Rattle.bit_table_commands.specs.declared.command.Command.TheVariants.{Insert, Delete, Set, Get, Copy, Swap, Rotate}
-use Rattle.bit_table_commands.specs.declared.command.Command.TheVariants.{Dup, Image}
+use Rattle.bit_table_commands.specs.declared.command.Command.TheVariants.{Dup, Image, Keep, Back}
 
 -- ---- names
 
 -- all names
 abbrev pub names : List Name
 names =
-    name.Insert ∷ name.Delete ∷ name.Set ∷ name.Get ∷ name.Copy ∷ name.Swap ∷ name.Rotate ∷ name.Dup ∷ name.Image ∷ []
+    name.Insert ∷ name.Delete ∷ name.Set ∷ name.Get ∷ name.Copy ∷ name.Swap ∷ name.Rotate ∷ name.Dup ∷ name.Image
+    ∷ name.Keep ∷ name.Back ∷ []
 
 -- a name as a line has it
 abbrev pub name_text : Name → List ℕ
@@ -32,6 +33,8 @@ name_text name.Swap = codes "swap"
 name_text name.Rotate = codes "rotate"
 name_text name.Dup = codes "dup"
 name_text name.Image = codes "image"
+name_text name.Keep = codes "keep"
+name_text name.Back = codes "back"
 
 -- the name that a word is, if it is one
 abbrev pub name_of : List ℕ → Option Name
@@ -86,11 +89,13 @@ field_place l word = position (λ f. bytes_eq f.name word) l.fields
 -- `set p f v`: a row number, a word of the shape of a name, and a value
 abbrev pub field_and_value : LayoutShape → List (List ℕ) → Option (Option ℕ × ℤ)
 field_and_value l [] = None
-field_and_value l (word ∷ rest) = if is_name word then option_map (λ v. (field_place l word, v)) (one_value rest) else None
+field_and_value l (word ∷ rest) =
+    if is_name word then option_map (λ v. (field_place l word, v)) (one_value rest) else None
 
 abbrev pub set_in : LayoutShape → List (List ℕ) → Option Command
 set_in l [] = None
-set_in l (row ∷ rest) = option_and_then (λ p. option_map (λ fv. Set p fv.0 fv.1) (field_and_value l rest)) (number_in row)
+set_in l (row ∷ rest) =
+    option_and_then (λ p. option_map (λ fv. Set p fv.0 fv.1) (field_and_value l rest)) (number_in row)
 
 -- a command that takes nothing more
 abbrev pub alone : Command → List (List ℕ) → Option Command
@@ -108,6 +113,8 @@ command_named l name.Swap ws = option_map (λ pq. Swap pq.0 pq.1) (two_numbers w
 command_named l name.Rotate ws = option_map (λ pqk. Rotate pqk.0 pqk.1 pqk.2) (three_numbers ws)
 command_named l name.Dup ws = option_map (λ pq. Dup pq.0 pq.1) (two_numbers ws)
 command_named l name.Image ws = alone Image ws
+command_named l name.Keep ws = alone Keep ws
+command_named l name.Back ws = alone Back ws
 
 -- the command that words spell over a layout, where they spell one. Its numbers are those that the digits spell,
 -- however great

@@ -1,13 +1,13 @@
 -- What a command does to a table, and what it answers.
 use Rattle.std.specs.Prelude.{ℕ, ◌+◌, ◌-◌, ℤ, List, [], ◌∷◌, ◌++◌, length, map, take, drop}
-use Rattle.std.specs.Prelude.{slice_get, slice_range, slice_set, Option, Some, None}
+use Rattle.std.specs.Prelude.{slice_get, slice_range, slice_set, Option, Some, None, unwrap_or}
 use Rattle.std.specs.List.{swap}
 use Rattle.std.specs.Option.{option_map_or}
 use Rattle.bit_table_layout.specs.Rows.{Row, new_row}
 use Rattle.bit_table_layout.specs.Images.{image_bytes}
 use Rattle.bit_table_commands.specs.declared.command.Command.{Command}
 use Rattle.bit_table_commands.specs.declared.command.Command.TheVariants.{Insert, Delete, Set, Get, Copy, Swap, Rotate}
-use Rattle.bit_table_commands.specs.declared.command.Command.TheVariants.{Dup, Image}
+use Rattle.bit_table_commands.specs.declared.command.Command.TheVariants.{Dup, Image, Keep, Back}
 use Rattle.bit_table_commands.specs.declared.reply.Reply.{Reply}
 use Rattle.bit_table_commands.specs.declared.reply.Reply.TheVariants as answered
 use Rattle.bit_table_commands.specs.Tables.{TableShape}
@@ -29,12 +29,15 @@ edited rows (Rotate p q k) =
 edited rows (Dup p q) = rows ++ slice_range rows p q
 edited rows c = rows
 
--- the rows that a command leaves
+-- the rows that a command leaves: `back` those that are kept, any other what it makes of the rows
 abbrev pub rows_after : TableShape → Command → List Row
+rows_after t Back = unwrap_or t.kept t.rows
 rows_after t c = edited t.rows c
 
--- the rows that are kept after a command, if any
+-- the rows that are kept after a command, if any: `keep` keeps the rows, and after `back` nothing is kept
 abbrev pub kept_after : TableShape → Command → Option (List Row)
+kept_after t Keep = Some t.rows
+kept_after t Back = None
 kept_after t c = t.kept
 
 -- the table that a command leaves

@@ -1,5 +1,6 @@
 -- Tables and states.
-use Rattle.std.specs.Prelude.{◌≡◌, ℕ, ◌*◌, ◌≤◌, true, Bool, List, [], length, Option, Some, None, option_map, is_some, IfSome}
+use Rattle.std.specs.Prelude.{◌≡◌, ℕ, ◌*◌, ◌≤◌, true, Bool, List, [], length, Option, Some, None, option_map}
+use Rattle.std.specs.Prelude.{is_some, IfSome}
 use Rattle.std.specs.Coded.{Coded, coded_ℕ}
 use Rattle.std.specs.FinSet as set
 use Rattle.std.specs.Ordering.{nat_cmp}

@@ -2,8 +2,8 @@
 ghost use Rattle.std.specs.Prelude.{◌≡◌};
 ghost use Rattle.std.specs.Option.{option_copied};
 ghost use Rattle.bit_table_layout.specs.Rows.{take_all};
-ghost use Rattle.bit_table_commands.specs.Causes.{cause_in, field_at, is_in_range, is_taken, wrong_field};
-ghost use Rattle.bit_table_commands.specs.Causes.{wrong_form, wrong_value};
+ghost use Rattle.bit_table_commands.specs.Causes.{cause_in, field_at, is_in_range, is_taken, nothing_kept};
+ghost use Rattle.bit_table_commands.specs.Causes.{wrong_field, wrong_form, wrong_value};
 ghost use Rattle.bit_table_commands.specs.CauseSteps.{rows_added};
 ghost use Rattle.bit_table_commands.specs.CuttingOff.{CuttingOffChangesNothing};
 ghost use Rattle.bit_table_commands.specs.Tables.{TableShape, IsTableOf};
@@ -15,9 +15,9 @@ impl Command {
     /// The first cause that refuses the command in a table of this layout with so many rows, where rows are kept or
     /// not: `Form` for an insertion that has not one value a field, `Field` for a field that the layout lacks, `Row`
     /// for a row number out of range, `Value` for a number that its field does not take, `Full` where the rows after
-    /// the command would have more than `MAX_BITS` bits.
-    pub fn cause(&self, layout: &Layout, rows: usize, _kept: bool) -> Option<Cause>
-        ensures { (t : TableShape) → IsTableOf layout.now rows _kept t → result ≡ cause_in t self.now }
+    /// the command would have more than `MAX_BITS` bits, `Kept` where the command wants kept rows and none are kept.
+    pub fn cause(&self, layout: &Layout, rows: usize, kept: bool) -> Option<Cause>
+        ensures { (t : TableShape) → IsTableOf layout.now rows kept t → result ≡ cause_in t self.now }
     {
         if self.has_wrong_form(layout) {
             return Some(Cause::Form);
@@ -34,6 +34,9 @@ impl Command {
         let rows = rows as u128 + u128::from(self.rows_added());
         if rows * layout.row_bits() as u128 > MAX_BITS as u128 {
             return Some(Cause::Full);
+        }
+        if self.lacks_kept(kept) {
+            return Some(Cause::Kept);
         }
         None
     }
@@ -88,6 +91,16 @@ impl Command {
         match self {
             Command::Insert { values, .. } => !take_all(layout.fields(), values.as_slice()),
             Command::Set { field, value, .. } => !is_taken(layout, *field, *value),
+            _ => false,
+        }
+    }
+
+    // Whether the command wants kept rows, and none are kept.
+    fn lacks_kept(&self, kept: bool) -> bool
+        ensures { result ≡ nothing_kept kept self.now }
+    {
+        match self {
+            Command::Back => !kept,
             _ => false,
         }
     }

@@ -60,6 +60,10 @@ pub enum Command {
     },
     /// The image line.
     Image,
+    /// The rows are kept, in place of those that were kept.
+    Keep,
+    /// The kept rows come back, and nothing is kept then.
+    Back,
 }
 
 impl Command {
@@ -76,6 +80,8 @@ impl Command {
     /// | `rotate p q k` | `Rotate` |
     /// | `dup p q` | `Dup` |
     /// | `image` | `Image` |
+    /// | `keep` | `Keep` |
+    /// | `back` | `Back` |
     ///
     /// Words are separated by spaces, tabs and carriage returns; every other byte, the line end too, belongs to a word.
     /// A row number or an amount is one or more digits, a value the same with one `-` in front if wanted, both taken by

@@ -14,10 +14,12 @@ pub(crate) enum Name {
     Rotate,
     Dup,
     Image,
+    Keep,
+    Back,
 }
 
 // All names.
-const NAMES: [Name; 9] = [
+const NAMES: [Name; 11] = [
     Name::Insert,
     Name::Delete,
     Name::Set,
@@ -27,6 +29,8 @@ const NAMES: [Name; 9] = [
     Name::Rotate,
     Name::Dup,
     Name::Image,
+    Name::Keep,
+    Name::Back,
 ];
 
 impl Name {
@@ -44,6 +48,8 @@ impl Name {
             Name::Rotate => "rotate",
             Name::Dup => "dup",
             Name::Image => "image",
+            Name::Keep => "keep",
+            Name::Back => "back",
         }
     }
 

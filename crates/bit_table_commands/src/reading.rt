@@ -47,12 +47,15 @@ pub(crate) fn read<'a>(layout: &Layout, line: &'a [u8]) -> Option<Reading<'a>>
 
 // Reads a command of this name behind its first word.
 fn read_named<'a>(layout: &Layout, name: Name, words: Words<'a>) -> Option<Reading<'a>>
-    ensures { option_map command_read result ≡ option_map cut_off (command_named layout.now name (words_left words.entry)) }
+    ensures { option_map command_read result
+        ≡ option_map cut_off (command_named layout.now name (words_left words.entry)) }
 {
     let command = match name {
         Name::Insert => return read_insert(layout, words),
         Name::Set => return read_set(layout, words),
         Name::Image => return read_alone(Command::Image, words),
+        Name::Keep => return read_alone(Command::Keep, words),
+        Name::Back => return read_alone(Command::Back, words),
         Name::Get => {
             let row = one_number(words)?;
             Command::Get { row }

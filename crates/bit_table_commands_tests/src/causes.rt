@@ -113,6 +113,25 @@ fn refuses_values_that_are_not_one_a_field(rt: HostRuntime) -> Result<(), Fail> 
     Ok(())
 }
 
+// `back` alone wants kept rows.
+#[test]
+fn wants_kept_rows(rt: HostRuntime) -> Result<(), Fail> {
+    let layout = Layout::parse(rt.alloc(), b"high a:u3 b:i4")?;
+    for (line, nothing_kept) in [
+        (b"back".as_slice(), Some(Cause::Kept)),
+        (b"keep".as_slice(), None),
+        (b"image".as_slice(), None),
+    ] {
+        let command = Command::parse(rt.alloc(), &layout, line)?;
+        assert!(rt;
+            command.cause(&layout, 2, false) == nothing_kept,
+            "{line:?}"
+        );
+        assert!(rt; command.cause(&layout, 2, true) == None, "{line:?}");
+    }
+    Ok(())
+}
+
 // 2,305,843,009,213,693,951 bits are the most: so many rows of one bit, and 7 times 329,406,144,173,384,850 and one.
 #[test]
 fn is_full_past_the_most_bits(rt: HostRuntime) -> Result<(), Fail> {

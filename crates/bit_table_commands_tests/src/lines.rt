@@ -76,6 +76,8 @@ fn reads_commands_of_rows(rt: HostRuntime) -> Result<(), Fail> {
         ),
         (b"dup 0 1".as_slice(), Command::Dup { start: 0, upto: 1 }),
         (b" image".as_slice(), Command::Image),
+        (b"keep\r".as_slice(), Command::Keep),
+        (b"\tback".as_slice(), Command::Back),
     ] {
         assert!(rt;
             Command::parse(rt.alloc(), &layout, line)? == command,
@@ -184,6 +186,10 @@ fn refuses_other_lines(rt: HostRuntime) -> Result<(), Fail> {
         b"dup 0 1 2".as_slice(),
         b"image 1".as_slice(),
         b"images".as_slice(),
+        b"keep 1".as_slice(),
+        b"Keep".as_slice(),
+        b"back 0".as_slice(),
+        b"backs".as_slice(),
     ] {
         assert!(rt;
             Command::parse(rt.alloc(), &layout, line) == Err(Fault::Refused(Cause::Form)),

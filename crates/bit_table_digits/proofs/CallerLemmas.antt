@@ -1,7 +1,7 @@
 -- What callers of loads and stores need: n bits hold each number of n digits, and no other.
 --
--- A number that was stored is loaded: `held_back`, `loaded_back`. What was loaded is a number of so many digits, and stored again
--- gives the bits back: `held_fits`, `held_bits`.
+-- A number that was stored is loaded: `held_back`, `loaded_back`. What was loaded is a number of so many digits, and
+-- stored again gives the bits back: `held_fits`, `held_bits`.
 use Rattle.std.proofs.Common.{◌≡◌, ℕ, ◌≤◌, Bool, true, List, [], ◌∷◌, length, ℤ, le-leb}
 use Rattle.std.specs.Prelude.{nat_le}
 use Rattle.std.proofs.lemmas.Bool.{and_from}

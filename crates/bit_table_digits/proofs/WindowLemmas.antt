@@ -1,6 +1,7 @@
 -- A field's bits in a window, bit by bit: what a loop has stored, and what it has read.
 --
--- Stored: `get_or-field_bits`, `stored_field`. Read: `so_far`, `so_far_none`, `so_far_more`, `so_far_all`, `so_far_small`.
+-- Stored: `get_or-field_bits`, `stored_field`. Read: `so_far`, `so_far_none`, `so_far_more`, `so_far_all`,
+-- `so_far_small`.
 use Rattle.std.proofs.Common.{◌≡◌, ℕ, ◌+◌, ◌-◌, ◌*◌, ◌^◌, ◌<◌, ◌≤◌, Bool, true, false, List, length, cond}
 use Rattle.std.proofs.Common.{get_or, take, drop, reverse, ℤ, sym, refl, ap, ◌∙◌, arith, length-take, pow_mono}
 use Rattle.std.specs.List.{range_with_len}

@@ -104,7 +104,8 @@ fn back_in<R: BitRegister, O: Digits<R>>(
 fn in_bytes(words: &mut [u8; 3], value: i128) -> i128
     requires held { is_held true 12 value ≡ true }
     ensures same { result ≡ value }
-    ensures list { piece (memory (read_by ⟦<u8 as BitRegister>⟧ (⟦<Lsb0 as BitOrder<u8>>⟧.position)) words.new) 5 12 ≡ field_bits Low 12 value }
+    ensures list { piece (memory (read_by ⟦<u8 as BitRegister>⟧ (⟦<Lsb0 as BitOrder<u8>>⟧.position)) words.new) 5 12
+        ≡ field_bits Low 12 value }
 {
     back_at::<u8, Lsb0>(words, 5, 12, value)
 }

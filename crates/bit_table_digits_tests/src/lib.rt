@@ -5,6 +5,8 @@
 #[cfg(test)]
 mod callers;
 #[cfg(test)]
+mod keeps;
+#[cfg(test)]
 mod loads;
 #[cfg(test)]
 mod moves;

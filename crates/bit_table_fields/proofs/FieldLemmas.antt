@@ -84,7 +84,8 @@ loaded_first rule g fs bits a =
     (drop-take g.width m (drop a bits) ∙ ap (take m) (drop-drop g.width a bits))
 
 -- the numbers of the fields up to field i
-numbers_loaded : (rule : Rule) (fs : List FieldShape) (i : ℕ) (f : FieldShape) (bits : List Bool) (a : ℕ) → i < length fs
+numbers_loaded : (rule : Rule) (fs : List FieldShape) (i : ℕ) (f : FieldShape) (bits : List Bool) (a : ℕ)
+    → i < length fs
     → numbers_from rule (take (i + 1) fs) (piece bits a (row_width (take (i + 1) fs)))
     ≡ numbers_from rule (take i fs) (piece bits a (row_width (take i fs)))
     ++ number_from rule (get_or fs i f) (piece bits (a + row_width (take i fs)) (get_or fs i f).width) ∷ []
@@ -103,7 +104,8 @@ numbers_loaded rule (g ∷ fs) (suc i) f bits a low =
     ∙ ap (λ xs. first ∷ xs) (numbers_loaded rule fs i f bits (a + g.width) (omega arith))
     ∙ ap (λ k. first ∷ (had ++ number_from rule (get_or fs i f) (piece bits k (get_or fs i f).width) ∷ [])) at
     ∙ ap (λ xs. xs ++ number_from rule (get_or fs i f)
-    (piece bits (a + row_width (g ∷ take i fs)) (get_or fs i f).width) ∷ []) (sym (loaded_first rule g (take i fs) bits a))
+    (piece bits (a + row_width (g ∷ take i fs)) (get_or fs i f).width) ∷ [])
+    (sym (loaded_first rule g (take i fs) bits a))
 
 -- one field more was loaded
 pub loaded_more : (rule : Rule) (fs : List FieldShape) (i a place w : ℕ) (signed : Bool) (f : FieldShape)

@@ -13,8 +13,8 @@ use bit_slice_writes::BitsMut;
 use bit_table_digits::Digits;
 use bit_table_layout::Rule;
 
-/// Makes the `width` bits from `at` on digits of a number: its `width` lowest, in the order of the rule. Every other bit
-/// stays. A number has 1 to 64 bits.
+/// Makes the `width` bits from `at` on digits of a number: its `width` lowest, in the order of the rule. Every other
+/// bit stays. A number has 1 to 64 bits.
 pub fn store_number<V: BitsMut>(view: &mut V, at: usize, rule: Rule, width: u32, value: i128)
 where
     V::Order: Digits<V::Store>,

@@ -14,8 +14,9 @@ use std::alloc::{AllocError, Global};
 // How many bits a byte has.
 const BYTE: usize = 8;
 
-/// The image bytes of a list: its bits cut by eight, the rest zero. The first bit of eight is the lowest of its byte under
-/// `low`, the highest under `high`. They depend on the list and the layout's rule alone, not on words and their order.
+/// The image bytes of a list: its bits cut by eight, the rest zero. The first bit of eight is the lowest of its byte
+/// under `low`, the highest under `high`. They depend on the list and the layout's rule alone, not on words and their
+/// order.
 pub fn write<T: BitRegister, O: BitOrder<T>>(
     alloc: Global,
     layout: &Layout,

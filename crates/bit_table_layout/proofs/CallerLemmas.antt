@@ -1,4 +1,4 @@
--- What callers know of the bits of a row, and of the words of a line.
+-- What callers know of the bits of a row, of the rows that bytes hold, and of the words of a line.
 use Rattle.std.proofs.Common.{◌≡◌, ℕ, ◌≤◌, List, [], ◌∷◌, IsTrue}
 use Rattle.std.proofs.lemmas.Bool.{and_parts, leb-true}
 use Rattle.bit_table_layout.specs.declared.layout.TheConstants.{MAX_ROW_BITS}
@@ -7,6 +7,9 @@ use Rattle.std.proofs.lemmas.Iterator.{YieldsList}
 use Rattle.bit_table_layout.specs.declared.line_words.Words.{Words as LineWords}
 use Rattle.bit_table_layout.specs.LineWordsLeft.{words_left}
 use Rattle.bit_table_layout.specs.Layouts.{LayoutShape, row_width, is_layout}
+-- the rows of any bytes are rows of the layout, as many as are asked for; those of an image have its first bits
+pub use Rattle.bit_table_layout.proofs.LoadLemmas.{are_rows-rows_in_bytes, length-rows_in_bytes}
+pub use Rattle.bit_table_layout.proofs.LoadLemmas.{table_bits-rows_in_bytes, length-is_image}
 
 -- a row has 1 to `MAX_ROW_BITS` bits
 pub row_width-bounds : (l : LayoutShape) → IsTrue (is_layout l)

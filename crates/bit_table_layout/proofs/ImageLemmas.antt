@@ -86,7 +86,7 @@ IsBytes-bytes_of rule bits k =
     ]
 
 -- a bit is in the chunk of its byte
-bit_in_chunk : (bits : List Bool) (i : ℕ)
+pub bit_in_chunk : (bits : List Bool) (i : ℕ)
     → get_or (take 8 (drop (8 * (i / 8)) bits)) (i % 8) false ≡ get_or bits i false
 bit_in_chunk bits i =
     let whole : 8 * (i / 8) + i % 8 ≡ i = omega arith in
@@ -251,7 +251,7 @@ hex_same xs ys h k e =
     (ap decode_of e ∙ decode_of-encode_lower ys k)
 
 -- the number of image bytes of so many rows
-length-image_bytes : (l : LayoutShape) (rows : List Row) → are_rows l rows ≡ true
+pub length-image_bytes : (l : LayoutShape) (rows : List Row) → are_rows l rows ≡ true
     → length (image_bytes l rows) ≡ (length rows * row_width l.fields + 7) / 8
 length-image_bytes l rows h =
     length-bytes_of l.rule (table_bits l rows) ∙ ap (λ n. (n + 7) / 8) (length-table_bits l rows h)

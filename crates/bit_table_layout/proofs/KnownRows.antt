@@ -12,6 +12,7 @@ use Rattle.bit_table_layout.specs.Fields.{FieldShape, takes}
 use Rattle.bit_table_layout.specs.Layouts.{LayoutShape, layout_of}
 use Rattle.bit_table_layout.specs.Rows.{row_bits, new_row}
 use Rattle.bit_table_layout.specs.Images.{image_bytes, image_line}
+use Rattle.bit_table_layout.specs.Loads.{rows_in_bytes, is_image}
 
 -- `name:uN`
 abbrev unsigned : List ℕ → ℕ → FieldShape
@@ -229,6 +230,39 @@ line-rows = refl
 line-none : image_line 0 [] ≡ codes "0"
 unfolding hex_on_literals digits
 line-none = refl
+
+-- the bytes be 8c are an image of two rows, and of no other count; 8d has a one past them, 2 bytes more are too many
+image-high : is_image high_u3_i4 2 (190 ∷ 140 ∷ []) ≡ true
+image-high = refl
+
+image-low : is_image low_u3_i4 2 (125 ∷ 13 ∷ []) ≡ true
+image-low = refl
+
+no_image-rest : is_image high_u3_i4 2 (190 ∷ 141 ∷ []) ≡ false
+no_image-rest = refl
+
+no_image-low_rest : is_image low_u3_i4 2 (125 ∷ 77 ∷ []) ≡ false
+no_image-low_rest = refl
+
+no_image-more_rows : is_image high_u3_i4 3 (190 ∷ 140 ∷ []) ≡ false
+no_image-more_rows = refl
+
+no_image-no_byte : is_image high_u3_i4 2 [] ≡ false
+no_image-no_byte = refl
+
+no_image-no_row : is_image high_u3_i4 0 (0 ∷ []) ≡ false
+no_image-no_row = refl
+
+image-no_row : is_image high_u3_i4 0 [] ≡ true
+image-no_row = refl
+
+rows-high : rows_in_bytes high_u3_i4 2 (190 ∷ 140 ∷ [])
+    ≡ new_row (pos 5 ∷ negsuc 0 ∷ []) ∷ new_row (pos 2 ∷ pos 3 ∷ []) ∷ []
+rows-high = refl
+
+rows-low : rows_in_bytes low_u3_i4 2 (125 ∷ 13 ∷ [])
+    ≡ new_row (pos 5 ∷ negsuc 0 ∷ []) ∷ new_row (pos 2 ∷ pos 3 ∷ []) ∷ []
+rows-low = refl
 
 -- ---- refusals
 

@@ -7,5 +7,6 @@ pub mod DigitLemmas
 pub mod ReadingLemmas
 pub mod RowLemmas
 pub mod ImageLemmas
+pub mod LoadLemmas
 mod KnownRows
 pub mod CallerLemmas

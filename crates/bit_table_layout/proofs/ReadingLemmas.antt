@@ -2,7 +2,7 @@
 use Rattle.std.proofs.Common.{◌≡◌, ◌⊎◌, inl, inr, ℕ, suc, ◌+◌, ◌-◌, ◌*◌, ◌^◌, ◌<◌, ◌≤◌, Bool, true, false}
 use Rattle.std.proofs.Common.{◌&&◌, List, [], ◌∷◌, ◌++◌, length, map, reverse}
 use Rattle.std.proofs.Common.{take, drop, ℤ, pos, negsuc, ◌-ℤ◌, refl, sym, ap}
-use Rattle.std.proofs.Common.{ap₂, ◌∙◌, arith, length-append, length-drop, length-take-le}
+use Rattle.std.proofs.Common.{ap₂, ◌∙◌, arith, length-append, length-drop, length-take, length-take-le, pow_mono}
 use Rattle.std.proofs.Common.{take_at, drop_at, take-append-drop, le-leb, lt-ltb}
 use Rattle.std.proofs.Common.{ltb-true, leb-true}
 use Rattle.std.specs.Prelude.{nat_le, int_le, int_lt}
@@ -32,7 +32,7 @@ map-reverse f (x ∷ xs) =
     ap (map f) (reverse-append (x ∷ []) xs) ∙ map_push f (reverse xs) x
     ∙ ap (λ l. l ++ f x ∷ []) (map-reverse f xs) ∙ sym (reverse-append (f x ∷ []) (map f xs))
 
-field_bits-digits : (rule : Rule) (n : ℕ) (v : ℤ) → field_bits rule n v ≡ lowest_first rule (digits v n)
+pub field_bits-digits : (rule : Rule) (n : ℕ) (v : ℤ) → field_bits rule n v ≡ lowest_first rule (digits v n)
 field_bits-digits Low n v = refl
 field_bits-digits High n v = map-reverse (has_digit v) (range_with_len 0 n)
 
@@ -157,13 +157,17 @@ field_bits-number_from rule f bits e =
     (digits_back f.signed f.width (lowest_first rule bits) (length-lowest_first rule bits ∙ e))
     ∙ lowest_first-twice rule bits
 
-pub takes-number_from : (rule : Rule) (f : FieldShape) (bits : List Bool) → is_field f ≡ true → length bits ≡ f.width
-    → takes f (number_from rule f bits) ≡ true
-takes-number_from rule f bits lawful e =
-    let size : 2 ^ length (lowest_first rule bits) ≡ 2 ^ f.width =
-    ap (λ m. 2 ^ m) (length-lowest_first rule bits ∙ e) in
+pub takes-number_from_few : (rule : Rule) (f : FieldShape) (bits : List Bool) → is_field f ≡ true
+    → length bits ≤ f.width → takes f (number_from rule f bits) ≡ true
+takes-number_from_few rule f bits lawful few =
+    let size = length-lowest_first rule bits in
+    let most : 2 ^ length (lowest_first rule bits) ≤ 2 ^ f.width = pow_mono (omega arith) in
     let below = binary-lt (lowest_first rule bits) in
     takes_back f.name f.width f.signed (binary (lowest_first rule bits)) (some_width f lawful) (omega arith)
+
+pub takes-number_from : (rule : Rule) (f : FieldShape) (bits : List Bool) → is_field f ≡ true → length bits ≡ f.width
+    → takes f (number_from rule f bits) ≡ true
+takes-number_from rule f bits lawful e = takes-number_from_few rule f bits lawful (omega arith)
 
 -- ---- the fields of a row
 
@@ -203,15 +207,14 @@ numbers_bits-numbers_from rule (f ∷ fs) bits e =
     (numbers_bits-numbers_from rule fs (drop f.width bits) others)
     ∙ take-append-drop f.width bits
 
+-- bits that are too few are read as if zeros followed
 pub take_all-numbers_from : (rule : Rule) (fs : List FieldShape) (bits : List Bool) → list_all is_field fs ≡ true
-    → length bits ≡ row_width fs → take_all fs (numbers_from rule fs bits) ≡ true
-take_all-numbers_from rule [] bits lawful e = refl
-take_all-numbers_from rule (f ∷ fs) bits lawful e =
+    → take_all fs (numbers_from rule fs bits) ≡ true
+take_all-numbers_from rule [] bits lawful = refl
+take_all-numbers_from rule (f ∷ fs) bits lawful =
     let fields = and_parts (is_field f) (list_all is_field fs) lawful in
-    let split = row_width-cons f fs in
-    let first = length-take-le f.width bits (omega arith) in
-    let others : length (drop f.width bits) ≡ row_width fs = omega (arith, length-drop f.width bits) in
+    let few : length (take f.width bits) ≤ f.width = omega (arith, length-take f.width bits) in
     and_from (takes f (number_from rule f (take f.width bits)))
     (take_all fs (numbers_from rule fs (drop f.width bits)))
-    (takes-number_from rule f (take f.width bits) fields.0 first)
-    (take_all-numbers_from rule fs (drop f.width bits) fields.1 others)
+    (takes-number_from_few rule f (take f.width bits) fields.0 few)
+    (take_all-numbers_from rule fs (drop f.width bits) fields.1)

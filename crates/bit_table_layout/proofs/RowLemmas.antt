@@ -6,7 +6,7 @@ use Rattle.std.proofs.Common.{drop_at, take-append-drop, mul-le-mul_right, leb-t
 use Rattle.std.specs.Prelude.{nat_le}
 use Rattle.std.specs.List.{list_all}
 use Rattle.std.proofs.lemmas.Bool.{and_parts, and_from}
-use Rattle.std.proofs.lemmas.List.{nil_from_length, take-append-le, drop-append-le, take_all}
+use Rattle.std.proofs.lemmas.List.{nil_from_length, take-append-le, drop-append-le, take_all, take-take, drop-take}
 use Rattle.bit_table_layout.specs.declared.layout.TheConstants.{MAX_ROW_BITS}
 use Rattle.bit_table_layout.specs.Layouts.{LayoutShape, is_layout, names_differ, row_width}
 use Rattle.bit_table_layout.specs.Fields.{is_field}
@@ -60,14 +60,27 @@ length-rows_from l zero bits = refl
 length-rows_from l (suc n) bits = ap suc (length-rows_from l n (drop (row_width l.fields) bits))
 
 pub are_rows-rows_from : (l : LayoutShape) (n : ℕ) (bits : List Bool) → is_layout l ≡ true
-    → length bits ≡ n * row_width l.fields → are_rows l (rows_from l n bits) ≡ true
-are_rows-rows_from l zero bits lawful e = refl
-are_rows-rows_from l (suc n) bits lawful e =
+    → are_rows l (rows_from l n bits) ≡ true
+are_rows-rows_from l zero bits lawful = refl
+are_rows-rows_from l (suc n) bits lawful =
     let w = row_width l.fields in
     let row = new_row (numbers_from l.rule l.fields (take w bits)) in
     and_from (is_row l row) (are_rows l (rows_from l n (drop w bits)))
-    (take_all-numbers_from l.rule l.fields (take w bits) (fields_lawful l lawful) (first_row w n bits e))
-    (are_rows-rows_from l n (drop w bits) lawful (other_rows w n bits e))
+    (take_all-numbers_from l.rule l.fields (take w bits) (fields_lawful l lawful))
+    (are_rows-rows_from l n (drop w bits) lawful)
+
+-- the bits past the rows are not read
+pub rows_from-take : (l : LayoutShape) (n : ℕ) (bits : List Bool)
+    → rows_from l n (take (n * row_width l.fields) bits) ≡ rows_from l n bits
+rows_from-take l zero bits = refl
+rows_from-take l (suc n) bits =
+    let w = row_width l.fields in
+    let size : suc n * w ≡ w + n * w = omega arith in
+    let first : take w (take (suc n * w) bits) ≡ take w bits = take-take w (suc n * w) bits (omega arith) in
+    let others : drop w (take (suc n * w) bits) ≡ take (n * w) (drop w bits) =
+    ap (λ m. drop w (take m bits)) size ∙ drop-take w (n * w) bits in
+    ap₂ (λ x xs. new_row (numbers_from l.rule l.fields x) ∷ rows_from l n xs) first others
+    ∙ ap (λ rest. new_row (numbers_from l.rule l.fields (take w bits)) ∷ rest) (rows_from-take l n (drop w bits))
 
 pub table_bits-rows_from : (l : LayoutShape) (n : ℕ) (bits : List Bool) → length bits ≡ n * row_width l.fields
     → table_bits l (rows_from l n bits) ≡ bits

@@ -6,6 +6,7 @@ pub mod Layouts
 pub mod Rows
 pub mod Images
 pub mod Readings
+pub mod Loads
 pub mod LineWordsLeft
 pub mod Steps
 pub mod CauseWords

@@ -79,3 +79,16 @@ impl Field {
         least <= value && value < limit
     }
 }
+
+/// The same field, with a name in memory of its own.
+impl Clone for Field {
+    ghost is_clone = { λ field other. other ≡ field };
+
+    fn clone(&self) -> Result<Field, AllocError> {
+        Ok(Field {
+            name: self.name.clone()?,
+            width: self.width,
+            signed: self.signed,
+        })
+    }
+}

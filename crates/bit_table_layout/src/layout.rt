@@ -164,3 +164,15 @@ fn fields_of(alloc: Global, mut words: Words) -> Result<Vec<Field>, AllocError>
     }
     Ok(fields)
 }
+
+/// The same layout, in memory of its own.
+impl Clone for Layout {
+    ghost is_clone = { λ layout other. other ≡ layout };
+
+    fn clone(&self) -> Result<Layout, AllocError> {
+        Ok(Layout {
+            rule: self.rule,
+            fields: self.fields.clone()?,
+        })
+    }
+}

@@ -1,12 +1,20 @@
--- What callers of a move of rows need: the rows of the list that it makes.
+-- What callers of a move of rows, or of one that keeps some, need: the list that it makes.
 --
--- Each row: `moved_row`, `kept_row`. The whole list: `length-rows_moved`.
+-- Rows moved: each row by `moved_row`, `kept_row`; the whole list by `length-rows_moved`.
+-- Rows kept: `length-kept`, `length-rows_kept`, and the kept rows alone by `front_kept`.
 use Rattle.std.proofs.Common.{◌≡◌, ◌⊎◌, inl, inr, ℕ, ◌+◌, ◌-◌, ◌*◌, ◌<◌, ◌≤◌, Bool, false, List, length, get_or, sym}
 use Rattle.std.proofs.Common.{ap, ◌∙◌, arith, add-mul, mul-le-mul_right}
+use Rattle.std.proofs.Common.{drop, not, take}
+use Rattle.std.proofs.Math.Seq.{take-append_seam}
 use Rattle.std.proofs.lemmas.List.{ext_get_or}
+use Rattle.std.proofs.lemmas.List.Sums.{count_by-le-length}
+use Rattle.std.specs.List.{count_by}
 use Rattle.bit_addressing.proofs.MemoryLemmas.{length-piece, get_or-piece, length-with_piece}
 use Rattle.bit_addressing.proofs.MemoryLemmas.{with_piece_below, with_piece_inside, with_piece_above}
+use Rattle.bit_addressing.specs.Memory.{with_piece}
 use Rattle.bit_table_moves.specs.RowMoves.{row_at, rows_between, rows_moved}
+use Rattle.bit_table_moves.specs.RowsKept.{kept, rows_kept}
+use Rattle.bit_table_moves.proofs.KeptLemmas.{length-joined, length-rows_left}
 use Rattle.bit_table_moves.proofs.RowLemmas.{rows_join, row_end}
 
 module _ (w p q n : ℕ) (bits : List Bool) (order : p ≤ n) (rows_within : n * w ≤ length bits)
@@ -69,3 +77,23 @@ module _ (w p q n : ℕ) (bits : List Bool) (order : p ≤ n) (rows_within : n *
             (omega (arith, length-between))
       ]
       ∙ sym (get_or-piece bits (k * w) w i false small))
+
+module _ (w : ℕ) (off bits : List Bool) (rows_within : length off * w ≤ length bits) where
+  -- as many bits as the kept rows have
+  pub length-kept : length (kept w off bits) ≡ count_by not off * w
+  length-kept =
+      length-joined w bits off (length off) rows_within ∙ ap (λ m. m * w) (length-rows_left off)
+
+  fewer : count_by not off * w ≤ length off * w
+  fewer = mul-le-mul_right w (omega (arith, count_by-le-length not off))
+
+  -- as many bits as before
+  pub length-rows_kept : length (rows_kept w off bits) ≡ length bits
+  length-rows_kept = length-with_piece bits 0 (kept w off bits) (omega (arith, length-kept, fewer))
+
+  -- they are the first of the list
+  pub front_kept : take (count_by not off * w) (rows_kept w off bits) ≡ kept w off bits
+  unfolding with_piece
+  front_kept =
+      ap (λ m. take m (rows_kept w off bits)) (sym length-kept)
+      ∙ take-append_seam (kept w off bits) (drop (0 + length (kept w off bits)) bits)

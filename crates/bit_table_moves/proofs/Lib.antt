@@ -1,3 +1,6 @@
 pub mod RowLemmas
+pub mod KeptLemmas
+pub mod KeepLemmas
+pub mod KeepRowLemmas
 pub mod CallerLemmas
 mod KnownRows

@@ -1,5 +1,6 @@
 -- Rows of w bits each that lie end to end: where they lie, and what a move of their bits makes of each and of the list.
-use Rattle.std.proofs.Common.{◌≡◌, ℕ, ◌+◌, ◌-◌, ◌*◌, ◌<◌, ◌≤◌, List, length, sym, ap, ◌∙◌, arith, add-mul, mul-le-mul_right}
+use Rattle.std.proofs.Common.{◌≡◌, ℕ, ◌+◌, ◌-◌, ◌*◌, ◌<◌, ◌≤◌, List, length, sym, ap, ◌∙◌, arith}
+use Rattle.std.proofs.Common.{add-mul, mul-le-mul_right}
 use Rattle.bit_addressing.specs.Memory.{Reading, entry, memory, piece}
 use Rattle.bit_addressing.specs.Moves.{Moves}
 use Rattle.bit_addressing.proofs.WindowLemmas.{length-window, window_bit, window_is, window_copied}

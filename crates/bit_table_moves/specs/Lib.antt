@@ -1,5 +1,7 @@
 pub mod RowMoves
--- the words of moves, sweeps, memories, orders and registers
+pub mod RowsKept
+pub mod KeepSteps
+-- the words of views, moves, sweeps, memories, orders and registers
 pub use Rattle.bit_addressing.specs.BitIdx
 pub use Rattle.bit_addressing.specs.BitOrder
 pub use Rattle.bit_addressing.specs.BitRegister
@@ -8,3 +10,4 @@ pub use Rattle.bit_addressing.specs.Moves
 pub use Rattle.bit_addressing.specs.Straight
 pub use Rattle.bit_addressing.specs.Sweep
 pub use Rattle.bit_addressing.specs.Ways
+pub use Rattle.bit_slice_views.specs.View

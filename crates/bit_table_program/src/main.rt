@@ -1,5 +1,5 @@
-//! The program `bit-table`: it runs the script on standard input and writes the answers to standard output. Its rows lie
-//! in words of 64 bits, the first bit the lowest.
+//! The program `bit-table`: it runs the script on standard input and writes the answers to standard output. Its rows
+//! lie in words of 64 bits, the first bit the lowest.
 #![tactic(auto)]
 
 ghost use Rattle.std.specs.Prelude.{◌≡◌, OnOk, OnErr, true, false};

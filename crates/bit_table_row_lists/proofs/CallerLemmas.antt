@@ -39,7 +39,8 @@ pub row_stored : (l : LayoutShape) (bits : List Bool) (vs : List ℤ) → takes_
     ≡ numbers_bits l.rule l.fields vs
 unfolding piece
 row_stored l bits vs fits room =
-    front_written bits (numbers_bits l.rule l.fields vs) (row_width l.fields) (length-numbers_bits l.rule l.fields vs fits)
+    front_written bits (numbers_bits l.rule l.fields vs) (row_width l.fields)
+    (length-numbers_bits l.rule l.fields vs fits)
     room
 
 module _ (l : LayoutShape) (n : ℕ) (bits : List Bool) (all : length bits ≡ n * row_width l.fields) where
@@ -112,7 +113,8 @@ module _ (l : LayoutShape) (n : ℕ) (bits : List Bool) (all : length bits ≡ n
       → slice_get l.fields f ≡ Some field → takes field v ≡ true
       → rows_from l n (with_piece bits (p * w + row_width (take f l.fields)) (field_bits l.rule field.width v))
       ≡ take p rows
-      ++ (map (λ (row : Row). record row { numbers = set row.numbers f v }) (slice_range rows p (p + 1)) ++ drop (p + 1) rows)
+      ++ (map (λ (row : Row). record row { numbers = set row.numbers f v }) (slice_range rows p (p + 1))
+      ++ drop (p + 1) rows)
   unfolding piece with_piece
   rows_after_set p f field v lawful low is fits =
       let row = piece bits (p * w) w in

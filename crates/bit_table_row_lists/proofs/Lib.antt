@@ -1,2 +1,3 @@
 pub mod CallerLemmas
 mod NumberLemmas
+pub mod KeptLemmas

@@ -17,7 +17,8 @@ use Rattle.bit_table_layout.proofs.ReadingLemmas.{length-field_bits, number_from
 -- ---- lists
 
 -- what is written behind the first w bits, and what is written first
-front_kept : (xs ys : List Bool) (w a : ℕ) → w + a + length ys ≤ length xs → take w (with_piece xs (w + a) ys) ≡ take w xs
+front_kept : (xs ys : List Bool) (w a : ℕ) → w + a + length ys ≤ length xs
+    → take w (with_piece xs (w + a) ys) ≡ take w xs
 unfolding with_piece
 front_kept xs ys w a fits = same_lists _ _ (grind (arith, places)) (λ k d h. grind (arith, places))
 

@@ -1,8 +1,9 @@
--- What an edit of the bits makes of the rows that are cut out of them: the same edit, by the rows' numbers. Each fact is
--- of n rows of w bits each, of any kind.
+-- What an edit of the bits makes of the rows that are cut out of them: the same edit, by the rows' numbers. Each fact
+-- is of n rows of w bits each, of any kind.
 --
--- Parts: `front_rows`, `rows_behind`, `rows_between`, `row_alone`. Edits: `rows_inserted`, `rows_deleted`, `rows_repeated`,
--- `rows_written`, `rows_copied`, `rows_exchanged` and `exchanged_one`, `rows_turned`. Rows of one bit: `bits_as_rows`.
+-- Parts: `front_rows`, `rows_behind`, `rows_between`, `row_alone`. Edits: `rows_inserted`, `rows_deleted`,
+-- `rows_repeated`, `rows_written`, `rows_copied`, `rows_exchanged` and `exchanged_one`, `rows_turned`. Rows of one
+-- bit: `bits_as_rows`.
 use Rattle.std.proofs.Common.{◌≡◌, inl, inr, ℕ, ◌+◌, ◌-◌, ◌*◌, ◌<◌, ◌≤◌, Bool, List, [], ◌∷◌, ◌++◌, length, take, drop}
 use Rattle.std.proofs.Common.{get_or, set, refl, sym, ap, ap₂, ◌∙◌, length-set, get_or-set_same, get_or-set_other}
 use Rattle.std.proofs.Common.{arith, append_assoc, length-append, length-drop, length-take-le, take_at, drop_at}

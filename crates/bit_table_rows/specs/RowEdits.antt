@@ -1,5 +1,5 @@
--- Lists edited by parts. A part is named by its places: of rows of w bits each that lie end to end in a list of bits, row
--- p begins at p * w; of a list of rows, at p. So one word says what an edit makes of the bits and of the rows.
+-- Lists edited by parts. A part is named by its places: of rows of w bits each that lie end to end in a list of bits,
+-- row p begins at p * w; of a list of rows, at p. So one word says what an edit makes of the bits and of the rows.
 --
 -- More: `inserted`, `repeated`. Fewer: `deleted`. As many: `copied`, `exchanged`, `turned`.
 use Rattle.std.specs.Prelude.{ℕ, ◌≡◌, ◌+◌, ◌-◌, List, ◌++◌, take, drop, slice_range}

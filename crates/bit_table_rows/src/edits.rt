@@ -1,13 +1,15 @@
 //! Rows edited in place, in whatever writes its bits: no call takes memory, and each bit outside the list stays.
 
-ghost use Rattle.std.specs.Prelude.{◌≡◌, ◌+◌, ◌-◌, ◌*◌, ◌<◌, ◌≤◌, length};
-ghost use Rattle.bit_addressing.specs.Memory.{touched, with_piece};
+ghost use Rattle.std.specs.Prelude.{◌≡◌, ◌+◌, ◌-◌, ◌*◌, ◌<◌, ◌≤◌, count_by, length, not};
+ghost use Rattle.bit_addressing.specs.Memory.{read_by, touched, with_piece};
 ghost use Rattle.bit_addressing.specs.Moves.{changed};
+ghost use Rattle.bit_slice_views.specs.View.{view_bits};
 ghost use Rattle.bit_table_moves.specs.RowMoves.{rows_moved};
+ghost use Rattle.bit_table_moves.specs.RowsKept.{rows_kept};
 ghost use Rattle.bit_table_rows.specs.RowEdits.{copied, exchanged, turned};
 
-use crate::windows::{move_window_rows, swap_window_rows, turn_window, write_window};
-use bit_slice_views::Bits;
+use crate::windows::{keep_window_rows, move_window_rows, swap_window_rows, turn_window, write_window};
+use bit_slice_views::{BitSlice, Bits};
 use bit_slice_writes::BitsMut;
 
 /// Moves the rows from `p` up to before `n` to where row `q` stands, and on from there, and answers how many words it
@@ -32,6 +34,38 @@ pub fn move_rows_in<V: BitsMut>(view: &mut V, p: usize, q: usize, n: usize, w: u
     let place = view.first_place();
     let len = view.len();
     view.write(|words| move_window_rows::<V::Store, V::Order>(words, place, len, p, q, n, w))
+}
+
+/// Keeps those of the `n` rows whose entry in `off` is false: they come to lie in their order from the first bit of the
+/// list on. It answers how many they are, and how many words it wrote. Every bit behind the kept rows stays.
+///
+/// The list begins in the first of its words, as that of each container does, and has the rows, of `w` bits each. No
+/// word is written twice, and none that the kept rows do not touch.
+pub fn keep_rows_in<V: BitsMut>(
+    view: &mut V,
+    n: usize,
+    w: usize,
+    off: BitSlice<'_, V::Store, V::Order>,
+) -> (usize, usize)
+    requires head { V.place view.old < V.Store.BITS }
+    requires flags { length (view_bits (read_by V.Store.BitRegister V.Order.position) off) ≡ n }
+    requires rows { n * w ≤ length (V.bits view.old) }
+    ensures count { result.0 ≡ count_by not (view_bits (read_by V.Store.BitRegister V.Order.position) off.entry) }
+    ensures bits { V.bits view.new
+        ≡ rows_kept w (view_bits (read_by V.Store.BitRegister V.Order.position) off.entry) (V.bits view.old) }
+    ensures len { length (V.bits view.new) ≡ length (V.bits view.old) }
+    ensures frame { V.frame view.new ≡ V.frame view.old }
+
+    // At most the words that the kept rows touch, at least those that became other ones.
+    ensures writes { result.1 ≤ touched V.Store.BITS (V.place view.old) (result.0 * w) }
+    ensures changed { changed V.Store.number (V.words view.old) (V.words view.new) ≤ result.1 }
+{
+    let place = view.first_place();
+    let len = view.len();
+    let (flags, index, _) = off.parts();
+    view.write(|words| {
+        keep_window_rows::<V::Store, V::Order>(words, place, len, n, w, flags, index)
+    })
 }
 
 /// Writes a row over row `p` of `n` rows of `w` bits each.

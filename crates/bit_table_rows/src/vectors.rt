@@ -1,16 +1,18 @@
 //! Rows put into a vector of bits, and taken out of it.
 
-ghost use Rattle.std.specs.Prelude.{◌≡◌, ◌+◌, ◌-◌, ◌*◌, ◌<◌, ◌≤◌, length, IfOk, IsOk, OnOk, OnErr};
+ghost use Rattle.std.specs.Prelude.{◌≡◌, ◌+◌, ◌-◌, ◌*◌, ◌<◌, ◌≤◌, count_by, length, not, IfOk, IsOk, OnOk, OnErr};
 ghost use Rattle.bit_addressing.specs.Memory.{read_by, touched};
 ghost use Rattle.bit_addressing_span.specs.declared.span.TheConstants.{MAX_BITS};
 ghost use Rattle.bit_containers_vector.specs.Vector.{vec_bits, vec_head, room, HasRoomFor, IsAsBefore};
+ghost use Rattle.bit_slice_views.specs.View.{view_bits};
+ghost use Rattle.bit_table_moves.specs.RowsKept.{kept};
 ghost use Rattle.bit_table_rows.specs.RowEdits.{deleted, inserted, repeated, Opens};
 
-use crate::edits::{move_rows_in, write_row};
+use crate::edits::{keep_rows_in, move_rows_in, write_row};
 use bit_addressing::BitOrder;
 use bit_containers_vector::BitVec;
 use bit_slice_stores::BitStore;
-use bit_slice_views::Bits;
+use bit_slice_views::{BitSlice, Bits};
 use std::alloc::AllocError;
 
 /// Puts a row in before row `p` of `n` rows of `w` bits each: the rows from there on move one row towards the end. `p`
@@ -77,8 +79,8 @@ fn open_row<T: BitStore, O: BitOrder<T>>(
     Ok(move_rows_in(vector, p, p + 1, n, w))
 }
 
-/// Takes the rows from `p` up to before `q` out of `n` rows of `w` bits each: the rows from `q` on move to where row `p`
-/// stands. It answers how many words that move wrote. No memory is taken, and none is given back.
+/// Takes the rows from `p` up to before `q` out of `n` rows of `w` bits each: the rows from `q` on move to where row
+/// `p` stands. It answers how many words that move wrote. No memory is taken, and none is given back.
 #[tactic(auto, using(crate::proofs::PlaceLemmas::row_places))]
 pub fn delete_rows<T: BitStore, O: BitOrder<T>>(
     vector: &mut BitVec<T, O>,
@@ -104,6 +106,36 @@ pub fn delete_rows<T: BitStore, O: BitOrder<T>>(
     let left = vector.len() - (q - p) * w;
     vector.truncate(left);
     writes
+}
+
+/// Takes those of the `n` rows out whose entry in `off` is true: the others move together, in their order. It answers how
+/// many rows stay, and how many words their move wrote. No memory is taken, and none is given back.
+#[tactic(auto, using(crate::proofs::PlaceLemmas::row_places))]
+pub fn keep_rows_of<T: BitStore, O: BitOrder<T>>(
+    vector: &mut BitVec<T, O>,
+    n: usize,
+    w: usize,
+    off: BitSlice<'_, T, O>,
+) -> (usize, usize)
+    requires rows { length (vec_bits (read_by T.BitRegister O.position) vector.old) ≡ n * w }
+    requires flags { length (view_bits (read_by T.BitRegister O.position) off) ≡ n }
+    ensures count { result.0 ≡ count_by not (view_bits (read_by T.BitRegister O.position) off.entry) }
+    ensures bits { vec_bits (read_by T.BitRegister O.position) vector.new
+        ≡ kept w (view_bits (read_by T.BitRegister O.position) off.entry)
+        (vec_bits (read_by T.BitRegister O.position) vector.old) }
+    ensures len { length (vec_bits (read_by T.BitRegister O.position) vector.new) ≡ result.0 * w }
+    ensures head { vec_head vector.new ≡ vec_head vector.old }
+    ensures room { room (read_by T.BitRegister O.position) vector.new
+        ≡ room (read_by T.BitRegister O.position) vector.old }
+
+    // At most the words that the rows touch at their new places.
+    ensures writes { result.1 ≤ touched T.BITS (vec_head vector.old) (result.0 * w) }
+{
+    // As many bits as a `usize` counts, and so are those of the rows that stay.
+    let _bits = vector.len();
+    let (left, writes) = keep_rows_in(vector, n, w, off);
+    vector.truncate(left * w);
+    (left, writes)
 }
 
 /// Appends the rows from `p` up to before `q` of `n` rows of `w` bits each.

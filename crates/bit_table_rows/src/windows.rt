@@ -1,15 +1,18 @@
 //! Changes of a window of words: by its list, and by what stays beside it.
 
-ghost use Rattle.std.specs.Prelude.{◌≡◌, ◌+◌, ◌-◌, ◌*◌, ◌^◌, ◌<◌, ◌≤◌, length};
+ghost use Rattle.std.specs.Prelude.{◌≡◌, ◌+◌, ◌-◌, ◌*◌, ◌^◌, ◌<◌, ◌≤◌, count_by, length, not};
 ghost use Rattle.bit_addressing.specs.Memory.{memory, piece, read_by, touched, with_piece};
 ghost use Rattle.bit_addressing.specs.Moves.{changed};
+ghost use Rattle.bit_addressing_span.specs.declared.span.TheConstants.{MAX_BITS};
 ghost use Rattle.bit_slice_writes.specs.Frame.{KeepsBeside};
 ghost use Rattle.bit_table_moves.specs.RowMoves.{rows_moved};
+ghost use Rattle.bit_table_moves.specs.RowsKept.{rows_kept};
 ghost use Rattle.bit_table_rows.specs.RowEdits.{exchanged, turned};
 
-use bit_addressing::{BitIdx, BitOrder, BitRegister, Sweep, copy_between, swap_within, way_for};
+use bit_addressing::{BitIdx, BitOrder, BitRegister, Sweep, Way, copy_between, swap_within, way_for};
 use bit_slice_changes::rotate_left_in;
-use bit_table_moves::move_rows;
+use bit_slice_views::BitSlice;
+use bit_table_moves::{keep_rows, move_rows};
 
 // Moves rows of a window that begins in the first word, by one sweep, and answers how many words it wrote.
 pub(crate) fn move_window_rows<R: BitRegister, O: BitOrder<R>>(
@@ -37,6 +40,39 @@ pub(crate) fn move_window_rows<R: BitRegister, O: BitOrder<R>>(
     let head = BitIdx::new_unchecked(place as u8);
     move_rows::<R, O>(&mut sweep, head, p, q, n, w);
     sweep.writes()
+}
+
+// Keeps rows of a window that begins in the first word, by one sweep, and answers how many, and how many words it wrote.
+// Their flags are `n` bits of other words, from an index of the first of these on.
+pub(crate) fn keep_window_rows<R: BitRegister, O: BitOrder<R>>(
+    words: &mut [R],
+    place: usize,
+    len: usize,
+    n: usize,
+    w: usize,
+    flags: &[R],
+    index: u8,
+) -> (usize, usize)
+    requires head { place < R.BITS }
+    requires within { place + len ≤ length words.old * R.BITS }
+    requires ends { place + len < 2 ^ 64 }
+    requires rows { n * w ≤ len }
+    requires flags_begin { index < R.BITS }
+    requires flags_short { n ≤ MAX_BITS }
+    requires flags_within { index + n ≤ length flags.now * R.BITS }
+    ensures count { result.0 ≡ count_by not (piece (memory (read_by R.BitRegister O.position) flags.now) index n) }
+    ensures list { piece (memory (read_by R.BitRegister O.position) words.new) place len
+        ≡ rows_kept w (piece (memory (read_by R.BitRegister O.position) flags.now) index n)
+        (piece (memory (read_by R.BitRegister O.position) words.old) place len) }
+    ensures beside { KeepsBeside (read_by R.BitRegister O.position) words.old words.new place len }
+    ensures writes { result.1 ≤ touched R.BITS place (result.0 * w) }
+    ensures changed { changed R.number words.old words.new ≤ result.1 }
+{
+    let mut sweep = Sweep::new(words, Way::Up);
+    let head = BitIdx::new_unchecked(place as u8);
+    let off = BitSlice::<R, O>::from_parts(flags, index, n);
+    let kept = keep_rows::<R, O>(&mut sweep, head, n, w, off);
+    (kept, sweep.writes())
 }
 
 // Writes bits of another memory over those of a window from `at` on.

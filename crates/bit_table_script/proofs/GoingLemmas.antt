@@ -6,7 +6,7 @@ use Rattle.std.proofs.KnownBytes.{Appends-nil, Appends-trans, Appends-kept}
 use Rattle.bit_table_script.specs.Lines.{IsBeginning, lines, whole_lines}
 use Rattle.bit_table_script.specs.Streams.{AppendsPart}
 use Rattle.bit_table_script.specs.Runs.{AppendsFirstLines}
-use Rattle.bit_table_script.specs.Going.{Going}
+use Rattle.bit_table_script.specs.Going.{Going, HasHeld}
 use Rattle.bit_table_script.proofs.LineLemmas.{lines-end, lines-more, whole_lines-end}
 use Rattle.bit_table_script.proofs.LineLemmas.{whole_lines-more, HasLast, GrowsBy}
 
@@ -15,26 +15,29 @@ abbrev Answers : Type 0
 Answers = List (List ℕ) → List ℕ
 
 pub going_start : (answers : Answers) (start : Option (List ℕ)) → answers [] ≡ []
-    → Going answers answers start start [] []
+    → Going answers answers start start [] [] []
 going_start answers start e = record {
   cut = refl;
   follows = λ rest. sym (ap (λ l. l ++ answers rest) e);
-  answered = subst (Appends start start) (sym e) (Appends-nil start);
+  gone = [];
+  answered = e;
+  went = Appends-nil start;
 }
 
 -- the answers to the whole lines once a line end has come
-answers-end : (answers next : Answers) (start now : Option (List ℕ)) (text line : List ℕ)
-    → Going answers next start now text line
+answers-end : (answers next : Answers) (start now : Option (List ℕ)) (held text line : List ℕ)
+    → Going answers next start now held text line
     → answers (whole_lines (text ++ 10 ∷ [])) ≡ answers (whole_lines text) ++ next (line ∷ [])
-answers-end answers next start now text line h = ap answers (whole_lines-end text line h.cut) ∙ h.follows (line ∷ [])
+answers-end answers next start now held text line h =
+    ap answers (whole_lines-end text line h.cut) ∙ h.follows (line ∷ [])
 
-pub going_end : (answers next after : Answers) (start now new : Option (List ℕ)) (text line : List ℕ)
-    → Going answers next start now text line → Appends now new (next (line ∷ []))
+pub going_end : (answers next after : Answers) (start now : Option (List ℕ)) (held text line more : List ℕ)
+    → Going answers next start now held text line → more ≡ held ++ next (line ∷ [])
     → ((rest : List (List ℕ)) → next (line ∷ rest) ≡ next (line ∷ []) ++ after rest)
-    → Going answers after start new (text ++ 10 ∷ []) []
-going_end answers next after start now new text line h a f =
+    → Going answers after start now more (text ++ 10 ∷ []) []
+going_end answers next after start now held text line more h a f =
     let whole : whole_lines (text ++ 10 ∷ []) ≡ whole_lines text ++ line ∷ [] = whole_lines-end text line h.cut in
-    let told = answers-end answers next start now text line h in
+    let told = answers-end answers next start now held text line h in
     record {
       cut = lines-end text ∙ ap (λ l. l ++ [] ∷ []) (h.cut ∙ sym whole);
       follows = λ rest.
@@ -44,33 +47,57 @@ going_end answers next after start now new text line h a f =
           ∙ ap (λ l. answers (whole_lines text) ++ l) (f rest)
           ∙ sym (append_assoc (answers (whole_lines text)) (next (line ∷ [])) (after rest))
           ∙ ap (λ l. l ++ after rest) (sym told);
-      answered = subst (Appends start new) (sym told)
-          (Appends-trans start now new (answers (whole_lines text)) (next (line ∷ [])) h.answered a);
+      gone = h.gone;
+      answered = told ∙ ap (λ l. l ++ next (line ∷ [])) h.answered ∙ append_assoc h.gone held (next (line ∷ []))
+          ∙ ap (λ l. h.gone ++ l) (sym a);
+      went = h.went;
     }
 
-pub going_more : (answers next : Answers) (start now : Option (List ℕ)) (text line : List ℕ) (b : ℕ)
+pub going_more : (answers next : Answers) (start now : Option (List ℕ)) (held text line : List ℕ) (b : ℕ)
     → (b == 10) ≡ false
-    → Going answers next start now text line → Going answers next start now (text ++ b ∷ []) (line ++ b ∷ [])
-going_more answers next start now text line b e h =
+    → Going answers next start now held text line
+    → Going answers next start now held (text ++ b ∷ []) (line ++ b ∷ [])
+going_more answers next start now held text line b e h =
     let whole : whole_lines (text ++ b ∷ []) ≡ whole_lines text = whole_lines-more text line b e h.cut in
     record {
       cut = lines-more text b (whole_lines text) line e h.cut ∙ ap (λ l. l ++ (line ++ b ∷ []) ∷ []) (sym whole);
       follows = λ rest. rw whole (h.follows rest);
-      answered = subst (Appends start now) (sym (ap answers whole)) h.answered;
+      gone = h.gone;
+      answered = ap answers whole ∙ h.answered;
+      went = h.went;
     }
+
+-- the answers that were held went out
+pub going_sent : (answers next : Answers) (start now new : Option (List ℕ)) (held none text line : List ℕ)
+    → Going answers next start now held text line → Appends now new held → none ≡ []
+    → Going answers next start new none text line
+going_sent answers next start now new held none text line h a e = record {
+  cut = h.cut;
+  follows = h.follows;
+  gone = h.gone ++ held;
+  answered = h.answered ∙ sym (append-nil (h.gone ++ held)) ∙ ap (λ l. (h.gone ++ held) ++ l) (sym e);
+  went = Appends-trans start now new h.gone held h.went a;
+}
+
+-- where none are held, all went out
+pub all_went : (answers next : Answers) (start now : Option (List ℕ)) (text line : List ℕ)
+    → Going answers next start now [] text line → Appends start now (answers (whole_lines text))
+all_went answers next start now text line h =
+    subst (Appends start now) (sym (h.answered ∙ append-nil h.gone)) h.went
 
 -- all the answers: those to the whole lines and the one to the last
 answers-last : (answers next : Answers) (start now : Option (List ℕ)) (text line : List ℕ)
-    → Going answers next start now text line
+    → Going answers next start now [] text line
     → answers (lines text) ≡ answers (whole_lines text) ++ next (line ∷ [])
 answers-last answers next start now text line h = ap answers h.cut ∙ h.follows (line ∷ [])
 
 pub going_last : (answers next : Answers) (start now new : Option (List ℕ)) (text line : List ℕ)
-    → Going answers next start now text line → Appends now new (next (line ∷ []))
+    → Going answers next start now [] text line → Appends now new (next (line ∷ []))
     → Appends start new (answers (lines text))
 going_last answers next start now new text line h a =
     subst (Appends start new) (sym (answers-last answers next start now text line h))
-    (Appends-trans start now new (answers (whole_lines text)) (next (line ∷ [])) h.answered a)
+    (Appends-trans start now new (answers (whole_lines text)) (next (line ∷ []))
+    (all_went answers next start now text line h) a)
 
 -- ---- faults of the writer
 
@@ -88,18 +115,18 @@ part_behind start now new front back whole a p e = record {
 }
 
 pub cut_at_last : (answers next : Answers) (start now new : Option (List ℕ)) (text line : List ℕ)
-    → Going answers next start now text line → AppendsPart now new (next (line ∷ []))
+    → Going answers next start now [] text line → AppendsPart now new (next (line ∷ []))
     → AppendsPart start new (answers (lines text))
 cut_at_last answers next start now new text line h p =
-    part_behind start now new (answers (whole_lines text)) (next (line ∷ [])) (answers (lines text)) h.answered p
-    (answers-last answers next start now text line h)
+    part_behind start now new (answers (whole_lines text)) (next (line ∷ [])) (answers (lines text))
+    (all_went answers next start now text line h) p (answers-last answers next start now text line h)
 
-pub cut_at_end : (answers next : Answers) (start now new : Option (List ℕ)) (text line : List ℕ)
-    → Going answers next start now text line → AppendsPart now new (next (line ∷ []))
-    → AppendsPart start new (answers (whole_lines (text ++ 10 ∷ [])))
-cut_at_end answers next start now new text line h p =
-    part_behind start now new (answers (whole_lines text)) (next (line ∷ [])) (answers (whole_lines (text ++ 10 ∷ [])))
-    h.answered p (answers-end answers next start now text line h)
+-- the answers that were held went out in part
+pub cut_in_held : (answers next : Answers) (start now new : Option (List ℕ)) (held text line : List ℕ)
+    → Going answers next start now held text line → AppendsPart now new held
+    → AppendsPart start new (answers (whole_lines text))
+cut_in_held answers next start now new held text line h p =
+    part_behind start now new h.gone held (answers (whole_lines text)) h.went p h.answered
 
 -- what is cut short of some answers is cut short of those answers and more
 longer_part : (start new : Option (List ℕ)) (whole longer : List ℕ) → AppendsPart start new whole
@@ -168,11 +195,35 @@ cut_before answers start new text more f p =
 
 -- ---- want of memory
 
-pub stopped : (answers next : Answers) (start now new : Option (List ℕ)) (text more line : List ℕ)
-    → Going answers next start now text line → Keeps now new → AppendsFirstLines answers start new (text ++ more)
-stopped answers next start now new text more line h k = record {
+pub stopped : (answers next : Answers) (start now : Option (List ℕ)) (held text more line : List ℕ)
+    → Going answers next start now held text line → HasHeld answers start now held (text ++ more)
+stopped answers next start now held text more line h =
+    record { done = text; rest = more; joined = refl; gone = h.gone; answered = h.answered; went = h.went }
+
+pub stopped_last : (answers next : Answers) (start now new : Option (List ℕ)) (text more line : List ℕ)
+    → Going answers next start now [] text line → Keeps now new → AppendsFirstLines answers start new (text ++ more)
+stopped_last answers next start now new text more line h k = record {
   done = text;
   rest = more;
   joined = refl;
-  appended = Appends-kept start now new (answers (whole_lines text)) h.answered k;
+  appended =
+      Appends-kept start now new (answers (whole_lines text)) (all_went answers next start now text line h) k;
 }
+
+pub held_sent : (answers : Answers) (start now new : Option (List ℕ)) (held text : List ℕ)
+    → HasHeld answers start now held text → Appends now new held → AppendsFirstLines answers start new text
+held_sent answers start now new held text h a = record {
+  done = h.done;
+  rest = h.rest;
+  joined = h.joined;
+  appended = subst (Appends start new) (sym h.answered) (Appends-trans start now new h.gone held h.went a);
+}
+
+pub held_cut : (answers : Answers) (start now new : Option (List ℕ)) (held text : List ℕ)
+    → HasHeld answers start now held text → AppendsPart now new held
+    → ((front back : List (List ℕ)) → IsBeginning (answers front) (answers (front ++ back)))
+    → AppendsPart start new (answers (whole_lines text))
+held_cut answers start now new held text h p f =
+    subst (λ l. AppendsPart start new (answers (whole_lines l))) (sym h.joined)
+    (cut_before answers start new h.done h.rest f
+    (part_behind start now new h.gone held (answers (whole_lines h.done)) h.went p h.answered))

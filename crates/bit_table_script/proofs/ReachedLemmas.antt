@@ -8,7 +8,7 @@ use Rattle.bit_table_script.specs.Streams.{AppendsPart}
 use Rattle.bit_table_script.specs.Runs.{AppendsFirstLines, RanToEnd, StoppedByRead, StoppedByWrite}
 use Rattle.bit_table_script.specs.Runs.{StoppedByMemory}
 use Rattle.bit_table_script.specs.Going.{Going}
-use Rattle.bit_table_script.proofs.GoingLemmas.{going_start, going_last, cut_at_last, stopped}
+use Rattle.bit_table_script.proofs.GoingLemmas.{going_start, going_last, cut_at_last, all_went, stopped_last}
 
 abbrev Answers : Type 0
 Answers = List (List ℕ) → List ℕ
@@ -17,7 +17,7 @@ Answers = List (List ℕ) → List ℕ
 pub record Reached (answers next : Answers) (given left start now : Option (List ℕ)) (line : List ℕ) : Type 0 where
   pub text : List ℕ
   pub consumed : Consumes given left text
-  pub going : Going answers next start now text line
+  pub going : Going answers next start now [] text line
 
 pub reached_start : (answers : Answers) (given start : Option (List ℕ)) → answers [] ≡ []
     → Reached answers answers given given start start []
@@ -27,8 +27,8 @@ reached_start answers given start e =
 pub reached_more : (answers next after : Answers) (given left rest start now new : Option (List ℕ))
     (piece line longer : List ℕ)
     → Reached answers next given left start now line → Consumes left rest piece
-    → ((answers : Answers) (start : Option (List ℕ)) (text : List ℕ) → Going answers next start now text line
-    → Going answers after start new (text ++ piece) longer)
+    → ((answers : Answers) (start : Option (List ℕ)) (text : List ℕ) → Going answers next start now [] text line
+    → Going answers after start new [] (text ++ piece) longer)
     → Reached answers after given rest start new longer
 reached_more answers next after given left rest start now new piece line longer h c f = record {
   text = h.text ++ piece;
@@ -59,13 +59,13 @@ pub reached_read : (answers next : Answers) (given left rest start now : Option 
 reached_read answers next given left rest start now line h k = record {
   text = h.text;
   consumed = Consumes-kept given left rest h.text h.consumed k;
-  answered = h.going.answered;
+  answered = all_went answers next start now h.text line h.going;
 }
 
 pub reached_write : (answers next : Answers) (given left rest start now new : Option (List ℕ)) (piece line : List ℕ)
     → Reached answers next given left start now line → Consumes left rest piece
     → ((front back : List (List ℕ)) → IsBeginning (answers front) (answers (front ++ back)))
-    → ((answers : Answers) (start : Option (List ℕ)) (text : List ℕ) → Going answers next start now text line
+    → ((answers : Answers) (start : Option (List ℕ)) (text : List ℕ) → Going answers next start now [] text line
     → ((front back : List (List ℕ)) → IsBeginning (answers front) (answers (front ++ back)))
     → AppendsPart start new (answers (whole_lines (text ++ piece))))
     → StoppedByWrite answers given rest start new
@@ -87,7 +87,7 @@ reached_write_last answers next given left rest start now new none line h c e z 
 
 pub reached_memory : (answers next : Answers) (given left rest start now new : Option (List ℕ)) (piece line : List ℕ)
     → Reached answers next given left start now line → Consumes left rest piece
-    → ((answers : Answers) (start : Option (List ℕ)) (text : List ℕ) → Going answers next start now text line
+    → ((answers : Answers) (start : Option (List ℕ)) (text : List ℕ) → Going answers next start now [] text line
     → AppendsFirstLines answers start new (text ++ piece))
     → StoppedByMemory answers given rest start new
 reached_memory answers next given left rest start now new piece line h c f = record {
@@ -102,7 +102,7 @@ pub reached_memory_last : (answers next : Answers) (given left rest start now ne
     → StoppedByMemory answers given rest start new
 reached_memory_last answers next given left rest start now new none line h c k =
     reached_memory answers next given left rest start now new none line h c
-    (λ answers start text g. stopped answers next start now new text none line g k)
+    (λ answers start text g. stopped_last answers next start now new text none line g k)
 
 -- ---- how many bytes so many reads gave
 

@@ -1,1 +1,2 @@
+pub mod LetteredLemmas
 pub mod TableLemmas

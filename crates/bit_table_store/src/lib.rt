@@ -1,6 +1,7 @@
 //! A table over any storage word and any lawful order of bits.
 #![tactic(auto)]
 
+mod kept;
 mod table;
 
 pub use table::Table;

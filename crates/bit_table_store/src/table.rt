@@ -1,7 +1,7 @@
 //! A table: rows of a layout, packed bit by bit in words of any width and order.
 
-ghost use Rattle.std.specs.Prelude.{◌≡◌, ◌*◌, ◌≤◌, Bool, false, true, length, replicate, take, None, Some};
-ghost use Rattle.std.specs.Prelude.{IfOk, IsOk, OnOk, OnErr, IsOkUnless, MatchOption};
+ghost use Rattle.std.specs.Prelude.{◌≡◌, ◌*◌, ◌≤◌, ◌∷◌, Bool, false, true, length, replicate, take, None, Some};
+ghost use Rattle.std.specs.Prelude.{is_some, IfOk, IsOk, OnOk, OnErr, IsOkUnless, IsTrue, MatchOption};
 ghost use Rattle.bit_addressing.specs.Memory.{read_by};
 ghost use Rattle.bit_containers_array.specs.Array.{array_bits};
 ghost use Rattle.bit_slice_views.specs.View.{view_bits};
@@ -15,6 +15,7 @@ ghost use Rattle.bit_table_commands.specs.declared.reply.Reply.TheVariants.{Done
 ghost use Rattle.bit_table_commands.specs.Tables.{new_table, IsTable};
 ghost use Rattle.bit_table_store.specs.View.{may_want_memory};
 
+use super::kept::Kept;
 use bit_addressing::BitRegister;
 use bit_containers_array::BitArray;
 use bit_containers_vector::BitVec;
@@ -26,6 +27,7 @@ use bit_table_digits::Digits;
 use bit_table_fields::{bits_before, load_row, store_number, store_row};
 use bit_table_image::write;
 use bit_table_layout::{Fault, Layout};
+use bit_table_letters::{LETTERS, Letters, RowEdit};
 use bit_table_rows::{copy_rows, delete_rows, dup_rows, insert_row, rotate_rows, swap_rows};
 use std::alloc::{AllocError, Global};
 use std::marker::Model;
@@ -41,31 +43,41 @@ pub struct Table<A: BitViewSized, O: WordPaths<A::Store> + Digits<A::Store>> {
     layout: Layout,
     rows: usize,
     bits: BitVec<A::Store, O>,
-    moved: usize,
+    letters: Letters<A::Store, O>,
+    kept: Option<Kept<A, O>>,
+    moved: [usize; 27],
 }
 
 impl<A: BitViewSized, O: WordPaths<A::Store> + Digits<A::Store>> Model for Table<A, O> {
-    ghost use Rattle.std.specs.Prelude.{◌≡◌, ◌*◌, ◌≤◌, length, true};
+    ghost use Rattle.std.specs.Prelude.{◌≡◌, ◌*◌, ◌≤◌, length, true, IfSome};
     ghost use Rattle.std.specs.Coded.{codes};
     ghost use Rattle.bit_addressing.specs.Memory.{read_by};
     ghost use Rattle.bit_addressing_span.specs.declared.span.TheConstants.{MAX_BITS};
     ghost use Rattle.bit_containers_vector.specs.Vector.{vec_bits};
     ghost use Rattle.bit_table_layout.specs.Layouts.{is_layout, row_width};
     ghost use Rattle.bit_table_commands.specs.Tables.{letters_code};
-    ghost use Rattle.bit_table_store.specs.View.{table_from, moved_rows, TableView};
+    ghost use Rattle.bit_table_store.specs.View.{table_from, AreStored, StoredRows, TableView};
 
     ghost Value = { TableView };
 
     ghost coded = { Prim.hlevel (codes, letters_code) };
 
     ghost view = { λ t. record {
-      shape = table_from t.layout t.rows (vec_bits (read_by A.Store.BitRegister O.position) t.bits);
-      moved = moved_rows t.moved;
+      shape = table_from t.layout (record {
+        rows = t.rows;
+        bits = vec_bits (read_by A.Store.BitRegister O.position) t.bits;
+        letters = t.letters;
+      }) t.kept;
+      moved = t.moved;
     } };
 
     ghost invariant = { λ t. (is_layout t.layout ≡ true)
-        × (length (vec_bits (read_by A.Store.BitRegister O.position) t.bits) ≡ t.rows * row_width t.layout.fields)
-        × (t.rows * row_width t.layout.fields ≤ MAX_BITS)
+        × AreStored t.layout (record {
+          rows = t.rows;
+          bits = vec_bits (read_by A.Store.BitRegister O.position) t.bits;
+          letters = t.letters;
+        })
+        × IfSome t.kept (AreStored t.layout)
         × (256 ≤ A.COUNT * A.Store.BITS) };
 }
 
@@ -84,7 +96,9 @@ impl<A: BitViewSized, O: WordPaths<A::Store> + Digits<A::Store>> Table<A, O> {
             layout,
             rows: 0,
             bits: BitVec::new(alloc),
-            moved: 0,
+            letters: Letters::new(alloc),
+            kept: None,
+            moved: [0; 27],
         }
     }
 
@@ -117,9 +131,37 @@ impl<A: BitViewSized, O: WordPaths<A::Store> + Digits<A::Store>> Table<A, O> {
     pub fn moved(&self) -> [usize; 27]
         ensures { result ≡ self.now.moved }
     {
-        let mut moved = [0; 27];
-        moved[0] = self.moved;
-        moved
+        self.moved
+    }
+
+    // ---- what is kept
+
+    /// Keeps the rows in place of those that were kept. Where no memory is found, the older ones stay.
+    pub fn keep(&mut self) -> Result<(), AllocError>
+        ensures ok { OnOk result (self.new.shape ≡ edit self.old.shape Command.Keep) }
+        ensures err { OnErr result (self.new ≡ self.old) }
+        ensures moved { self.new.moved ≡ self.old.moved }
+    {
+        self.kept = Some(Kept::copy_of(self.alloc, self.rows, &self.bits, &self.letters)?);
+        Ok(())
+    }
+
+    /// Puts the kept rows in place of the rows, after which nothing is kept, and answers whether there were any: where
+    /// nothing is kept, nothing changes. It takes no memory.
+    pub fn back(&mut self) -> bool
+        ensures told { result ≡ is_some self.old.shape.kept }
+        ensures back { IsTrue result → self.new.shape ≡ edit self.old.shape Command.Back }
+        ensures same { result ≡ false → self.new ≡ self.old }
+        ensures moved { self.new.moved ≡ self.old.moved }
+    {
+        let Some(kept) = self.kept.take() else {
+            return false;
+        };
+        let (rows, bits, letters) = kept.into_parts();
+        self.rows = rows;
+        self.bits = bits;
+        self.letters = letters;
+        true
     }
 
     // ---- commands
@@ -127,8 +169,8 @@ impl<A: BitViewSized, O: WordPaths<A::Store> + Digits<A::Store>> Table<A, O> {
     /// Carries a command out and replies to it.
     ///
     /// A command to which a cause applies is refused for the first that does, without memory being taken. Any other is
-    /// carried out, unless memory is wanted: only insertions, copies of rows behind the last one and replies that tell
-    /// of rows may want it. A command that is not carried out changes nothing.
+    /// carried out, unless memory is wanted: only insertions, copies of rows behind the last one, `Keep` and replies
+    /// that tell of rows may want it. A command that is not carried out changes nothing.
     pub fn apply(&mut self, command: &Command) -> Result<Reply, Fault>
         // The first cause that applies refuses, and nothing else does.
         ensures cause { MatchOption (cause_in self.old.shape command.now) (IsOkUnless result Fault.Memory)
@@ -145,7 +187,7 @@ impl<A: BitViewSized, O: WordPaths<A::Store> + Digits<A::Store>> Table<A, O> {
         ensures image { HasOnlyNumbers self.old.shape.layout (length self.old.shape.rows)
             (image_bytes self.old.shape.layout self.old.shape.rows) self.old.shape.rows }
     {
-        if let Some(cause) = command.cause(&self.layout, self.rows, false) {
+        if let Some(cause) = command.cause(&self.layout, self.rows, self.kept.is_some()) {
             return Err(Fault::Refused(cause));
         }
         match self.carry_out(command) {
@@ -182,6 +224,15 @@ impl<A: BitViewSized, O: WordPaths<A::Store> + Digits<A::Store>> Table<A, O> {
             } => Ok(self.rotate(*start, *upto, *amount)),
             Command::Dup { start, upto } => self.dup(*start, *upto),
             Command::Image => self.image(),
+            Command::Keep => {
+                self.keep()?;
+                Ok(Reply::Done)
+            }
+            // Nothing kept is a cause.
+            Command::Back => {
+                self.back();
+                Ok(Reply::Done)
+            }
         }
     }
 
@@ -194,7 +245,11 @@ impl<A: BitViewSized, O: WordPaths<A::Store> + Digits<A::Store>> Table<A, O> {
         let width = self.layout.row_bits();
         let row = row_of::<A, O>(&self.layout, values);
         let row = row.as_bitslice().part(0, width);
-        self.moved = insert_row(&mut self.bits, self.rows, width, place as usize, &row)?;
+        let place = place as usize;
+        self.bits.reserve(width)?;
+        let letters = self.letters.edit(RowEdit::Insert { place })?;
+        let rows = insert_row(&mut self.bits, self.rows, width, place, &row).unwrap();
+        self.moved = all_writes(rows, letters);
         self.rows += 1;
         Ok(Reply::Done)
     }
@@ -206,7 +261,9 @@ impl<A: BitViewSized, O: WordPaths<A::Store> + Digits<A::Store>> Table<A, O> {
     {
         let width = self.layout.row_bits();
         let (start, upto) = (start as usize, upto as usize);
-        self.moved = delete_rows(&mut self.bits, self.rows, width, start, upto);
+        let letters = self.letters.edit(RowEdit::Delete { start, upto }).unwrap();
+        let rows = delete_rows(&mut self.bits, self.rows, width, start, upto);
+        self.moved = all_writes(rows, letters);
         self.rows -= upto - start;
         Reply::Done
     }
@@ -237,15 +294,11 @@ impl<A: BitViewSized, O: WordPaths<A::Store> + Digits<A::Store>> Table<A, O> {
         ensures reply { result ≡ Done }
     {
         let width = self.layout.row_bits();
-        let (start, upto) = (start as usize, upto as usize);
-        copy_rows(
-            &mut self.bits,
-            self.rows,
-            width,
-            start,
-            upto,
-            place as usize,
-        );
+        let (start, upto, place) = (start as usize, upto as usize, place as usize);
+        copy_rows(&mut self.bits, self.rows, width, start, upto, place);
+        self.letters
+            .edit(RowEdit::Copy { start, upto, place })
+            .unwrap();
         Reply::Done
     }
 
@@ -255,13 +308,9 @@ impl<A: BitViewSized, O: WordPaths<A::Store> + Digits<A::Store>> Table<A, O> {
         ensures reply { result ≡ Done }
     {
         let width = self.layout.row_bits();
-        swap_rows(
-            &mut self.bits,
-            self.rows,
-            width,
-            row as usize,
-            other as usize,
-        );
+        let (row, other) = (row as usize, other as usize);
+        swap_rows(&mut self.bits, self.rows, width, row, other);
+        self.letters.edit(RowEdit::Swap { row, other }).unwrap();
         Reply::Done
     }
 
@@ -272,14 +321,15 @@ impl<A: BitViewSized, O: WordPaths<A::Store> + Digits<A::Store>> Table<A, O> {
     {
         let width = self.layout.row_bits();
         let (start, upto) = (start as usize, upto as usize);
-        rotate_rows(
-            &mut self.bits,
-            self.rows,
-            width,
-            start,
-            upto,
-            amount as usize,
-        );
+        let amount = amount as usize;
+        rotate_rows(&mut self.bits, self.rows, width, start, upto, amount);
+        self.letters
+            .edit(RowEdit::Rotate {
+                start,
+                upto,
+                amount,
+            })
+            .unwrap();
         Reply::Done
     }
 
@@ -291,7 +341,9 @@ impl<A: BitViewSized, O: WordPaths<A::Store> + Digits<A::Store>> Table<A, O> {
     {
         let width = self.layout.row_bits();
         let (start, upto) = (start as usize, upto as usize);
-        dup_rows(&mut self.bits, self.rows, width, start, upto)?;
+        self.bits.reserve((upto - start) * width)?;
+        self.letters.edit(RowEdit::Dup { start, upto })?;
+        dup_rows(&mut self.bits, self.rows, width, start, upto).unwrap();
         self.rows += upto - start;
         Ok(Reply::Done)
     }
@@ -317,7 +369,8 @@ fn row_of<A: BitViewSized, O: WordPaths<A::Store> + Digits<A::Store>>(
     requires count { length values.now ≡ length layout.now.fields }
     requires taken { take_all layout.now.fields values.now ≡ true }
     ensures len { 256 ≤ length (array_bits (read_by A.Store.BitRegister O.position) A.words result) }
-    ensures bits { take (row_width layout.now.fields) (array_bits (read_by A.Store.BitRegister O.position) A.words result)
+    ensures bits { take (row_width layout.now.fields)
+        (array_bits (read_by A.Store.BitRegister O.position) A.words result)
         ≡ numbers_bits layout.now.rule layout.now.fields values.now }
 {
     let mut row = BitArray::<A, O>::new(A::ZERO);
@@ -325,4 +378,13 @@ fn row_of<A: BitViewSized, O: WordPaths<A::Store> + Digits<A::Store>>(
     let _bits = BitArray::len(&row);
     store_row(&mut row, 0, layout, values);
     row
+}
+
+// The word writes of the moves of the rows' list, and then those of the letters' lists.
+fn all_writes(rows: usize, letters: [usize; LETTERS]) -> [usize; 27]
+    ensures { result ≡ rows ∷ letters }
+{
+    let mut all = [rows; 27];
+    all[1..].copy_from_slice(&letters);
+    all
 }

@@ -116,7 +116,7 @@ fn a_table_refuses(rt: HostRuntime) -> Result<(), Fail> {
 }
 
 // The bits of the rows 5 and -1, 2 and 3 under `high`, and how many words each list's move wrote after a row was put
-// between them.
+// between them: one bit moved in the list of each letter.
 fn tells_bits_and_moves<A: BitViewSized, O: WordPaths<A::Store> + Digits<A::Store>>(
     alloc: Global,
     writes: usize,
@@ -138,7 +138,30 @@ fn tells_bits_and_moves<A: BitViewSized, O: WordPaths<A::Store> + Digits<A::Stor
     }
     table.apply(&insertion(alloc, 1, [0, -8])?)?;
     let moved = table.moved();
-    Ok(told && moved[0] == writes && moved[1..].iter().all(|count| *count == 0))
+    Ok(told && moved[0] == writes && moved[1..].iter().all(|count| *count == 1))
+}
+
+// Whether a table of one row keeps it, loses it, and has it back once.
+fn keeps_a_row<A: BitViewSized, O: WordPaths<A::Store> + Digits<A::Store>>(
+    alloc: Global,
+) -> Result<bool, Fail>
+    requires { 256 ≤ A.COUNT * A.Store.BITS }
+{
+    let mut table = one_row::<A, O>(alloc)?;
+    let mut told = !table.back() && table.rows() == 1;
+    table.keep()?;
+    table.apply(&Command::Delete { start: 0, upto: 1 })?;
+    told = table.rows() == 0 && told;
+    told = table.back() && table.rows() == 1 && told;
+    Ok(told && has_image(&mut table, 1, b"\x7d") && !table.back())
+}
+
+#[test]
+fn a_table_keeps_rows(rt: HostRuntime) -> Result<(), Fail> {
+    assert!(rt; keeps_a_row::<[u8; 32], Lsb0>(rt.alloc())?);
+    assert!(rt; keeps_a_row::<[u16; 16], HiLo>(rt.alloc())?);
+    assert!(rt; keeps_a_row::<[u64; 4], Lsb0>(rt.alloc())?);
+    Ok(())
 }
 
 #[test]

@@ -14,7 +14,7 @@ use std::test::Fail;
 type Row = (&'static [u8], &'static [u8]);
 
 // Scripts with their answers, worked by hand. Two rows are 5 and -1, then 2 and 3.
-const ROWS: [Row; 13] = [
+const ROWS: [Row; 15] = [
     (b"high a:u3 b:u5\ninsert 0 5 17\nimage", b"ok\nok\n1 b1\n"),
     (b"low a:u3 b:u5\ninsert 0 5 17\nimage", b"ok\nok\n1 8d\n"),
     (
@@ -54,12 +54,23 @@ const ROWS: [Row; 13] = [
         b"ok\nok\n1 ffffffffffffffffe0\n",
     ),
     (
-        b"high a:u3 b:i4\ninsert 0 5 -1\ninsert 1 2 3\ndelete 1 0\ndelete 0 3\nrotate 0 1 2\ncopy 0 2 1\ndelete 1 1\nimage",
+        b"high a:u3 b:i4\ninsert 0 5 -1\ninsert 1 2 3\ndelete 1 0\ndelete 0 3\nrotate 0 1 2\ncopy 0 2 1\n\
+          delete 1 1\nimage",
         b"ok\nok\nok\nrefused row\nrefused row\nrefused row\nrefused row\nok\n2 be8c\n",
     ),
     (
-        b"high a:u3 b:i4\ninsert 0 5 -1\ninsert 1 2 3\nswap 0 0\nswap 0 1\nimage\nswap 1 0\ncopy 0 1 1\nimage\nset 0 c 1",
+        b"high a:u3 b:i4\ninsert 0 5 -1\ninsert 1 2 3\nswap 0 0\nswap 0 1\nimage\nswap 1 0\ncopy 0 1 1\n\
+          image\nset 0 c 1",
         b"ok\nok\nok\nok\nok\n2 477c\nok\nok\n2 bf7c\nrefused field\n",
+    ),
+    (
+        b"high a:u3 b:i4\ninsert 0 5 -1\ninsert 1 2 3\nback\nkeep\ndelete 0 2\nimage\nback\nimage\nback",
+        b"ok\nok\nok\nrefused kept\nok\nok\n0\nok\n2 be8c\nrefused kept\n",
+    ),
+    // what is kept last comes back: the row 2 and 3 is 010 0011
+    (
+        b"high a:u3 b:i4\ninsert 0 5 -1\ninsert 1 2 3\nkeep\ndelete 0 1\nkeep\ndup 0 1\nset 0 a 7\nback\nimage\nback",
+        b"ok\nok\nok\nok\nok\nok\nok\nok\nok\n1 46\nrefused kept\n",
     ),
 ];
 

@@ -1,4 +1,4 @@
-use Rattle.std.proofs.Common.{◌≡◌, length}
+use Rattle.std.proofs.Common.{◌≡◌}
 use Rattle.bit_addressing.specs.Memory.{read_by}
 use Rattle.bit_containers.specs.Repeated.{repeated}
 use Rattle.bit_containers_vector.specs.Vector.{vec_bits, vec_head}

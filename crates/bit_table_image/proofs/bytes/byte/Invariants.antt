@@ -8,4 +8,6 @@ use Rattle.bit_table_image.proofs.bytes.byte.Given as goal
 
 -- the bits that were read are the highest, the first of them at the top
 abbrev pub invariant-loop-index : goal.invariant-loop-index
-invariant-loop-index g l = l.byte ≡ binary (reverse (map (read_bit l.rule l.first (view_bits (read_by g.T.BitRegister g.O.Positions.position) l.bits)) (range_with_len 0 l.index)))
+invariant-loop-index g l =
+    let bits = view_bits (read_by g.T.BitRegister g.O.Positions.position) l.bits in
+    l.byte ≡ binary (reverse (map (read_bit l.rule l.first bits) (range_with_len 0 l.index)))

@@ -7,6 +7,7 @@ use Rattle.bit_table_image.proofs.bytes.write.Goals as goal
 
 pub loop-index-preserved : goal.loop-index-preserved
 loop-index-preserved g c =
+    let bits = view_bits (read_by g.T.BitRegister g.O.Positions.position) c.args.bits in
     c.in_ok-push.ensures.items ∙ ap₂ (λ l b. l ++ b ∷ []) c.loop-index.invariant c.byte.ensures
-    ∙ sym (map-range_with_len_more (λ k. byte_of c.rule-rule.result (take 8 (drop (8 * k) (view_bits (read_by g.T.BitRegister g.O.Positions.position) c.args.bits)))) 0
-    c.loop-index.index c.loop-index.index (omega arith))
+    ∙ sym (map-range_with_len_more (λ k. byte_of c.rule-rule.result (take 8 (drop (8 * k) bits))) 0 c.loop-index.index
+    c.loop-index.index (omega arith))

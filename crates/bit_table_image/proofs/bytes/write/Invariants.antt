@@ -8,4 +8,5 @@ use Rattle.bit_table_image.proofs.bytes.write.Given as goal
 -- the bytes before this one were made
 abbrev pub invariant-loop-index : goal.invariant-loop-index
 invariant-loop-index g l =
-    l.bytes.items ≡ map (λ k. byte_of l.rule (take 8 (drop (8 * k) (view_bits (read_by g.T.BitRegister g.O.Positions.position) l.bits)))) (range_with_len 0 l.index)
+    let bits = view_bits (read_by g.T.BitRegister g.O.Positions.position) l.bits in
+    l.bytes.items ≡ map (λ k. byte_of l.rule (take 8 (drop (8 * k) bits))) (range_with_len 0 l.index)

@@ -1,4 +1,4 @@
-use Rattle.std.proofs.Common.{◌≡◌, false}
+use Rattle.std.proofs.Common.{◌≡◌, [], false}
 use Rattle.bit_table_script.proofs.ReachedLemmas.{Reached, TookAtLeast}
 use Rattle.bit_table_script.proofs.machine.drive.Given as goal
 
@@ -12,6 +12,7 @@ invariant-reads g l =
           (remaining l.fn.input.reader) (remaining l.input.reader)
           (contents l.fn.output.writer) (contents l.output.writer) l.line.items;
       took : TookAtLeast (remaining l.fn.input.reader) (remaining l.input.reader) l.counter;
+      none : l.held.items ≡ [];
       reading : l.input.failed ≡ false;
       writing : l.output.failed ≡ false;
     }

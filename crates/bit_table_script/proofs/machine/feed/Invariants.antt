@@ -9,8 +9,9 @@ invariant-loop-byte g l =
     let answered = g.M.LineMachine.answers in
     record {
       going : (answers : List (List ℕ) → List ℕ) (start : Option (List ℕ)) (text : List ℕ)
-          → Going answers (answered l.fn.machine) start (contents l.fn.output.writer) text l.fn.line.items
-          → Going answers (answered l.machine) start (contents l.output.writer) (text ++ take l.byte-index l.piece)
-          l.line.items;
+          → Going answers (answered l.fn.machine) start (contents l.fn.output.writer) l.fn.held.items text
+          l.fn.line.items
+          → Going answers (answered l.machine) start (contents l.output.writer) l.held.items
+          (text ++ take l.byte-index l.piece) l.line.items;
       working : l.output.failed ≡ false;
     }

@@ -1,6 +1,4 @@
-use Rattle.std.proofs.Common.{◌≡◌, ◌+◌, ◌*◌, ◌≤◌, ◌++◌, min, length, take, drop, ap, sym, ◌∙◌, refl, arith, take_at}
-use Rattle.bit_addressing_span.specs.declared.span.TheConstants.{MAX_BITS}
-use Rattle.bit_addressing.specs.Memory.{with_piece}
+use Rattle.std.proofs.Common.{take, ap, ◌∙◌, arith}
 use Rattle.bit_table_layout.specs.Layouts.{row_width}
 use Rattle.bit_table_layout.specs.Rows.{numbers_bits}
 use Rattle.bit_table_layout.proofs.ReadingLemmas.{length-numbers_bits}

@@ -7,7 +7,8 @@ use Rattle.bit_table_commands.proofs.command.Command.cause.Goals as goal
 
 pub returns-then-has_wrong_form : goal.returns-then-has_wrong_form
 returns-then-has_wrong_form c = λ t h.
-    cause-of _ _ _ t c.args.self.now true _ _ _ h (sym c.has_wrong_form.ensures ∙ c.if-has_wrong_form.true) refl refl refl
+    cause-of _ _ _ t c.args.self.now true _ _ _ h (sym c.has_wrong_form.ensures ∙ c.if-has_wrong_form.true)
+    refl refl refl
 
 pub returns-then-has_wrong_field : goal.returns-then-has_wrong_field
 returns-then-has_wrong_field c = λ t h.
@@ -29,7 +30,7 @@ returns-then-has_wrong_value c = λ t h.
 
 pub returns-then-rows-row_bits : goal.returns-then-rows-row_bits
 returns-then-rows-row_bits c = λ t h.
-    cause-by_room _ _ _ t c.args.self.now true h (sym c.has_wrong_form.ensures ∙ c.if-has_wrong_form.false)
+    cause-by_room _ _ _ t c.args.self.now true _ _ h (sym c.has_wrong_form.ensures ∙ c.if-has_wrong_form.false)
     (sym c.has_wrong_field.ensures ∙ c.if-has_wrong_field.false)
     (ap not (sym c.is_in_range.ensures ∙ c.if-not-is_in_range.false))
     (sym c.has_wrong_value.ensures ∙ c.if-has_wrong_value.false)
@@ -38,10 +39,11 @@ returns-then-rows-row_bits c = λ t h.
     cc (c.from.ensures, c.rows_added.ensures, c.row_bits.ensures.bits) in
     let room = c.if-rows-row_bits.true in
     grind (arith, nat_tests))
+    refl refl
 
-pub returns : goal.returns
-returns c = λ t h.
-    cause-by_room _ _ _ t c.args.self.now false h (sym c.has_wrong_form.ensures ∙ c.if-has_wrong_form.false)
+pub returns-then-lacks_kept : goal.returns-then-lacks_kept
+returns-then-lacks_kept c = λ t h.
+    cause-by_room _ _ _ t c.args.self.now false false true h (sym c.has_wrong_form.ensures ∙ c.if-has_wrong_form.false)
     (sym c.has_wrong_field.ensures ∙ c.if-has_wrong_field.false)
     (ap not (sym c.is_in_range.ensures ∙ c.if-not-is_in_range.false))
     (sym c.has_wrong_value.ensures ∙ c.if-has_wrong_value.false)
@@ -50,3 +52,17 @@ returns c = λ t h.
     cc (c.from.ensures, c.rows_added.ensures, c.row_bits.ensures.bits) in
     let room = c.if-rows-row_bits.false in
     grind (arith, nat_tests))
+    refl (sym c.lacks_kept.ensures ∙ c.if-lacks_kept.true)
+
+pub returns : goal.returns
+returns c = λ t h.
+    cause-by_room _ _ _ t c.args.self.now false false false h (sym c.has_wrong_form.ensures ∙ c.if-has_wrong_form.false)
+    (sym c.has_wrong_field.ensures ∙ c.if-has_wrong_field.false)
+    (ap not (sym c.is_in_range.ensures ∙ c.if-not-is_in_range.false))
+    (sym c.has_wrong_value.ensures ∙ c.if-has_wrong_value.false)
+    (let bits : (c.args.rows + c.from.result) * c.row_bits.result
+    ≡ (c.args.rows + rows_added c.args.self.now) * row_width c.args.layout.now.fields =
+    cc (c.from.ensures, c.rows_added.ensures, c.row_bits.ensures.bits) in
+    let room = c.if-rows-row_bits.false in
+    grind (arith, nat_tests))
+    refl (sym c.lacks_kept.ensures ∙ c.if-lacks_kept.false)

@@ -1,4 +1,4 @@
-use Rattle.std.proofs.Common.{◌≡◌, ap, ap₂, sym, ◌∙◌}
+use Rattle.std.proofs.Common.{ap, ap₂, ◌∙◌}
 use Rattle.bit_table_layout.specs.Images.{bytes_of}
 use Rattle.bit_table_layout.specs.Layouts.{LayoutShape}
 use Rattle.bit_table_commands.specs.declared.reply.Reply.TheVariants.{Image}
@@ -10,5 +10,6 @@ returns g c =
     let t = c.self.inside in
     let h = c.self.invariant in
     let made = c.new.ensures ∙ c.in_ok-bytes.ensures ∙ ap (bytes_of t.layout.rule) c.as_bitslice.ensures in
-    ap₂ Image (count_is _ t.layout t.rows _ _ c.self.view_is h.0 h.1 h.2)
-    (made ∙ ap₂ (λ (l : LayoutShape) bits. bytes_of l.rule bits) (layout_is _ t.layout t.rows _ _ c.self.view_is h.0 h.1 h.2) (bits_are _ t.layout t.rows _ _ c.self.view_is h.0 h.1 h.2))
+    ap₂ Image (count_is _ t.layout _ _ _ c.self.view_is h.0 h.1 h.2)
+    (made ∙ ap₂ (λ (l : LayoutShape) bits. bytes_of l.rule bits) (layout_is _ t.layout _ _ _
+    c.self.view_is h.0 h.1 h.2) (bits_are _ t.layout _ _ _ c.self.view_is h.0 h.1 h.2))

@@ -1,0 +1,2 @@
+mod ChoiceLemmas
+mod KnownRows

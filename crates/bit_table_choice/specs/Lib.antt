@@ -1,0 +1,3 @@
+pub mod Storages
+pub mod Options
+pub mod Choices

@@ -1,0 +1,6 @@
+pub mod MarkLemmas
+pub mod EditLemmas
+pub mod WalkLemmas
+pub mod PutLemmas
+pub mod ColumnLemmas
+pub mod ListLemmas

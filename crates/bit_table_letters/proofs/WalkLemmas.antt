@@ -1,0 +1,60 @@
+-- A walk over a list that changes one element after another.
+use Rattle.std.proofs.Common.{◌≡◌, ◌≢◌, ℕ, ◌+◌, ◌<◌, ◌≤◌, ◌⊎◌, inl, inr, List, length, get_or, set, refl, sym, ◌∙◌, subst, arith, below_none}
+use Rattle.std.proofs.lemmas.Bool.{cases_lt}
+use Rattle.std.proofs.lemmas.List.{get_or-set_same, get_or-set_other, length-set}
+use Rattle.bit_table_letters.specs.Walk.{Becomes, EachHas, IsWalked}
+
+module _ {A : Type 0} (step : ℕ → A → A → Type 0) where
+  -- nothing is changed yet
+  pub walk_begins : (xs : List A) → IsWalked step 0 xs xs
+  walk_begins xs = record {
+    len = refl;
+    done = λ k d low. absurd (omega (arith, low));
+    rest = λ k d far. refl;
+  }
+
+  -- one element more
+  pub walk_goes_on : (i : ℕ) (old new : List A) (w : A) → IsWalked step i old new → i < length old
+      → ((d : A) → step i (get_or old i d) w) → IsWalked step (i + 1) old (set new i w)
+  walk_goes_on i old new w h low now = record {
+    len = length-set new i w ∙ h.len;
+    done = λ k d below. done_or_now k d (cases_lt k i) below;
+    rest = λ k d far. get_or-set_other new i k w d (apart_above k far) ∙ h.rest k d (omega (arith, far));
+  } where
+    apart_above : (k : ℕ) → i + 1 ≤ k → k ≢ i
+    apart_above k far = omega (arith, far)
+
+    apart_below : (k : ℕ) → k < i → k ≢ i
+    apart_below k below = omega (arith, below)
+
+    done_or_now : (k : ℕ) (d : A) → (k < i) ⊎ (i ≤ k) → k < i + 1 → step k (get_or old k d) (get_or (set new i w) k d)
+    done_or_now k d (inl below) _ =
+        subst (step k (get_or old k d)) (sym (get_or-set_other new i k w d (apart_below k below))) (h.done k d below)
+    done_or_now k d (inr far) below =
+        let same : i ≡ k = omega arith in
+        subst (λ j. step j (get_or old j d) (get_or (set new i w) j d)) same
+        (subst (step i (get_or old i d)) (sym (get_or-set_same new i w d (omega (arith, h.len, low)))) (now d))
+
+  -- each element was changed
+  pub walk_ends : (i : ℕ) (old new : List A) → IsWalked step i old new → length old ≤ i → Becomes step old new
+  walk_ends i old new h all = record { len = h.len; each = λ k d low. h.done k d (omega (arith, low, all)) }
+
+  -- the walk stopped, and those that it did not come to are as before
+  pub walk_stops : ((k : ℕ) (v : A) → step k v v) → (i : ℕ) (old new : List A) → IsWalked step i old new → Becomes step old new
+  walk_stops stays i old new h = record { len = h.len; each = λ k d low. done_or_before k d (cases_lt k i) } where
+    done_or_before : (k : ℕ) (d : A) → (k < i) ⊎ (i ≤ k) → step k (get_or old k d) (get_or new k d)
+    done_or_before k d (inl below) = h.done k d below
+    done_or_before k d (inr far) = subst (step k (get_or old k d)) (sym (h.rest k d far)) (stays k (get_or old k d))
+
+-- those that were changed have a property, and so has one more
+pub holds_goes_on : {A : Type 0} (P : A → Type 0) (i : ℕ) (new : List A) (w : A) → i < length new
+    → ((k : ℕ) (d : A) → k < i → P (get_or new k d)) → P w
+    → (k : ℕ) (d : A) → k < i + 1 → P (get_or (set new i w) k d)
+holds_goes_on {A} P i new w low had now k d below = either (cases_lt k i) where
+  either : (k < i) ⊎ (i ≤ k) → P (get_or (set new i w) k d)
+  either (inl before) =
+      let apart : k ≢ i = omega (arith, before) in
+      subst P (sym (get_or-set_other new i k w d apart)) (had k d before)
+  either (inr far) =
+      let same : i ≡ k = omega (arith, far, below) in
+      subst (λ j. P (get_or (set new i w) j d)) same (subst P (sym (get_or-set_same new i w d low)) now)

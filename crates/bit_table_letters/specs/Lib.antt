@@ -1,0 +1,4 @@
+pub mod RowEdit
+pub mod Marks
+pub mod Walk
+pub mod Lists

@@ -1,0 +1,164 @@
+//! The letters that rows bear.
+
+ghost use Rattle.std.specs.Prelude.{◌≡◌, ◌+◌, ◌*◌, ◌≤◌, ◌<◌, [], length, map, replicate, slice_set, slice_index_or};
+ghost use Rattle.std.specs.Prelude.{IfOk, IsOk, OnOk, OnErr, not};
+ghost use Rattle.std.specs.List.{All, count_by};
+ghost use Rattle.std.specs.FinSet as set;
+ghost use Rattle.bit_addressing.specs.Memory.{read_by};
+ghost use Rattle.bit_addressing_span.specs.declared.span.TheConstants.{MAX_BITS};
+ghost use Rattle.bit_slice_views.specs.View.{view_bits};
+ghost use Rattle.bit_table_letters.specs.Lists.{AreColumns};
+ghost use Rattle.bit_table_letter.specs.Marks.{bears, letter_count, with_letter};
+ghost use Rattle.bit_table_letters.specs.Marks.{decided};
+ghost use Rattle.bit_table_letters.specs.RowEdit.{added, edited_by, most_moved, LiesIn};
+
+use crate::edit::RowEdit;
+use crate::lists::{copy_lists, edit_lists, extend_lists, reserve_lists};
+use bit_addressing::BitOrder;
+use bit_containers_vector::BitVec;
+use bit_slice_paths::WordPaths;
+use bit_slice_stores::BitStore;
+use bit_slice_views::{BitSlice, Bits};
+use bit_slice_writes::BitsMut;
+use std::alloc::{AllocError, Global};
+use std::array;
+use std::marker::Model;
+
+/// How many letters there are.
+pub const LETTERS: usize = 26;
+
+/// The letters that the rows of a table bear, each as its place in the alphabet: 26 lists of bits, each with one bit a
+/// row.
+///
+/// Clauses see one set of letters a row.
+#[derive(Drop)]
+pub struct Letters<T: BitStore, O: WordPaths<T>> {
+    rows: usize,
+    lists: [BitVec<T, O>; LETTERS],
+}
+
+impl<T: BitStore, O: WordPaths<T>> Model for Letters<T, O> {
+    ghost use Rattle.std.specs.Prelude.{◌≡◌, ◌*◌, ◌≤◌, List, length, map};
+    ghost use Rattle.std.specs.Coded.{codes};
+    ghost use Rattle.bit_addressing.specs.Memory.{read_by};
+    ghost use Rattle.bit_addressing_span.specs.declared.span.TheConstants.{MAX_BITS};
+    ghost use Rattle.bit_containers_vector.specs.Vector.{vec_bits};
+    ghost use Rattle.bit_table_letter.specs.Marks.{LetterSet, letters_code, letter_count};
+    ghost use Rattle.bit_table_letters.specs.Marks.{marks_of};
+    ghost use Rattle.bit_table_letters.specs.Lists.{AreColumns};
+
+    ghost Value = { List LetterSet };
+
+    ghost coded = { Prim.hlevel (codes, letters_code) };
+
+    ghost view = { λ t. marks_of t.rows (map (vec_bits (read_by T.BitRegister O.position)) t.lists) };
+
+    ghost invariant = { λ t. AreColumns (read_by T.BitRegister O.position) t.rows t.lists };
+}
+
+impl<T: BitStore, O: WordPaths<T>> Letters<T, O> {
+    /// The letters of no rows. It takes no memory.
+    pub fn new(alloc: Global) -> Letters<T, O>
+        ensures { result ≡ [] }
+    {
+        Letters {
+            rows: 0,
+            lists: empty_lists::<T, O>(alloc),
+        }
+    }
+
+    /// How many rows there are.
+    pub fn rows(&self) -> usize
+        ensures { result ≡ length self.now }
+    {
+        self.rows
+    }
+
+    /// One bit a row: whether it bears the letter.
+    pub fn list(&self, letter: usize) -> BitSlice<'_, T, O>
+        requires { letter < letter_count }
+        ensures { view_bits (read_by T.BitRegister O.position) result ≡ map (bears letter) self.now }
+    {
+        self.lists[letter].as_bitslice()
+    }
+
+    /// Edits the rows, with their letters; a new row bears none. It answers how many words the moves of an insertion or
+    /// a deletion wrote, letter by letter.
+    ///
+    /// Memory for all lists is asked for before the first is edited, so a refusal changes nothing; an edit that adds no
+    /// row asks for none.
+    pub fn edit(&mut self, edit: RowEdit) -> Result<[usize; LETTERS], AllocError>
+        requires range { LiesIn (length self.old) edit }
+        requires most { length self.old + added edit ≤ MAX_BITS }
+        ensures ok { OnOk result (self.new ≡ edited_by set.empty edit self.old) }
+        ensures err { OnErr result (self.new ≡ self.old) }
+        ensures succeeds { added edit ≡ 0 → IsOk result }
+        ensures writes { IfOk result (λ writes. All (λ k. k ≤ most_moved T.BITS 1 (length self.old) edit) writes) }
+    {
+        let rows = self.rows;
+        reserve_lists(&mut self.lists, edit.rows_added())?;
+        let mut writes = [0; LETTERS];
+        edit_lists(&mut self.lists, rows, edit, &mut writes);
+        self.rows = edit.rows_after(rows);
+        Ok(writes)
+    }
+
+    /// Makes one row bear a letter, or not.
+    pub fn put(&mut self, letter: usize, row: usize, bears_it: bool)
+        requires letter { letter < letter_count }
+        requires row { row < length self.old }
+        ensures { self.new
+            ≡ slice_set self.old row (with_letter letter bears_it (slice_index_or self.old row set.empty)) }
+    {
+        self.lists[letter].set(row, bears_it);
+    }
+
+    /// Turns a letter round in each row: the rows that bore it do not, and the others do.
+    pub fn invert(&mut self, letter: usize)
+        requires { letter < letter_count }
+        ensures { self.new ≡ decided letter (λ letters. not (bears letter letters)) self.old }
+    {
+        self.lists[letter].invert();
+    }
+
+    /// How many rows bear a letter.
+    pub fn count(&self, letter: usize) -> usize
+        requires { letter < letter_count }
+        ensures { result ≡ count_by (bears letter) self.now }
+    {
+        self.lists[letter].count_ones()
+    }
+
+    /// The letters of so many new rows, which bear none.
+    pub fn of_rows(alloc: Global, rows: usize) -> Result<Letters<T, O>, AllocError>
+        requires { rows ≤ MAX_BITS }
+        ensures { IfOk result (λ letters. letters ≡ replicate rows set.empty) }
+    {
+        let blank = BitVec::<T, O>::repeat(alloc, false, rows)?;
+        let mut lists = empty_lists::<T, O>(alloc);
+        extend_lists(&mut lists, &blank)?;
+        Ok(Letters { rows, lists })
+    }
+
+    /// The letters of other rows, whatever their words and their order.
+    pub fn copy_of<Q: BitStore, P: WordPaths<Q>>(
+        alloc: Global,
+        others: &Letters<Q, P>,
+    ) -> Result<Letters<T, O>, AllocError>
+        ensures { IfOk result (λ letters. letters ≡ others.now) }
+    {
+        let mut lists = empty_lists::<T, O>(alloc);
+        copy_lists(&mut lists, &others.lists)?;
+        Ok(Letters {
+            rows: others.rows,
+            lists,
+        })
+    }
+}
+
+// A list without a bit for each letter.
+fn empty_lists<T: BitStore, O: BitOrder<T>>(alloc: Global) -> [BitVec<T, O>; LETTERS]
+    ensures { AreColumns (read_by T.BitRegister O.position) 0 result }
+{
+    array::from_fn(|_letter| BitVec::new(alloc))
+}

@@ -1,0 +1,69 @@
+//! The rows that a table keeps.
+
+ghost use Rattle.std.specs.Prelude.{◌≡◌, IfOk};
+ghost use Rattle.bit_addressing.specs.Memory.{read_by};
+ghost use Rattle.bit_containers_vector.specs.Vector.{vec_bits};
+
+use bit_addressing::BitRegister;
+use bit_containers_vector::BitVec;
+use bit_slice_paths::WordPaths;
+use bit_slice_stores::BitViewSized;
+use bit_table_digits::Digits;
+use bit_table_letters::Letters;
+use std::alloc::{AllocError, Global};
+use std::marker::Model;
+
+// Rows that are kept: how many there are, their bits, end to end, and their letters.
+#[derive(Drop)]
+pub(crate) struct Kept<A: BitViewSized, O: WordPaths<A::Store> + Digits<A::Store>> {
+    rows: usize,
+    bits: BitVec<A::Store, O>,
+    letters: Letters<A::Store, O>,
+}
+
+impl<A: BitViewSized, O: WordPaths<A::Store> + Digits<A::Store>> Model for Kept<A, O> {
+    ghost use Rattle.std.specs.Coded.{codes};
+    ghost use Rattle.bit_addressing.specs.Memory.{read_by};
+    ghost use Rattle.bit_containers_vector.specs.Vector.{vec_bits};
+    ghost use Rattle.bit_table_letter.specs.Marks.{letters_code};
+    ghost use Rattle.bit_table_store.specs.View.{StoredRows};
+
+    ghost Value = { StoredRows };
+
+    ghost coded = { Prim.hlevel (codes, letters_code) };
+
+    ghost view = { λ k. record {
+      rows = k.rows;
+      bits = vec_bits (read_by A.Store.BitRegister O.position) k.bits;
+      letters = k.letters;
+    } };
+}
+
+impl<A: BitViewSized, O: WordPaths<A::Store> + Digits<A::Store>> Kept<A, O> {
+    // A copy of so many rows that have these bits and letters.
+    pub(crate) fn copy_of(
+        alloc: Global,
+        rows: usize,
+        bits: &BitVec<A::Store, O>,
+        letters: &Letters<A::Store, O>,
+    ) -> Result<Kept<A, O>, AllocError>
+        ensures rows { IfOk result (λ kept. kept.rows ≡ rows) }
+        ensures bits { IfOk result (λ kept. kept.bits ≡ vec_bits (read_by A.Store.BitRegister O.position) bits.now) }
+        ensures letters { IfOk result (λ kept. kept.letters ≡ letters.now) }
+    {
+        Ok(Kept {
+            rows,
+            bits: bits.clone()?,
+            letters: Letters::copy_of(alloc, letters)?,
+        })
+    }
+
+    // How many rows there are, their bits and their letters.
+    pub(crate) fn into_parts(self) -> (usize, BitVec<A::Store, O>, Letters<A::Store, O>)
+        ensures rows { result.0 ≡ self.rows }
+        ensures bits { vec_bits (read_by A.Store.BitRegister O.position) result.1 ≡ self.bits }
+        ensures letters { result.2 ≡ self.letters }
+    {
+        (self.rows, self.bits, self.letters)
+    }
+}

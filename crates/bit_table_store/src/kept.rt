@@ -4,10 +4,10 @@ ghost use Rattle.std.specs.Prelude.{◌≡◌, IfOk};
 ghost use Rattle.bit_addressing.specs.Memory.{read_by};
 ghost use Rattle.bit_containers_vector.specs.Vector.{vec_bits};
 
-use bit_addressing::BitRegister;
+use bit_addressing::{BitOrder, BitRegister};
 use bit_containers_vector::BitVec;
 use bit_slice_paths::WordPaths;
-use bit_slice_stores::BitViewSized;
+use bit_slice_stores::{BitStore, BitViewSized};
 use bit_table_digits::Digits;
 use bit_table_letters::Letters;
 use std::alloc::{AllocError, Global};
@@ -53,8 +53,22 @@ impl<A: BitViewSized, O: WordPaths<A::Store> + Digits<A::Store>> Kept<A, O> {
     {
         Ok(Kept {
             rows,
-            bits: bits.clone()?,
+            bits: copy_of(alloc, bits)?,
             letters: Letters::copy_of(alloc, letters)?,
+        })
+    }
+
+    // The same rows in other words or another order.
+    pub(crate) fn relay<A2: BitViewSized, O2: WordPaths<A2::Store> + Digits<A2::Store>>(
+        &self,
+        alloc: Global,
+    ) -> Result<Kept<A2, O2>, AllocError>
+        ensures { IfOk result (λ other. other ≡ self.now) }
+    {
+        Ok(Kept {
+            rows: self.rows,
+            bits: copy_of(alloc, &self.bits)?,
+            letters: Letters::copy_of(alloc, &self.letters)?,
         })
     }
 
@@ -66,4 +80,19 @@ impl<A: BitViewSized, O: WordPaths<A::Store> + Digits<A::Store>> Kept<A, O> {
     {
         (self.rows, self.bits, self.letters)
     }
+}
+
+// The same bits in words of any width and order.
+pub(crate) fn copy_of<T: BitStore, O: BitOrder<T>, Q: BitStore, P: BitOrder<Q>>(
+    alloc: Global,
+    bits: &BitVec<Q, P>,
+) -> Result<BitVec<T, O>, AllocError>
+    ensures { IfOk result (λ copy. vec_bits (read_by T.BitRegister O.position) copy
+        ≡ vec_bits (read_by Q.BitRegister P.position) bits.now) }
+{
+    // As many bits as a vector may have.
+    let _bits = bits.len();
+    let mut copy = BitVec::<T, O>::new(alloc);
+    copy.extend_from_bitslice(bits)?;
+    Ok(copy)
 }

@@ -2,6 +2,7 @@
 #![tactic(auto)]
 
 mod kept;
+mod marks;
 mod table;
 
 pub use table::Table;

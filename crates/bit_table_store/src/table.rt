@@ -1,9 +1,10 @@
 //! A table: rows of a layout, packed bit by bit in words of any width and order.
 
-ghost use Rattle.std.specs.Prelude.{◌≡◌, ◌*◌, ◌≤◌, ◌∷◌, Bool, false, true, length, replicate, take, None, Some};
+ghost use Rattle.std.specs.Prelude.{◌≡◌, ◌≢◌, ◌*◌, ◌≤◌, ◌∷◌, Bool, false, true, length, map, replicate, take, None, Some};
 ghost use Rattle.std.specs.Prelude.{is_some, IfOk, IsOk, OnOk, OnErr, IsOkUnless, IsTrue, MatchOption};
 ghost use Rattle.bit_addressing.specs.Memory.{read_by};
 ghost use Rattle.bit_containers_array.specs.Array.{array_bits};
+ghost use Rattle.bit_slice_paths.specs.Steps.{groups, Takes};
 ghost use Rattle.bit_slice_views.specs.View.{view_bits};
 ghost use Rattle.bit_table_layout.specs.Images.{image_bytes, HasOnlyNumbers};
 ghost use Rattle.bit_table_layout.specs.Layouts.{row_width};
@@ -11,24 +12,29 @@ ghost use Rattle.bit_table_layout.specs.Rows.{numbers_bits, table_bits, take_all
 ghost use Rattle.bit_table_commands.specs.Accepted.{IsAccepted};
 ghost use Rattle.bit_table_commands.specs.Causes.{cause_in};
 ghost use Rattle.bit_table_commands.specs.Edits.{edit, reply_to};
+ghost use Rattle.bit_table_commands.specs.Marks.{row_bears};
 ghost use Rattle.bit_table_commands.specs.declared.reply.Reply.TheVariants.{Done};
 ghost use Rattle.bit_table_commands.specs.Tables.{new_table, IsTable};
 ghost use Rattle.bit_table_store.specs.View.{may_want_memory};
 
-use super::kept::Kept;
+use super::kept::{Kept, copy_of};
+use super::marks::{mark_rows, places_of_ones};
 use bit_addressing::BitRegister;
 use bit_containers_array::BitArray;
 use bit_containers_vector::BitVec;
-use bit_slice_paths::WordPaths;
+use bit_slice_paths::{Steps, WordPaths};
 use bit_slice_stores::BitViewSized;
 use bit_slice_views::{BitSlice, Bits};
-use bit_table_commands::{Command, ImageBytes, Numbers, Reply};
+use bit_table_commands::{Command, ImageBytes, Numbers, Reply, RowNumbers, Test};
 use bit_table_digits::Digits;
 use bit_table_fields::{bits_before, load_row, store_number, store_row};
-use bit_table_image::write;
+use bit_table_image::{read, write};
 use bit_table_layout::{Fault, Layout};
+use bit_table_letter::{BoolOp, Letter};
 use bit_table_letters::{LETTERS, Letters, RowEdit};
-use bit_table_rows::{copy_rows, delete_rows, dup_rows, insert_row, rotate_rows, swap_rows};
+use bit_table_rows::{
+    copy_rows, delete_rows, dup_rows, insert_row, keep_rows_of, rotate_rows, swap_rows,
+};
 use std::alloc::{AllocError, Global};
 use std::marker::Model;
 
@@ -126,8 +132,16 @@ impl<A: BitViewSized, O: WordPaths<A::Store> + Digits<A::Store>> Table<A, O> {
         self.bits.as_bitslice()
     }
 
+    /// One bit a row: whether it bears the letter.
+    pub fn letter_bits(&self, letter: Letter) -> BitSlice<'_, A::Store, O>
+        ensures { view_bits (read_by A.Store.BitRegister O.position) result
+            ≡ map (row_bears letter) self.now.shape.rows }
+    {
+        self.letters.list(letter.index())
+    }
+
     /// How many words the moves of the last edit that moved rows wrote: those of the rows' list first, then those of
-    /// the lists of the letters `a` to `z`.
+    /// the lists of the letters `a` to `z`. Insertions, deletions and `Drop` move rows so; all are 0 before the first.
     pub fn moved(&self) -> [usize; 27]
         ensures { result ≡ self.now.moved }
     {
@@ -164,13 +178,53 @@ impl<A: BitViewSized, O: WordPaths<A::Store> + Digits<A::Store>> Table<A, O> {
         true
     }
 
+    /// A table of the same layout, rows, letters and kept rows, in other words or another order: it answers each command
+    /// as this one does. Its `moved` is all 0.
+    pub fn relay<A2: BitViewSized, O2: WordPaths<A2::Store> + Digits<A2::Store>>(
+        &self,
+    ) -> Result<Table<A2, O2>, AllocError>
+        requires buffer { 256 ≤ A2.COUNT * A2.Store.BITS }
+        ensures shape { IfOk result (λ other. other.shape ≡ self.now.shape) }
+        ensures moved { IfOk result (λ other. other.moved ≡ replicate 27 0) }
+    {
+        let layout = self.layout.clone()?;
+        let bits = copy_of(self.alloc, &self.bits)?;
+        let letters = Letters::copy_of(self.alloc, &self.letters)?;
+        let kept = match &self.kept {
+            Some(kept) => Some(kept.relay(self.alloc)?),
+            None => None,
+        };
+        Ok(Table {
+            alloc: self.alloc,
+            layout,
+            rows: self.rows,
+            bits,
+            letters,
+            kept,
+            moved: [0; 27],
+        })
+    }
+
+    // ---- letters
+
+    /// Makes letter `x` of each row what an operation makes of it and letter `y`, which may be the same. Its word steps
+    /// are counted: for two letters of `n` rows, a step for each `O::SPAN` rows at most, and one for each 64 at least.
+    pub fn combine(&mut self, op: BoolOp, x: Letter, y: Letter, steps: &mut Steps)
+        ensures shape { self.new.shape ≡ edit self.old.shape (Command.Combine op x y) }
+        ensures moved { self.new.moved ≡ self.old.moved }
+        ensures steps { x ≢ y → Takes steps.old steps.new (groups (length self.old.shape.rows) 64)
+            (groups (length self.old.shape.rows) O.SPAN) }
+    {
+        self.letters.combine(op, x.index(), y.index(), steps);
+    }
+
     // ---- commands
 
     /// Carries a command out and replies to it.
     ///
     /// A command to which a cause applies is refused for the first that does, without memory being taken. Any other is
-    /// carried out, unless memory is wanted: only insertions, copies of rows behind the last one, `Keep` and replies
-    /// that tell of rows may want it. A command that is not carried out changes nothing.
+    /// carried out, unless memory is wanted: only insertions, copies of rows behind the last one, `Load`, `Keep` and
+    /// replies that tell of rows may want it. A command that is not carried out changes nothing.
     pub fn apply(&mut self, command: &Command) -> Result<Reply, Fault>
         // The first cause that applies refuses, and nothing else does.
         ensures cause { MatchOption (cause_in self.old.shape command.now) (IsOkUnless result Fault.Memory)
@@ -224,6 +278,7 @@ impl<A: BitViewSized, O: WordPaths<A::Store> + Digits<A::Store>> Table<A, O> {
             } => Ok(self.rotate(*start, *upto, *amount)),
             Command::Dup { start, upto } => self.dup(*start, *upto),
             Command::Image => self.image(),
+            Command::Load { rows, bytes } => self.load(*rows, bytes.as_slice()),
             Command::Keep => {
                 self.keep()?;
                 Ok(Reply::Done)
@@ -233,6 +288,22 @@ impl<A: BitViewSized, O: WordPaths<A::Store> + Digits<A::Store>> Table<A, O> {
                 self.back();
                 Ok(Reply::Done)
             }
+            Command::Mark {
+                letter,
+                field: Some(index),
+                test,
+                value,
+            } => Ok(self.mark(*letter, *index, *test, *value)),
+            // A field that the layout lacks is a cause.
+            Command::Mark { .. } => Ok(Reply::Done),
+            Command::Combine { op, letter, other } => {
+                self.combine(*op, *letter, *other, &mut Steps::new());
+                Ok(Reply::Done)
+            }
+            Command::Not(letter) => Ok(self.invert(*letter)),
+            Command::Count(letter) => Ok(Reply::Count(self.letters.count(letter.index()))),
+            Command::List(letter) => self.list(*letter),
+            Command::Drop(letter) => Ok(self.drop_marked(*letter)),
         }
     }
 
@@ -346,6 +417,73 @@ impl<A: BitViewSized, O: WordPaths<A::Store> + Digits<A::Store>> Table<A, O> {
         dup_rows(&mut self.bits, self.rows, width, start, upto).unwrap();
         self.rows += upto - start;
         Ok(Reply::Done)
+    }
+
+    // No memory is taken before the bytes are known to be an image; all new lists are made before the old ones go.
+    fn load(&mut self, rows: u64, bytes: &[u8]) -> Result<Reply, AllocError>
+        requires { IsAccepted self.old.shape (Command.Load rows bytes.now) }
+        ensures ok { OnOk result (self.new.shape ≡ edit self.old.shape (Command.Load rows bytes.now)) }
+        ensures reply { IfOk result (λ reply. reply ≡ Done) }
+        ensures err { OnErr result (self.new ≡ self.old) }
+    {
+        let bits = match read::<A::Store, O>(self.alloc, &self.layout, rows, bytes) {
+            Ok(bits) => bits,
+            // The bytes are an image of so many rows, and these are not too many.
+            Err(_) => return Err(AllocError),
+        };
+        let rows = rows as usize;
+        let letters = Letters::of_rows(self.alloc, rows)?;
+        self.rows = rows;
+        self.bits = bits;
+        self.letters = letters;
+        Ok(Reply::Done)
+    }
+
+    fn mark(&mut self, letter: Letter, field: usize, test: Test, value: i128) -> Reply
+        requires { IsAccepted self.old.shape (Command.Mark letter (Some field) test value) }
+        ensures shape { self.new.shape ≡ edit self.old.shape (Command.Mark letter (Some field) test value) }
+        ensures reply { result ≡ Done }
+    {
+        let letter = letter.index();
+        mark_rows(
+            &mut self.letters,
+            &self.layout,
+            &self.bits,
+            letter,
+            field,
+            test,
+            value,
+        );
+        Reply::Done
+    }
+
+    fn invert(&mut self, letter: Letter) -> Reply
+        ensures shape { self.new.shape ≡ edit self.old.shape (Command.Not letter) }
+        ensures reply { result ≡ Done }
+    {
+        self.letters.invert(letter.index());
+        Reply::Done
+    }
+
+    fn list(&self, letter: Letter) -> Result<Reply, AllocError>
+        ensures { IfOk result (λ reply. reply ≡ reply_to self.now.shape (Command.List letter)) }
+    {
+        let rows = places_of_ones(self.alloc, self.letter_bits(letter))?;
+        Ok(Reply::Rows(RowNumbers::new(rows)))
+    }
+
+    fn drop_marked(&mut self, letter: Letter) -> Reply
+        ensures shape { self.new.shape ≡ edit self.old.shape (Command.Drop letter) }
+        ensures reply { result ≡ Done }
+    {
+        let width = self.layout.row_bits();
+        let letter = letter.index();
+        let marked = self.letters.list(letter);
+        let (left, rows) = keep_rows_of(&mut self.bits, self.rows, width, marked);
+        let letters = self.letters.drop_rows(letter);
+        self.moved = all_writes(rows, letters);
+        self.rows = left;
+        Reply::Done
     }
 
     fn image(&self) -> Result<Reply, AllocError>

@@ -1,0 +1,138 @@
+-- Rows whose letters change.
+use Rattle.std.proofs.Common.{◌≡◌, ℕ, zero, suc, ◌+◌, ◌<◌, ◌≤◌, Bool, true, false, not, List, [], ◌∷◌, ◌++◌, length, map}
+use Rattle.std.proofs.Common.{get_or, take, inl, inr, refl, sym, ap, ap₂, ◌∙◌, arith, if◌then◌else◌, add-one}
+use Rattle.std.specs.Prelude.{count_by, replicate, slice_index_or, slice_set}
+use Rattle.std.specs.List.{filter}
+use Rattle.std.specs.FinSet as set
+use Rattle.std.proofs.lemmas.Bool.{cases_Bool}
+use Rattle.std.proofs.lemmas.List.Sums.{length-filter, sum_by-cons}
+
+use Rattle.bit_table_layout.specs.Layouts.{LayoutShape, row_width}
+use Rattle.bit_table_layout.specs.Readings.{rows_from}
+use Rattle.bit_table_layout.specs.Rows.{Row}
+use Rattle.bit_table_letter.specs.Marks.{LetterSet, bears, with_letter}
+use Rattle.tryit.specs.Marks.{row_bears, marked, rows_passing, left_of, decided, lettered}
+use Rattle.tryit.specs.Told.{told, ones_from}
+
+-- a letter that is decided by the other letters
+pub lettered_decided : (x : ℕ) (decide : LetterSet → Bool) (rows : List Row) (marks : List LetterSet)
+    → length rows ≡ length marks
+    → lettered rows (decided x decide marks) ≡ marked x (λ (row : Row). decide row.letters) (lettered rows marks)
+lettered_decided x decide [] marks same = refl
+lettered_decided x decide (row ∷ rows) [] same = absurd (omega (arith, same))
+lettered_decided x decide (row ∷ rows) (letters ∷ marks) same =
+    ap (λ (rs : List Row). record row { letters = with_letter x (decide letters) letters } ∷ rs)
+    (lettered_decided x decide rows marks (omega (arith, same)))
+
+-- a letter that is decided by what the letters do not change
+pub lettered_told : (x : ℕ) (decide : Row → Bool) → ((row : Row) (letters : LetterSet) → decide (record row { letters = letters }) ≡ decide row)
+    → (rows : List Row) (marks : List LetterSet) → length rows ≡ length marks
+    → lettered rows (told x (map decide rows) marks) ≡ marked x decide (lettered rows marks)
+lettered_told x decide blind [] marks same = refl
+lettered_told x decide blind (row ∷ rows) [] same = absurd (omega (arith, same))
+lettered_told x decide blind (row ∷ rows) (letters ∷ marks) same =
+    ap₂ (λ (goes : Bool) (rs : List Row). record row { letters = with_letter x goes letters } ∷ rs)
+    (sym (blind row letters)) (lettered_told x decide blind rows marks (omega (arith, same)))
+
+pub length-told : (x : ℕ) (flags : List Bool) (marks : List LetterSet) → length (told x flags marks) ≡ length marks
+length-told x [] marks = refl
+length-told x (flag ∷ flags) [] = refl
+length-told x (flag ∷ flags) (letters ∷ marks) = ap suc (length-told x flags marks)
+
+-- one flag more
+pub told_more : (x : ℕ) (flags : List Bool) (flag : Bool) (marks : List LetterSet) → length flags < length marks
+    → told x (flags ++ (flag ∷ [])) marks
+    ≡ slice_set (told x flags marks) (length flags)
+    (with_letter x flag (slice_index_or (told x flags marks) (length flags) set.empty))
+told_more x [] flag [] low = absurd (omega (arith, low))
+told_more x [] flag (letters ∷ marks) low = refl
+told_more x (first ∷ flags) flag [] low = absurd (omega (arith, low))
+told_more x (first ∷ flags) flag (letters ∷ marks) low =
+    ap (λ ls. with_letter x first letters ∷ ls) (told_more x flags flag marks (omega (arith, low)))
+
+-- how many rows bear a letter
+counted_first : {X : Type 0} (p : X → Bool) (x : X) (xs : List X)
+    → count_by p (x ∷ xs) ≡ (if p x then 1 else 0) + count_by p xs
+counted_first p x xs = sum_by-cons (λ y. if p y then 1 else 0) x xs
+
+pub count-lettered : (x : ℕ) (rows : List Row) (marks : List LetterSet) → length rows ≡ length marks
+    → count_by (bears x) marks ≡ count_by (row_bears x) (lettered rows marks)
+count-lettered x [] [] same = refl
+count-lettered x [] (letters ∷ marks) same = absurd (omega (arith, same))
+count-lettered x (row ∷ rows) [] same = absurd (omega (arith, same))
+count-lettered x (row ∷ rows) (letters ∷ marks) same =
+    counted_first (bears x) letters marks
+    ∙ ap (λ n. (if bears x letters then 1 else 0) + n) (count-lettered x rows marks (omega (arith, same)))
+    ∙ sym (counted_first (row_bears x) (record row { letters = letters }) (lettered rows marks))
+
+-- the numbers of the rows that bear a letter
+pub passing-lettered : (x from : ℕ) (rows : List Row) (marks : List LetterSet) → length rows ≡ length marks
+    → ones_from from (map (bears x) marks) ≡ rows_passing (row_bears x) from (lettered rows marks)
+passing-lettered x from [] [] same = refl
+passing-lettered x from [] (letters ∷ marks) same = absurd (omega (arith, same))
+passing-lettered x from (row ∷ rows) [] same = absurd (omega (arith, same))
+passing-lettered x from (row ∷ rows) (letters ∷ marks) same =
+    ap (λ ns. if bears x letters then from ∷ ns else ns)
+    (passing-lettered x (suc from) rows marks (omega (arith, same)))
+
+-- the rows that do not bear a letter
+pub staying-lettered : (x : ℕ) (rows : List Row) (marks : List LetterSet) → length rows ≡ length marks
+    → lettered (left_of (map (bears x) marks) rows) (filter (λ letters. not (bears x letters)) marks)
+    ≡ filter (λ row. not (row_bears x row)) (lettered rows marks)
+unfolding left_of
+staying-lettered x [] [] same = refl
+staying-lettered x [] (letters ∷ marks) same = absurd (omega (arith, same))
+staying-lettered x (row ∷ rows) [] same = absurd (omega (arith, same))
+staying-lettered x (row ∷ rows) (letters ∷ marks) same =
+    let rest = staying-lettered x rows marks (omega (arith, same)) in
+    elim (cases_Bool (bears x letters)) [
+      | inl goes ↦ rw goes rest
+      | inr stays ↦ rw stays (ap (λ (rs : List Row). record row { letters = letters } ∷ rs) rest)
+    ]
+
+-- rows as their bits give them back bear no letter
+pub blank-from : (l : LayoutShape) (n : ℕ) (bits : List Bool)
+    → lettered (rows_from l n bits) (replicate n set.empty) ≡ rows_from l n bits
+blank-from l zero bits = refl
+blank-from l (suc n) bits =
+    ap (λ (rs : List Row). get_or (rows_from l (suc n) bits) 0 (record { numbers = []; letters = set.empty }) ∷ rs)
+    (blank-from l n _)
+
+-- as many rows stay as do not bear the letter
+pub count-staying : (x : ℕ) (marks : List LetterSet)
+    → length (filter (λ letters. not (bears x letters)) marks) ≡ count_by not (map (bears x) marks)
+count-staying x [] = refl
+count-staying x (letters ∷ marks) =
+    length-filter (λ s. not (bears x s)) (letters ∷ marks)
+    ∙ counted_first (λ s. not (bears x s)) letters marks
+    ∙ ap (λ n. (if not (bears x letters) then 1 else 0) + n)
+    (sym (length-filter (λ s. not (bears x s)) marks) ∙ count-staying x marks)
+    ∙ sym (counted_first not (bears x letters) (map (bears x) marks))
+
+-- which rows bear a letter
+pub bears-letters : (x : ℕ) (rows : List Row) → map (bears x) (map (λ (row : Row). row.letters) rows) ≡ map (row_bears x) rows
+bears-letters x [] = refl
+bears-letters x (row ∷ rows) = ap (λ bs. bears x row.letters ∷ bs) (bears-letters x rows)
+
+-- ---- the places of ones
+
+-- one bit more
+pub ones_more : (place i : ℕ) (bits : List Bool) (d : Bool) → i < length bits
+    → ones_from place (take (i + 1) bits)
+    ≡ ones_from place (take i bits) ++ (if get_or bits i d then (place + i) ∷ [] else [])
+ones_more place i [] d low = absurd (omega (arith, low))
+ones_more place zero (bit ∷ bits) d low =
+    let same : place ≡ place + 0 = omega arith in
+    ap (λ k. if bit then k ∷ [] else []) same
+ones_more place (suc i) (bit ∷ bits) d low =
+    let count : suc i + 1 ≡ suc (i + 1) = omega arith in
+    let next : suc place + i ≡ place + suc i = omega arith in
+    let rest : ones_from (suc place) (take (i + 1) bits)
+        ≡ ones_from (suc place) (take i bits) ++ (if get_or bits i d then (place + suc i) ∷ [] else []) =
+    ones_more (suc place) i bits d (omega (arith, low))
+    ∙ ap (λ k. ones_from (suc place) (take i bits) ++ (if get_or bits i d then k ∷ [] else [])) next in
+    ap (λ m. ones_from place (take m (bit ∷ bits))) count
+    ∙ elim (cases_Bool bit) [
+      | inl one ↦ rw one (ap (λ ks. place ∷ ks) rest)
+      | inr none ↦ rw none rest
+    ]

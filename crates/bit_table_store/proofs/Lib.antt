@@ -1,2 +1,4 @@
 pub mod LetteredLemmas
+pub mod MarkedLemmas
+pub mod NumberLemmas
 pub mod TableLemmas

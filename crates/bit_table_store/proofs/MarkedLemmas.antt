@@ -1,4 +1,8 @@
--- Rows whose letters change.
+-- Rows whose letters change, and rows that go.
+--
+-- Letters decided by letters: `lettered_decided`; told row by row: `lettered_told`, `told_more`, `length-told`. What is
+-- told of them: `count-lettered`, `passing-lettered`, `ones_more`, `bears-letters`. Rows that do not bear a letter:
+-- `staying-lettered`, `count-staying`. Rows without letters: `blank-from`.
 use Rattle.std.proofs.Common.{◌≡◌, ℕ, zero, suc, ◌+◌, ◌<◌, ◌≤◌, Bool, true, false, not, List, [], ◌∷◌, ◌++◌, length, map}
 use Rattle.std.proofs.Common.{get_or, take, inl, inr, refl, sym, ap, ap₂, ◌∙◌, arith, if◌then◌else◌, add-one}
 use Rattle.std.specs.Prelude.{count_by, replicate, slice_index_or, slice_set}
@@ -6,13 +10,15 @@ use Rattle.std.specs.List.{filter}
 use Rattle.std.specs.FinSet as set
 use Rattle.std.proofs.lemmas.Bool.{cases_Bool}
 use Rattle.std.proofs.lemmas.List.Sums.{length-filter, sum_by-cons}
-
 use Rattle.bit_table_layout.specs.Layouts.{LayoutShape, row_width}
 use Rattle.bit_table_layout.specs.Readings.{rows_from}
 use Rattle.bit_table_layout.specs.Rows.{Row}
 use Rattle.bit_table_letter.specs.Marks.{LetterSet, bears, with_letter}
-use Rattle.tryit.specs.Marks.{row_bears, marked, rows_passing, left_of, decided, lettered}
-use Rattle.tryit.specs.Told.{told, ones_from}
+use Rattle.bit_table_commands.specs.Marks.{row_bears, marked, rows_passing}
+use Rattle.bit_table_letters.specs.Marks.{decided}
+use Rattle.bit_table_moves.specs.RowsKept.{left_of}
+use Rattle.bit_table_store.specs.Lettered.{lettered}
+use Rattle.bit_table_store.specs.Told.{told, ones_from}
 
 -- a letter that is decided by the other letters
 pub lettered_decided : (x : ℕ) (decide : LetterSet → Bool) (rows : List Row) (marks : List LetterSet)
@@ -73,7 +79,7 @@ passing-lettered x from [] (letters ∷ marks) same = absurd (omega (arith, same
 passing-lettered x from (row ∷ rows) [] same = absurd (omega (arith, same))
 passing-lettered x from (row ∷ rows) (letters ∷ marks) same =
     ap (λ ns. if bears x letters then from ∷ ns else ns)
-    (passing-lettered x (suc from) rows marks (omega (arith, same)))
+    (passing-lettered x (from + 1) rows marks (omega (arith, same)))
 
 -- the rows that do not bear a letter
 pub staying-lettered : (x : ℕ) (rows : List Row) (marks : List LetterSet) → length rows ≡ length marks
@@ -126,11 +132,11 @@ ones_more place zero (bit ∷ bits) d low =
     ap (λ k. if bit then k ∷ [] else []) same
 ones_more place (suc i) (bit ∷ bits) d low =
     let count : suc i + 1 ≡ suc (i + 1) = omega arith in
-    let next : suc place + i ≡ place + suc i = omega arith in
-    let rest : ones_from (suc place) (take (i + 1) bits)
-        ≡ ones_from (suc place) (take i bits) ++ (if get_or bits i d then (place + suc i) ∷ [] else []) =
-    ones_more (suc place) i bits d (omega (arith, low))
-    ∙ ap (λ k. ones_from (suc place) (take i bits) ++ (if get_or bits i d then k ∷ [] else [])) next in
+    let next : place + 1 + i ≡ place + suc i = omega arith in
+    let rest : ones_from (place + 1) (take (i + 1) bits)
+    ≡ ones_from (place + 1) (take i bits) ++ (if get_or bits i d then (place + suc i) ∷ [] else []) =
+    ones_more (place + 1) i bits d (omega (arith, low))
+    ∙ ap (λ k. ones_from (place + 1) (take i bits) ++ (if get_or bits i d then k ∷ [] else [])) next in
     ap (λ m. ones_from place (take m (bit ∷ bits))) count
     ∙ elim (cases_Bool bit) [
       | inl one ↦ rw one (ap (λ ks. place ∷ ks) rest)

@@ -2,7 +2,13 @@
 use Rattle.std.proofs.Common.{◌≡◌, ℕ, ◌+◌, ◌-◌, ◌*◌, ◌≤◌, true, List, Bool, ◌∷◌, ◌++◌, length}
 use Rattle.std.proofs.Common.{take, drop, slice_range, arith, take_at, Option, Some, None, refl, sym, ap, ap₂, ◌∙◌}
 use Rattle.std.proofs.Common.{subst}
-use Rattle.std.specs.Prelude.{ℤ, is_some, option_map, IfSome}
+use Rattle.std.specs.Prelude.{ℤ, count_by, filter, is_some, map, not, option_map, replicate, IfSome}
+use Rattle.std.proofs.lemmas.List.{length-map}
+use Rattle.bit_table_layout.specs.Loads.{bits_of_bytes, rows_in_bytes}
+use Rattle.bit_table_layout.proofs.RowLemmas.{rows_from-take}
+use Rattle.bit_table_commands.specs.Marks.{marked, row_bears}
+use Rattle.bit_table_moves.specs.RowsKept.{kept}
+use Rattle.bit_table_row_lists.proofs.KeptLemmas.{rows_after_keep}
 use Rattle.std.proofs.Math.Nat.{mul-le-mul_left, mul-le-mul_right}
 use Rattle.std.specs.FinSet as set
 use Rattle.std.proofs.lemmas.List.{places}
@@ -19,13 +25,16 @@ use Rattle.bit_table_commands.specs.Accepted.{IsAccepted, IsInRange, HasLawfulVa
 use Rattle.bit_table_commands.specs.Edits.{edit, rows_after, kept_after}
 use Rattle.bit_table_commands.specs.Tables.{TableShape, AreHeld, IsTable, IsTableOf}
 use Rattle.bit_table_letters.specs.RowEdit.{edited_by, count_after, LiesIn}
-use Rattle.bit_table_letter.specs.Marks.{LetterSet}
+use Rattle.bit_table_letter.specs.Marks.{LetterSet, bears}
+use Rattle.bit_table_letters.specs.Marks.{decided}
 use Rattle.bit_table_letters.proofs.EditLemmas.{length-edited}
 use Rattle.bit_table_letters.specs.declared.edit.RowEdit.{RowEdit}
 use Rattle.bit_table_store.specs.Lettered.{lettered, all_letters, changed_at}
+use Rattle.bit_table_store.specs.Told.{told}
 use Rattle.bit_table_store.specs.View.{table_from, rows_of, StoredRows, AreStored, TableView}
 use Rattle.bit_table_store.proofs.LetteredLemmas.{length-lettered, letters_lettered, bits_lettered, are_rows-lettered}
 use Rattle.bit_table_store.proofs.LetteredLemmas.{lettered_edited, lettered_changed}
+use Rattle.bit_table_store.proofs.MarkedLemmas.{blank-from, lettered_decided, lettered_told, staying-lettered}
 
 -- the view of a table that stores these rows, and keeps these
 abbrev pub view_from : LayoutShape → StoredRows → Option StoredRows → List ℕ → TableView
@@ -72,6 +81,40 @@ module _ (l : LayoutShape) (s : StoredRows) (stored : AreStored l s) where
         are_rows-lettered l (rows_from l s.rows s.bits) s.letters ∙ are_rows-rows_from l s.rows s.bits lawful;
     room = subst (λ m. m * row_width l.fields ≤ MAX_BITS) (sym length-stored) stored.room;
   }
+
+-- the rows after a change of letters, or when some of them go, or when others are loaded
+module _ (l : LayoutShape) (s : StoredRows) (stored : AreStored l s) where
+  pub rows_decided : (x : ℕ) (decide : LetterSet → Bool) (letters : List LetterSet)
+      → letters ≡ decided x decide s.letters
+      → rows_of l (record s { letters = letters }) ≡ marked x (λ (row : Row). decide row.letters) (rows_of l s)
+  rows_decided x decide letters is =
+      ap (lettered (rows_from l s.rows s.bits)) is
+      ∙ lettered_decided x decide (rows_from l s.rows s.bits) s.letters (as_many l s stored)
+
+  pub rows_told_by : (x : ℕ) (decide : Row → Bool) (letters : List LetterSet)
+      → ((row : Row) (letters : LetterSet) → decide (record row { letters = letters }) ≡ decide row)
+      → letters ≡ told x (map decide (rows_from l s.rows s.bits)) s.letters
+      → rows_of l (record s { letters = letters }) ≡ marked x decide (rows_of l s)
+  rows_told_by x decide letters blind is =
+      ap (lettered (rows_from l s.rows s.bits)) is
+      ∙ lettered_told x decide blind (rows_from l s.rows s.bits) s.letters (as_many l s stored)
+
+  pub rows_staying : (x : ℕ) (now : StoredRows) → now.rows ≡ count_by not (map (bears x) s.letters)
+      → now.bits ≡ kept (row_width l.fields) (map (bears x) s.letters) s.bits
+      → now.letters ≡ filter (λ letters. not (bears x letters)) s.letters
+      → rows_of l now ≡ filter (λ (row : Row). not (row_bears x row)) (rows_of l s)
+  rows_staying x now count bits letters =
+      ap₂ lettered (ap₂ (rows_from l) count bits
+      ∙ rows_after_keep l s.rows s.bits (map (bears x) s.letters) stored.fits
+      (length-map s.letters (bears x) ∙ stored.marked)) letters
+      ∙ staying-lettered x (rows_from l s.rows s.bits) s.letters (as_many l s stored)
+
+pub rows_loaded : (l : LayoutShape) (now : StoredRows) (bytes : List ℕ)
+    → now.bits ≡ take (now.rows * row_width l.fields) (bits_of_bytes l.rule bytes)
+    → now.letters ≡ replicate now.rows set.empty → rows_of l now ≡ rows_in_bytes l now.rows bytes
+rows_loaded l now bytes bits letters =
+    ap₂ lettered (ap (rows_from l now.rows) bits ∙ rows_from-take l now.rows (bits_of_bytes l.rule bytes)) letters
+    ∙ blank-from l now.rows (bits_of_bytes l.rule bytes)
 
 -- there are no more stored rows than a list may have bits, and as many sets of letters
 module _ (l : LayoutShape) (s : StoredRows) (lawful : is_layout l ≡ true) (stored : AreStored l s) where

@@ -1,5 +1,5 @@
 -- Letters told row by row, and the places of ones. No public clause cites this module.
-use Rattle.std.specs.Prelude.{ℕ, suc, Bool, List, [], ◌∷◌, if◌then◌else◌}
+use Rattle.std.specs.Prelude.{ℕ, ◌+◌, Bool, List, [], ◌∷◌, if◌then◌else◌}
 use Rattle.bit_table_letter.specs.Marks.{with_letter, LetterSet}
 
 -- the letters of rows, letter x of each as a flag says: of those rows that have a flag
@@ -11,4 +11,4 @@ told x (flag ∷ flags) (letters ∷ marks) = with_letter x flag letters ∷ tol
 -- the places of the ones among bits, of which the first has this place
 abbrev pub ones_from : ℕ → List Bool → List ℕ
 ones_from place [] = []
-ones_from place (bit ∷ bits) = if bit then place ∷ ones_from (suc place) bits else ones_from (suc place) bits
+ones_from place (bit ∷ bits) = if bit then place ∷ ones_from (place + 1) bits else ones_from (place + 1) bits

@@ -6,7 +6,8 @@ use Rattle.bit_table_layout.specs.Readings.{rows_from}
 use Rattle.bit_table_layout.specs.Rows.{Row}
 use Rattle.bit_table_letter.specs.Marks.{LetterSet}
 use Rattle.bit_table_commands.specs.declared.command.Command.{Command}
-use Rattle.bit_table_commands.specs.declared.command.Command.TheVariants.{Insert, Get, Dup, Image, Keep, Load, List}
+use Rattle.bit_table_commands.specs.declared.command.Command.TheVariants.{Insert, Get, Dup, Image, Load, Keep}
+use Rattle.bit_table_commands.specs.declared.command.Command.TheVariants.{List as Listing}
 use Rattle.bit_table_commands.specs.Tables.{TableShape}
 use Rattle.bit_table_store.specs.Lettered.{lettered}
 
@@ -43,6 +44,6 @@ may_want_memory (Get p) = true
 may_want_memory (Dup p q) = true
 may_want_memory Image = true
 may_want_memory (Load n bytes) = true
-may_want_memory (List x) = true
+may_want_memory (Listing x) = true
 may_want_memory Keep = true
 may_want_memory c = false

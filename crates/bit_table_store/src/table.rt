@@ -301,7 +301,7 @@ impl<A: BitViewSized, O: WordPaths<A::Store> + Digits<A::Store>> Table<A, O> {
                 Ok(Reply::Done)
             }
             Command::Not(letter) => Ok(self.invert(*letter)),
-            Command::Count(letter) => Ok(Reply::Count(self.letters.count(letter.index()))),
+            Command::Count(letter) => Ok(self.count(*letter)),
             Command::List(letter) => self.list(*letter),
             Command::Drop(letter) => Ok(self.drop_marked(*letter)),
         }
@@ -463,6 +463,12 @@ impl<A: BitViewSized, O: WordPaths<A::Store> + Digits<A::Store>> Table<A, O> {
     {
         self.letters.invert(letter.index());
         Reply::Done
+    }
+
+    fn count(&self, letter: Letter) -> Reply
+        ensures { result ≡ reply_to self.now.shape (Command.Count letter) }
+    {
+        Reply::Count(self.letters.count(letter.index()))
     }
 
     fn list(&self, letter: Letter) -> Result<Reply, AllocError>

@@ -4,10 +4,11 @@ use Rattle.std.specs.Prelude.{Option, Some, ⊤}
 use Rattle.bit_table_layout.specs.declared.layout.TheConstants.{MAX_BITS}
 use Rattle.bit_table_layout.specs.Fields.{FieldShape, takes}
 use Rattle.bit_table_layout.specs.Layouts.{LayoutShape, row_width}
+use Rattle.bit_table_layout.specs.Loads.{is_image}
 use Rattle.bit_table_layout.specs.Rows.{take_all}
 use Rattle.bit_table_commands.specs.declared.command.Command.{Command}
 use Rattle.bit_table_commands.specs.declared.command.Command.TheVariants.{Insert, Delete, Set, Get, Copy, Swap, Rotate}
-use Rattle.bit_table_commands.specs.declared.command.Command.TheVariants.{Dup, Back}
+use Rattle.bit_table_commands.specs.declared.command.Command.TheVariants.{Dup, Load, Back, Mark}
 use Rattle.bit_table_commands.specs.Tables.{TableShape}
 use Rattle.bit_table_commands.specs.Edits.{edit}
 
@@ -40,7 +41,13 @@ pub record IsTaken (l : LayoutShape) (place : Option ℕ) (v : ℤ) : Type 0 whe
 abbrev pub HasLawfulValues : LayoutShape → Command → Type 0
 HasLawfulValues l (Insert p vs) = AreTaken l vs
 HasLawfulValues l (Set p f v) = IsTaken l f v
+HasLawfulValues l (Mark x f t v) = IsTaken l f v
 HasLawfulValues l c = ⊤
+
+-- the bytes of a command are the image of so many rows
+abbrev pub HasImage : LayoutShape → Command → Type 0
+HasImage l (Load n bytes) = is_image l n bytes ≡ true
+HasImage l c = ⊤
 
 -- rows are kept, where a command wants them
 abbrev pub HasKept : Bool → Command → Type 0
@@ -52,4 +59,5 @@ pub record IsAccepted (t : TableShape) (c : Command) : Type 0 where
   pub in_range : IsInRange (length t.rows) c
   pub values : HasLawfulValues t.layout c
   pub room : length (edit t c).rows * row_width t.layout.fields ≤ MAX_BITS
+  pub image : HasImage t.layout c
   pub kept : HasKept (is_some t.kept) c

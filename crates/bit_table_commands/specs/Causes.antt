@@ -8,10 +8,11 @@ use Rattle.bit_table_layout.specs.declared.cause.Cause.TheVariants as refusal
 use Rattle.bit_table_layout.specs.declared.layout.TheConstants.{MAX_BITS}
 use Rattle.bit_table_layout.specs.Fields.{FieldShape, takes}
 use Rattle.bit_table_layout.specs.Layouts.{LayoutShape, row_width, layout_of}
+use Rattle.bit_table_layout.specs.Loads.{is_image}
 use Rattle.bit_table_layout.specs.Rows.{take_all}
 use Rattle.bit_table_commands.specs.declared.command.Command.{Command}
 use Rattle.bit_table_commands.specs.declared.command.Command.TheVariants.{Insert, Delete, Set, Get, Copy, Swap, Rotate}
-use Rattle.bit_table_commands.specs.declared.command.Command.TheVariants.{Dup, Back}
+use Rattle.bit_table_commands.specs.declared.command.Command.TheVariants.{Dup, Load, Back, Mark}
 use Rattle.bit_table_commands.specs.Commands.{command_of}
 use Rattle.bit_table_commands.specs.Tables.{TableShape, State, table_in}
 use Rattle.bit_table_commands.specs.Edits.{edit}
@@ -28,6 +29,7 @@ field_at l place = option_and_then (slice_get l.fields) place
 -- field: the layout has no field of the name
 abbrev pub wrong_field : LayoutShape → Command → Bool
 wrong_field l (Set p f v) = is_none (field_at l f)
+wrong_field l (Mark x f t v) = is_none (field_at l f)
 wrong_field l c = false
 
 -- whether the row numbers of a command are in range, where there are n rows
@@ -54,6 +56,7 @@ is_taken l place v = option_map_or (λ f. takes f v) (field_at l place) false
 abbrev pub wrong_value : LayoutShape → Command → Bool
 wrong_value l (Insert p vs) = not (take_all l.fields vs)
 wrong_value l (Set p f v) = not (is_taken l f v)
+wrong_value l (Mark x f t v) = not (is_taken l f v)
 wrong_value l c = false
 
 -- full: the rows after the command would have more bits than a table may have
@@ -62,6 +65,7 @@ too_full t c = nat_lt MAX_BITS (length (edit t c).rows * row_width t.layout.fiel
 
 -- image: the bytes are no image of so many rows
 abbrev pub wrong_image : LayoutShape → Command → Bool
+wrong_image l (Load n bytes) = not (is_image l n bytes)
 wrong_image l c = false
 
 -- kept: nothing is kept

@@ -1,16 +1,20 @@
 -- What a command does to a table, and what it answers.
-use Rattle.std.specs.Prelude.{ℕ, ◌+◌, ◌-◌, ℤ, List, [], ◌∷◌, ◌++◌, length, map, take, drop}
+use Rattle.std.specs.Prelude.{ℕ, ◌+◌, ◌-◌, ℤ, List, [], ◌∷◌, ◌++◌, length, map, take, drop, not, filter, count_by}
 use Rattle.std.specs.Prelude.{slice_get, slice_range, slice_set, Option, Some, None, unwrap_or}
 use Rattle.std.specs.List.{swap}
 use Rattle.std.specs.Option.{option_map_or}
 use Rattle.bit_table_layout.specs.Rows.{Row, new_row}
 use Rattle.bit_table_layout.specs.Images.{image_bytes}
+use Rattle.bit_table_layout.specs.Loads.{rows_in_bytes}
+use Rattle.bit_table_letter.specs.Letters.{combined}
 use Rattle.bit_table_commands.specs.declared.command.Command.{Command}
 use Rattle.bit_table_commands.specs.declared.command.Command.TheVariants.{Insert, Delete, Set, Get, Copy, Swap, Rotate}
-use Rattle.bit_table_commands.specs.declared.command.Command.TheVariants.{Dup, Image, Keep, Back}
+use Rattle.bit_table_commands.specs.declared.command.Command.TheVariants.{Dup, Image, Load, Keep, Back, Mark, Combine}
+use Rattle.bit_table_commands.specs.declared.command.Command.TheVariants.{Not, Count, List as Listing, Drop}
 use Rattle.bit_table_commands.specs.declared.reply.Reply.{Reply}
 use Rattle.bit_table_commands.specs.declared.reply.Reply.TheVariants as answered
 use Rattle.bit_table_commands.specs.Tables.{TableShape}
+use Rattle.bit_table_commands.specs.Marks.{row_bears, marked, passes, number_in_field, rows_passing}
 
 -- a row with v as its number of this field
 abbrev pub with_number : Option ℕ → ℤ → Row → Row
@@ -27,11 +31,17 @@ edited rows (Swap p q) = swap rows p q
 edited rows (Rotate p q k) =
     take p rows ++ (slice_range rows (p + k) q ++ (slice_range rows p (p + k) ++ drop q rows))
 edited rows (Dup p q) = rows ++ slice_range rows p q
+edited rows (Mark x f t v) = marked x (λ row. passes t (number_in_field f row) v) rows
+edited rows (Combine op x y) = marked x (λ row. combined op (row_bears x row) (row_bears y row)) rows
+edited rows (Not x) = marked x (λ row. not (row_bears x row)) rows
+edited rows (Drop x) = filter (λ row. not (row_bears x row)) rows
 edited rows c = rows
 
--- the rows that a command leaves: `back` those that are kept, any other what it makes of the rows
+-- the rows that a command leaves: `back` those that are kept, `load` those that its bytes hold, which bear no letter, any
+-- other what it makes of the rows
 abbrev pub rows_after : TableShape → Command → List Row
 rows_after t Back = unwrap_or t.kept t.rows
+rows_after t (Load n bytes) = rows_in_bytes t.layout n bytes
 rows_after t c = edited t.rows c
 
 -- the rows that are kept after a command, if any: `keep` keeps the rows, and after `back` nothing is kept
@@ -52,4 +62,6 @@ numbers_at p rows = option_map_or (λ (row : Row). row.numbers) (slice_get rows 
 abbrev pub reply_to : TableShape → Command → Reply
 reply_to t (Get p) = answered.Numbers (numbers_at p t.rows)
 reply_to t Image = answered.Image (length t.rows) (image_bytes t.layout t.rows)
+reply_to t (Count x) = answered.Count (count_by (row_bears x) t.rows)
+reply_to t (Listing x) = answered.Rows (rows_passing (row_bears x) 0 t.rows)
 reply_to t c = answered.Done

@@ -1,6 +1,7 @@
 pub mod Commands
 pub mod CommandSteps
 pub mod Replies
+pub mod Marks
 pub mod Tables
 pub mod Edits
 pub mod Causes

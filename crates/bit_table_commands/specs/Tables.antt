@@ -1,9 +1,6 @@
 -- Tables and states.
 use Rattle.std.specs.Prelude.{◌≡◌, ℕ, ◌*◌, ◌≤◌, true, Bool, List, [], length, Option, Some, None, option_map}
 use Rattle.std.specs.Prelude.{is_some, IfSome}
-use Rattle.std.specs.Coded.{Coded, coded_ℕ}
-use Rattle.std.specs.FinSet as set
-use Rattle.std.specs.Ordering.{nat_cmp}
 use Rattle.bit_table_layout.specs.declared.layout.TheConstants.{MAX_BITS}
 use Rattle.bit_table_layout.specs.Layouts.{LayoutShape, is_layout, row_width}
 use Rattle.bit_table_layout.specs.Rows.{Row, are_rows}
@@ -53,7 +50,3 @@ pub record IsTableOf (l : LayoutShape) (n : ℕ) (has_kept : Bool) (t : TableSha
   pub layout : t.layout ≡ l
   pub count : length t.rows ≡ n
   pub kept : is_some t.kept ≡ has_kept
-
--- a set of letters is stored as the list of them
-abbrev pub letters_code : Coded (set.FinSet nat_cmp)
-letters_code = set.code coded_ℕ

@@ -1,21 +1,23 @@
 //! What refuses a command.
-ghost use Rattle.std.specs.Prelude.{◌≡◌};
+ghost use Rattle.std.specs.Prelude.{◌≡◌, ◌*◌, ◌≤◌};
 ghost use Rattle.std.specs.Option.{option_copied};
+ghost use Rattle.bit_table_layout.specs.Layouts.{row_width};
 ghost use Rattle.bit_table_layout.specs.Rows.{take_all};
 ghost use Rattle.bit_table_commands.specs.Causes.{cause_in, field_at, is_in_range, is_taken, nothing_kept};
-ghost use Rattle.bit_table_commands.specs.Causes.{wrong_field, wrong_form, wrong_value};
-ghost use Rattle.bit_table_commands.specs.CauseSteps.{rows_added};
+ghost use Rattle.bit_table_commands.specs.Causes.{wrong_field, wrong_form, wrong_image, wrong_value};
+ghost use Rattle.bit_table_commands.specs.CauseSteps.{rows_counted, rows_loaded};
 ghost use Rattle.bit_table_commands.specs.CuttingOff.{CuttingOffChangesNothing};
 ghost use Rattle.bit_table_commands.specs.Tables.{TableShape, IsTableOf};
 
 use super::command::Command;
-use bit_table_layout::{Cause, Field, Layout, MAX_BITS};
+use bit_table_layout::{Cause, Field, Layout, MAX_BITS, image};
 
 impl Command {
     /// The first cause that refuses the command in a table of this layout with so many rows, where rows are kept or
     /// not: `Form` for an insertion that has not one value a field, `Field` for a field that the layout lacks, `Row`
     /// for a row number out of range, `Value` for a number that its field does not take, `Full` where the rows after
-    /// the command would have more than `MAX_BITS` bits, `Kept` where the command wants kept rows and none are kept.
+    /// the command would have more than `MAX_BITS` bits, `Image` for bytes that are no image of so many rows, `Kept`
+    /// where the command wants kept rows and none are kept.
     pub fn cause(&self, layout: &Layout, rows: usize, kept: bool) -> Option<Cause>
         ensures { (t : TableShape) → IsTableOf layout.now rows kept t → result ≡ cause_in t self.now }
     {
@@ -31,9 +33,11 @@ impl Command {
         if self.has_wrong_value(layout) {
             return Some(Cause::Value);
         }
-        let rows = rows as u128 + u128::from(self.rows_added());
-        if rows * layout.row_bits() as u128 > MAX_BITS as u128 {
+        if self.rows_counted(rows as u64) * layout.row_bits() as u128 > MAX_BITS as u128 {
             return Some(Cause::Full);
+        }
+        if self.has_wrong_image(layout) {
+            return Some(Cause::Image);
         }
         if self.lacks_kept(kept) {
             return Some(Cause::Kept);
@@ -56,7 +60,9 @@ impl Command {
         ensures { result ≡ wrong_field layout.now self.now }
     {
         match self {
-            Command::Set { field, .. } => field_at(layout, *field).is_none(),
+            Command::Set { field, .. } | Command::Mark { field, .. } => {
+                field_at(layout, *field).is_none()
+            }
             _ => false,
         }
     }
@@ -90,7 +96,22 @@ impl Command {
     {
         match self {
             Command::Insert { values, .. } => !take_all(layout.fields(), values.as_slice()),
-            Command::Set { field, value, .. } => !is_taken(layout, *field, *value),
+            Command::Set { field, value, .. } | Command::Mark { field, value, .. } => {
+                !is_taken(layout, *field, *value)
+            }
+            _ => false,
+        }
+    }
+
+    // Whether bytes are no image of so many rows.
+    fn has_wrong_image(&self, layout: &Layout) -> bool
+        requires { rows_loaded self.now * row_width layout.now.fields ≤ MAX_BITS }
+        ensures { result ≡ wrong_image layout.now self.now }
+    {
+        match self {
+            Command::Load { rows, bytes } => {
+                !image::is_image(layout, *rows as usize, bytes.as_slice())
+            }
             _ => false,
         }
     }
@@ -105,14 +126,17 @@ impl Command {
         }
     }
 
-    // How many rows the command adds.
-    fn rows_added(&self) -> u64
-        ensures { result ≡ rows_added self.now }
+    // How many rows need room, where there are so many before the command.
+    fn rows_counted(&self, rows: u64) -> u128
+        ensures { result ≡ rows_counted rows self.now }
     {
         match self {
-            Command::Insert { .. } => 1,
-            Command::Dup { start, upto } => upto.saturating_sub(*start),
-            _ => 0,
+            Command::Insert { .. } => u128::from(rows) + 1,
+            Command::Dup { start, upto } => {
+                u128::from(rows) + u128::from(upto.saturating_sub(*start))
+            }
+            Command::Load { rows, .. } => u128::from(*rows),
+            _ => u128::from(rows),
         }
     }
 }

@@ -14,12 +14,21 @@ pub(crate) enum Name {
     Rotate,
     Dup,
     Image,
+    Load,
     Keep,
     Back,
+    Mark,
+    And,
+    Or,
+    Xor,
+    Not,
+    Count,
+    List,
+    Drop,
 }
 
 // All names.
-const NAMES: [Name; 11] = [
+const NAMES: [Name; 20] = [
     Name::Insert,
     Name::Delete,
     Name::Set,
@@ -29,8 +38,17 @@ const NAMES: [Name; 11] = [
     Name::Rotate,
     Name::Dup,
     Name::Image,
+    Name::Load,
     Name::Keep,
     Name::Back,
+    Name::Mark,
+    Name::And,
+    Name::Or,
+    Name::Xor,
+    Name::Not,
+    Name::Count,
+    Name::List,
+    Name::Drop,
 ];
 
 impl Name {
@@ -48,8 +66,17 @@ impl Name {
             Name::Rotate => "rotate",
             Name::Dup => "dup",
             Name::Image => "image",
+            Name::Load => "load",
             Name::Keep => "keep",
             Name::Back => "back",
+            Name::Mark => "mark",
+            Name::And => "and",
+            Name::Or => "or",
+            Name::Xor => "xor",
+            Name::Not => "not",
+            Name::Count => "count",
+            Name::List => "list",
+            Name::Drop => "drop",
         }
     }
 

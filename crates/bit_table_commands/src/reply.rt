@@ -2,7 +2,7 @@
 ghost use Rattle.std.specs.Prelude.{◌≡◌, IfOk, map};
 ghost use Rattle.std.specs.Fmt.{signed_decimal};
 ghost use Rattle.std.specs.List.{join_with_byte};
-ghost use Rattle.bit_table_commands.specs.Replies.{reply_text};
+ghost use Rattle.bit_table_commands.specs.Replies.{reply_text, row_numbers};
 
 use super::items::Items;
 use bit_table_layout::image;
@@ -10,6 +10,9 @@ use std::alloc::{AllocError, Global};
 
 /// The numbers of a row, one a field, in order.
 pub type Numbers = Items<i128>;
+
+/// Row numbers, ascending.
+pub type RowNumbers = Items<usize>;
 
 /// The bytes of an image.
 pub type ImageBytes = Items<u8>;
@@ -21,19 +24,25 @@ pub enum Reply {
     Done,
     /// The numbers of a row.
     Numbers(Numbers),
+    /// How many rows bear a letter.
+    Count(usize),
+    /// Which rows bear a letter.
+    Rows(RowNumbers),
     /// The row count and the image bytes of the rows.
     Image { rows: usize, bytes: ImageBytes },
 }
 
 impl Reply {
-    /// The answer line of the reply, with its line end: `ok`, the numbers in decimal with a space between each two, or
-    /// the image line.
+    /// The answer line of the reply, with its line end: `ok`, numbers in decimal with a space between each two (`none`
+    /// for no row numbers), or the image line.
     pub fn line(&self, alloc: Global) -> Result<Vec<u8>, AllocError>
         ensures { IfOk result (λ text. text.items ≡ reply_text self.now) }
     {
         let mut text = match self {
             Reply::Done => Vec::from_slice(alloc, b"ok")?,
             Reply::Numbers(numbers) => spaced(alloc, numbers.as_slice())?,
+            Reply::Count(count) => Vec::from_slice(alloc, count.to_string(alloc)?.as_bytes())?,
+            Reply::Rows(rows) => row_numbers(alloc, rows.as_slice())?,
             Reply::Image { rows, bytes } => {
                 let line = image::line(alloc, *rows, bytes.as_slice())?;
                 Vec::from_slice(alloc, line.as_bytes())?
@@ -56,6 +65,21 @@ fn spaced(alloc: Global, numbers: &[i128]) -> Result<Vec<u8>, AllocError>
     for number in rest {
         text.push(b' ')?;
         text.extend_from_slice(number.to_string(alloc)?.as_bytes())?;
+    }
+    Ok(text)
+}
+
+// The row numbers in decimal with a space between each two, or `none`.
+fn row_numbers(alloc: Global, rows: &[usize]) -> Result<Vec<u8>, AllocError>
+    ensures { IfOk result (λ text. text.items ≡ row_numbers rows.now) }
+{
+    let Some((first, rest)) = rows.split_first() else {
+        return Vec::from_slice(alloc, b"none");
+    };
+    let mut text = Vec::from_slice(alloc, first.to_string(alloc)?.as_bytes())?;
+    for row in rest {
+        text.push(b' ')?;
+        text.extend_from_slice(row.to_string(alloc)?.as_bytes())?;
     }
     Ok(text)
 }

@@ -61,7 +61,7 @@ impl<A: BitViewSized, O: WordPaths<A::Store> + Digits<A::Store>> Model for Table
     ghost use Rattle.bit_addressing_span.specs.declared.span.TheConstants.{MAX_BITS};
     ghost use Rattle.bit_containers_vector.specs.Vector.{vec_bits};
     ghost use Rattle.bit_table_layout.specs.Layouts.{is_layout, row_width};
-    ghost use Rattle.bit_table_commands.specs.Tables.{letters_code};
+    ghost use Rattle.bit_table_letter.specs.Marks.{letters_code};
     ghost use Rattle.bit_table_store.specs.View.{table_from, AreStored, StoredRows, TableView};
 
     ghost Value = { TableView };

@@ -5,7 +5,7 @@ mod script_run;
 mod session;
 
 pub use bit_table_commands::{
-    Command, ImageBytes, Items, Numbers, Reply, Values, cutting_off_changes_nothing,
+    Command, ImageBytes, Items, Numbers, Reply, RowNumbers, Test, Values, cutting_off_changes_nothing,
 };
 pub use bit_table_digits::{Digits, HiLo, digits_by_bits};
 pub use bit_table_image as image;
@@ -13,7 +13,8 @@ pub use bit_table_layout::{
     Cause, Fault, Field, Layout, LayoutError, MAX_BITS, MAX_ROW_BITS, Rule, Words, is_number,
     is_separator, number_up_to,
 };
-pub use bit_table_moves::move_rows;
+pub use bit_table_letter::{BoolOp, Letter};
+pub use bit_table_moves::{keep_rows, move_rows};
 pub use bit_table_script::{Input, LineMachine, Output, RunError, drive};
 pub use bit_table_store::Table;
 pub use script_run::run;

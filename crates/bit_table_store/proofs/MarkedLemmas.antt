@@ -1,15 +1,17 @@
 -- Rows whose letters change, and rows that go.
 --
 -- Letters decided by letters: `lettered_decided`; told row by row: `lettered_told`, `told_more`, `length-told`. What is
--- told of them: `count-lettered`, `passing-lettered`, `ones_more`, `bears-letters`. Rows that do not bear a letter:
--- `staying-lettered`, `count-staying`. Rows without letters: `blank-from`.
+-- told of them: `count-lettered`, `ones-passing`, `bears-letters`, `one_found`, `none_found`. Rows that do not bear a
+-- letter: `staying-lettered`, `count-staying`. Rows without letters: `blank-from`.
 use Rattle.std.proofs.Common.{◌≡◌, ℕ, zero, suc, ◌+◌, ◌<◌, ◌≤◌, Bool, true, false, not, List, [], ◌∷◌, ◌++◌, length, map}
 use Rattle.std.proofs.Common.{get_or, take, inl, inr, refl, sym, ap, ap₂, ◌∙◌, arith, if◌then◌else◌, add-one}
 use Rattle.std.specs.Prelude.{count_by, replicate, slice_index_or, slice_set}
 use Rattle.std.specs.List.{filter}
 use Rattle.std.specs.FinSet as set
 use Rattle.std.proofs.lemmas.Bool.{cases_Bool}
+use Rattle.std.proofs.lemmas.List.{append-nil}
 use Rattle.std.proofs.lemmas.List.Sums.{length-filter, sum_by-cons}
+
 use Rattle.bit_table_layout.specs.Layouts.{LayoutShape, row_width}
 use Rattle.bit_table_layout.specs.Readings.{rows_from}
 use Rattle.bit_table_layout.specs.Rows.{Row}
@@ -46,15 +48,18 @@ length-told x (flag ∷ flags) [] = refl
 length-told x (flag ∷ flags) (letters ∷ marks) = ap suc (length-told x flags marks)
 
 -- one flag more
-pub told_more : (x : ℕ) (flags : List Bool) (flag : Bool) (marks : List LetterSet) → length flags < length marks
-    → told x (flags ++ (flag ∷ [])) marks
-    ≡ slice_set (told x flags marks) (length flags)
-    (with_letter x flag (slice_index_or (told x flags marks) (length flags) set.empty))
-told_more x [] flag [] low = absurd (omega (arith, low))
-told_more x [] flag (letters ∷ marks) low = refl
-told_more x (first ∷ flags) flag [] low = absurd (omega (arith, low))
-told_more x (first ∷ flags) flag (letters ∷ marks) low =
-    ap (λ ls. with_letter x first letters ∷ ls) (told_more x flags flag marks (omega (arith, low)))
+pub told_more : (x : ℕ) (flags : List Bool) (i : ℕ) (d : Bool) (marks : List LetterSet) → i < length flags
+    → length flags ≤ length marks
+    → told x (take (i + 1) flags) marks
+    ≡ slice_set (told x (take i flags) marks) i
+    (with_letter x (get_or flags i d) (slice_index_or (told x (take i flags) marks) i set.empty))
+told_more x [] i d marks low enough = absurd (omega (arith, low))
+told_more x (flag ∷ flags) i d [] low enough = absurd (omega (arith, enough))
+told_more x (flag ∷ flags) zero d (letters ∷ marks) low enough = refl
+told_more x (flag ∷ flags) (suc i) d (letters ∷ marks) low enough =
+    let count : suc i + 1 ≡ suc (i + 1) = omega arith in
+    ap (λ m. told x (take m (flag ∷ flags)) (letters ∷ marks)) count
+    ∙ ap (λ ls. with_letter x flag letters ∷ ls) (told_more x flags i d marks (omega (arith, low)) (omega (arith, enough)))
 
 -- how many rows bear a letter
 counted_first : {X : Type 0} (p : X → Bool) (x : X) (xs : List X)
@@ -71,15 +76,10 @@ count-lettered x (row ∷ rows) (letters ∷ marks) same =
     ∙ ap (λ n. (if bears x letters then 1 else 0) + n) (count-lettered x rows marks (omega (arith, same)))
     ∙ sym (counted_first (row_bears x) (record row { letters = letters }) (lettered rows marks))
 
--- the numbers of the rows that bear a letter
-pub passing-lettered : (x from : ℕ) (rows : List Row) (marks : List LetterSet) → length rows ≡ length marks
-    → ones_from from (map (bears x) marks) ≡ rows_passing (row_bears x) from (lettered rows marks)
-passing-lettered x from [] [] same = refl
-passing-lettered x from [] (letters ∷ marks) same = absurd (omega (arith, same))
-passing-lettered x from (row ∷ rows) [] same = absurd (omega (arith, same))
-passing-lettered x from (row ∷ rows) (letters ∷ marks) same =
-    ap (λ ns. if bears x letters then from ∷ ns else ns)
-    (passing-lettered x (from + 1) rows marks (omega (arith, same)))
+-- the numbers of the rows that pass a test
+pub ones-passing : (test : Row → Bool) (from : ℕ) (rows : List Row) → ones_from from (map test rows) ≡ rows_passing test from rows
+ones-passing test from [] = refl
+ones-passing test from (row ∷ rows) = ap (λ ns. if test row then from ∷ ns else ns) (ones-passing test (from + 1) rows)
 
 -- the rows that do not bear a letter
 pub staying-lettered : (x : ℕ) (rows : List Row) (marks : List LetterSet) → length rows ≡ length marks
@@ -123,7 +123,7 @@ bears-letters x (row ∷ rows) = ap (λ bs. bears x row.letters ∷ bs) (bears-l
 -- ---- the places of ones
 
 -- one bit more
-pub ones_more : (place i : ℕ) (bits : List Bool) (d : Bool) → i < length bits
+ones_more : (place i : ℕ) (bits : List Bool) (d : Bool) → i < length bits
     → ones_from place (take (i + 1) bits)
     ≡ ones_from place (take i bits) ++ (if get_or bits i d then (place + i) ∷ [] else [])
 ones_more place i [] d low = absurd (omega (arith, low))
@@ -134,7 +134,7 @@ ones_more place (suc i) (bit ∷ bits) d low =
     let count : suc i + 1 ≡ suc (i + 1) = omega arith in
     let next : place + 1 + i ≡ place + suc i = omega arith in
     let rest : ones_from (place + 1) (take (i + 1) bits)
-    ≡ ones_from (place + 1) (take i bits) ++ (if get_or bits i d then (place + suc i) ∷ [] else []) =
+        ≡ ones_from (place + 1) (take i bits) ++ (if get_or bits i d then (place + suc i) ∷ [] else []) =
     ones_more (place + 1) i bits d (omega (arith, low))
     ∙ ap (λ k. ones_from (place + 1) (take i bits) ++ (if get_or bits i d then k ∷ [] else [])) next in
     ap (λ m. ones_from place (take m (bit ∷ bits))) count
@@ -142,3 +142,18 @@ ones_more place (suc i) (bit ∷ bits) d low =
       | inl one ↦ rw one (ap (λ ks. place ∷ ks) rest)
       | inr none ↦ rw none rest
     ]
+
+pub one_found : (i : ℕ) (bits : List Bool) (d : Bool) → i < length bits → get_or bits i d ≡ true
+    → ones_from 0 (take (i + 1) bits) ≡ ones_from 0 (take i bits) ++ (i ∷ [])
+one_found i bits d low one =
+    let same : 0 + i ≡ i = omega arith in
+    ones_more 0 i bits d low
+    ∙ ap (λ b. ones_from 0 (take i bits) ++ (if b then (0 + i) ∷ [] else [])) one
+    ∙ ap (λ k. ones_from 0 (take i bits) ++ (k ∷ [])) same
+
+pub none_found : (i : ℕ) (bits : List Bool) (d : Bool) → i < length bits → get_or bits i d ≡ false
+    → ones_from 0 (take (i + 1) bits) ≡ ones_from 0 (take i bits)
+none_found i bits d low none =
+    ones_more 0 i bits d low
+    ∙ ap (λ b. ones_from 0 (take i bits) ++ (if b then (0 + i) ∷ [] else [])) none
+    ∙ append-nil (ones_from 0 (take i bits))

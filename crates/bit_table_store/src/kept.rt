@@ -1,7 +1,8 @@
 //! The rows that a table keeps.
 
-ghost use Rattle.std.specs.Prelude.{◌≡◌, IfOk};
+ghost use Rattle.std.specs.Prelude.{◌≡◌, ◌≤◌, length, IfOk};
 ghost use Rattle.bit_addressing.specs.Memory.{read_by};
+ghost use Rattle.bit_addressing_span.specs.declared.span.TheConstants.{MAX_BITS};
 ghost use Rattle.bit_containers_vector.specs.Vector.{vec_bits};
 
 use bit_addressing::{BitOrder, BitRegister};
@@ -47,6 +48,7 @@ impl<A: BitViewSized, O: WordPaths<A::Store> + Digits<A::Store>> Kept<A, O> {
         bits: &BitVec<A::Store, O>,
         letters: &Letters<A::Store, O>,
     ) -> Result<Kept<A, O>, AllocError>
+        requires { length (vec_bits (read_by A.Store.BitRegister O.position) bits.now) ≤ MAX_BITS }
         ensures rows { IfOk result (λ kept. kept.rows ≡ rows) }
         ensures bits { IfOk result (λ kept. kept.bits ≡ vec_bits (read_by A.Store.BitRegister O.position) bits.now) }
         ensures letters { IfOk result (λ kept. kept.letters ≡ letters.now) }
@@ -63,6 +65,7 @@ impl<A: BitViewSized, O: WordPaths<A::Store> + Digits<A::Store>> Kept<A, O> {
         &self,
         alloc: Global,
     ) -> Result<Kept<A2, O2>, AllocError>
+        requires { length self.now.bits ≤ MAX_BITS }
         ensures { IfOk result (λ other. other ≡ self.now) }
     {
         Ok(Kept {
@@ -87,11 +90,10 @@ pub(crate) fn copy_of<T: BitStore, O: BitOrder<T>, Q: BitStore, P: BitOrder<Q>>(
     alloc: Global,
     bits: &BitVec<Q, P>,
 ) -> Result<BitVec<T, O>, AllocError>
+    requires { length (vec_bits (read_by Q.BitRegister P.position) bits.now) ≤ MAX_BITS }
     ensures { IfOk result (λ copy. vec_bits (read_by T.BitRegister O.position) copy
         ≡ vec_bits (read_by Q.BitRegister P.position) bits.now) }
 {
-    // As many bits as a vector may have.
-    let _bits = bits.len();
     let mut copy = BitVec::<T, O>::new(alloc);
     copy.extend_from_bitslice(bits)?;
     Ok(copy)

@@ -19,7 +19,8 @@ use bit_slice_writes::BitsMut;
 use bit_table_letter::BoolOp;
 use std::mem;
 
-// Makes each bit of one list what an operation makes of it and the bit of another one of the lists, all of `n` bits.
+// Makes each bit of one list what an operation makes of it and the bit of another one of the lists, or of itself. All
+// have `n` bits.
 pub(crate) fn combine_lists<T: BitStore, O: WordPaths<T>>(
     lists: &mut [BitVec<T, O>],
     n: usize,
@@ -31,19 +32,21 @@ pub(crate) fn combine_lists<T: BitStore, O: WordPaths<T>>(
     requires columns { EachHas (IsColumn (read_by T.BitRegister O.position) n) lists.old }
     requires letter { letter < length lists.old }
     requires other { other < length lists.old }
-    requires apart { letter ≢ other }
     ensures changed { ChangesAt (λ old new. (d : BitVec T O T.BitRegister)
         → HasBits (read_by T.BitRegister O.position) (λ bits. zip2 (combined op) bits
         (vec_bits (read_by T.BitRegister O.position) (slice_index_or lists.old other d))) old new)
         letter lists.old lists.new }
-    ensures steps { Takes steps.old steps.new (groups n 64) (groups n O.SPAN) }
+    ensures steps { letter ≢ other → Takes steps.old steps.new (groups n 64) (groups n O.SPAN) }
+    ensures alone { letter ≡ other → steps.new ≡ steps.old }
 {
     if letter < other {
         let (front, back) = lists.split_at_mut(other);
         combine_list(&mut front[letter], n, op, &back[0], steps);
-    } else {
+    } else if other < letter {
         let (front, back) = lists.split_at_mut(letter);
         combine_list(&mut back[0], n, op, &front[other], steps);
+    } else {
+        combine_alone(&mut lists[letter], op);
     }
 }
 
@@ -124,7 +127,7 @@ fn combine_path<R: BitRegister, O: WordPaths<R>>(
 }
 
 // Makes each bit of a list what an operation makes of it and itself.
-pub(crate) fn combine_alone<T: BitStore, O: WordPaths<T>>(list: &mut BitVec<T, O>, op: BoolOp)
+fn combine_alone<T: BitStore, O: WordPaths<T>>(list: &mut BitVec<T, O>, op: BoolOp)
     ensures { HasBits (read_by T.BitRegister O.position) (λ bits. zip2 (combined op) bits bits) list.old list.new }
 {
     match op {

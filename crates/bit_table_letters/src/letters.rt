@@ -14,7 +14,7 @@ ghost use Rattle.bit_table_letter.specs.Marks.{bears, letter_count, with_letter}
 ghost use Rattle.bit_table_letters.specs.Marks.{decided};
 ghost use Rattle.bit_table_letters.specs.RowEdit.{added, edited_by, most_moved, LiesIn};
 
-use crate::combine::{combine_alone, combine_lists};
+use crate::combine::combine_lists;
 use crate::drops::drop_marked;
 use crate::edit::RowEdit;
 use crate::lists::{copy_lists, edit_lists, extend_lists, reserve_lists};
@@ -138,11 +138,7 @@ impl<T: BitStore, O: WordPaths<T>> Letters<T, O> {
             → Takes steps.old steps.new (groups (length self.old) 64) (groups (length self.old) O.SPAN) }
         ensures alone { letter ≡ other → steps.new ≡ steps.old }
     {
-        if letter == other {
-            combine_alone(&mut self.lists[letter], op);
-        } else {
-            combine_lists(&mut self.lists, self.rows, op, letter, other, steps);
-        }
+        combine_lists(&mut self.lists, self.rows, op, letter, other, steps);
     }
 
     /// Takes out the rows that bear a letter: the others move together, in their order. It answers how many words the

@@ -101,33 +101,31 @@ holds_goes_on {A} P i new w low had now k d below = either (cases_lt k i) where
 -- an element of a list that was cut in two, changed by one of the other part: `step w v now` says what v becomes by w
 module _ {A : Type 0} (step : A → A → A → Type 0) (xs front back : List A) (cut : xs ≡ front ++ back) where
   -- elements of the parts are those of the list
-  front_is : (i : ℕ) (v d : A) → i < length front → v ≡ get_or front i v → v ≡ get_or xs i d
-  front_is i v d low is =
-      is ∙ get_or_default front i v d low
-      ∙ sym (ap (λ l. get_or l i d) cut ∙ get_or_append_left front back d i low)
+  front_is : (i : ℕ) (v d : A) → i < length front → get_or front i v ≡ get_or xs i d
+  front_is i v d low =
+      get_or_default front i v d low ∙ sym (ap (λ l. get_or l i d) cut ∙ get_or_append_left front back d i low)
 
-  back_is : (m : ℕ) (w d : A) → length front ≡ m → 0 < length back → w ≡ get_or back 0 w → w ≡ get_or xs m d
-  back_is m w d long some is =
+  back_is : (m : ℕ) (w d : A) → length front ≡ m → 0 < length back → get_or back 0 w ≡ get_or xs m d
+  back_is m w d long some =
       let none : m - m ≡ 0 = omega arith in
-      is ∙ get_or_default back 0 w d some
+      get_or_default back 0 w d some
       ∙ sym (ap (λ l. get_or l m d) cut ∙ get_or-append_right front back m m d long (omega arith)
       ∙ ap (λ k. get_or back k d) none)
 
-  module _ (i m : ℕ) (v w : A) (long : length front ≡ m) (low : i < m) (some : 0 < length back)
-      (front_item : v ≡ get_or front i v) (back_item : w ≡ get_or back 0 w) where
+  module _ (i m : ℕ) (v w : A) (long : length front ≡ m) (low : i < m) (some : 0 < length back) where
     -- one of the first part, by the first of the second
-    pub changed_in_front : (now : A) → step w v now
+    pub changed_in_front : (now : A) → step (get_or back 0 w) (get_or front i v) now
         → ChangesAt (λ old new. (d : A) → step (get_or xs m d) old new) i xs (set front i now ++ back)
     changed_in_front now is = record {
       now = now;
       is = sym (ap (λ l. set l i now) cut ∙ set-append_left front back i now (omega arith));
       by = λ e d.
-          subst (λ x. step x (get_or xs i e) now) (back_is m w d long some back_item)
-          (subst (λ x. step w x now) (front_is i v e (omega arith) front_item) is);
+          subst (λ x. step x (get_or xs i e) now) (back_is m w d long some)
+          (subst (λ x. step (get_or back 0 w) x now) (front_is i v e (omega arith)) is);
     }
 
     -- the first of the second part, by one of the first
-    pub changed_in_back : (now : A) → step v w now
+    pub changed_in_back : (now : A) → step (get_or front i v) (get_or back 0 w) now
         → ChangesAt (λ old new. (d : A) → step (get_or xs i d) old new) m xs (front ++ set back 0 now)
     changed_in_back now is =
         let none : m - m ≡ 0 = omega arith in
@@ -137,19 +135,19 @@ module _ {A : Type 0} (step : A → A → A → Type 0) (xs front back : List A)
               sym (ap (λ l. set l m now) cut ∙ set-append_right front back m m now long (omega arith)
               ∙ ap (λ k. front ++ set back k now) none);
           by = λ e d.
-              subst (λ x. step x (get_or xs m e) now) (front_is i v d (omega arith) front_item)
-              (subst (λ x. step v x now) (back_is m w e long some back_item) is);
+              subst (λ x. step x (get_or xs m e) now) (front_is i v d (omega arith))
+              (subst (λ x. step (get_or front i v) x now) (back_is m w e long some) is);
         }
 
 -- an element changed by itself
 pub changed_alone : {A : Type 0} (step : A → A → A → Type 0) (xs : List A) (i j : ℕ) (v now : A) → i < length xs
-    → i ≡ j → v ≡ get_or xs i v → step v v now
+    → i ≡ j → step (get_or xs i v) (get_or xs i v) now
     → ChangesAt (λ old new. (d : A) → step (get_or xs j d) old new) i xs (set xs i now)
-changed_alone step xs i j v now low same item is = record {
+changed_alone step xs i j v now low same is = record {
   now = now;
   is = refl;
   by = λ e d.
       subst (λ k. step (get_or xs k d) (get_or xs i e) now) same
-      (subst (λ x. step x (get_or xs i e) now) (item ∙ get_or_default xs i v d low)
-      (subst (λ x. step v x now) (item ∙ get_or_default xs i v e low) is));
+      (subst (λ x. step x (get_or xs i e) now) (get_or_default xs i v d low)
+      (subst (λ x. step (get_or xs i v) x now) (get_or_default xs i v e low) is));
 }

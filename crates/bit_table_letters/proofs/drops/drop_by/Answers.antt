@@ -13,7 +13,7 @@ returns-then-list-letter-clause-changed g c =
     changed_in_front (λ w old new. HasBits reading (left_of (vec_bits reading w)) old new)
     c.args.lists.now c.split_at_mut-front.result.0.now c.split_at_mut-front.result.1.now cut.value
     c.args.list c.args.letter c.index-front-list.result c.index-back-0.result cut.front_len
-    c.if-list-letter.true (omega (arith, cut.back_len, c.requires.letter)) c.index-front-list.is c.index-back-0.is
+    c.if-list-letter.true (omega (arith, cut.back_len, c.requires.letter))
     c.drop_flagged.new.list c.drop_flagged.ensures.bits
 
 pub returns-else-list-letter-clause-changed : goal.returns-else-list-letter-clause-changed
@@ -25,5 +25,4 @@ returns-else-list-letter-clause-changed g c =
     c.split_at_mut-front-else-list-letter.result.1.now cut.value
     c.args.letter c.args.list c.index-front-letter.result c.index-back-0-else-list-letter.result cut.front_len
     (omega (arith, c.if-list-letter.false, c.requires.apart)) (omega (arith, cut.back_len, c.requires.list))
-    c.index-front-letter.is c.index-back-0-else-list-letter.is
     c.drop_flagged-else-list-letter.new.list c.drop_flagged-else-list-letter.ensures.bits

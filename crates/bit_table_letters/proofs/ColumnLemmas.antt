@@ -8,7 +8,7 @@ use Rattle.std.proofs.lemmas.List.{map-set, same_lists}
 use Rattle.bit_addressing.specs.declared.BitRegister.{Ghosts}
 use Rattle.bit_addressing.specs.Memory.{Reading, memory, piece, read_by}
 use Rattle.bit_addressing_span.specs.declared.span.TheConstants.{MAX_BITS}
-use Rattle.bit_containers_vector.specs.Vector.{vec_bits, vec_head, HasRoomFor}
+use Rattle.bit_containers_vector.specs.Vector.{vec_bits, HasRoomFor}
 use Rattle.bit_containers_vector.specs.declared.vector.BitVec.{BitVec}
 use Rattle.bit_table_letters.specs.Lists.{HasBits, IsColumn, AreColumns}
 use Rattle.bit_table_letter.specs.Marks.{letter_count}
@@ -90,7 +90,8 @@ module _ {T O : Type 0} {G : _} (reading : Reading T) (n : ℕ) (lists : List (B
         → AreColumns reading n after
     columns_changed sized = record {
       count = ap length ch.is ∙ length-set lists x ch.now ∙ h.count;
-      each = λ k d here. subst (IsColumn reading n) (ap (λ l. get_or l k d) (sym ch.is)) (column k d here (cases_eq k x));
+      each = λ k d here.
+          subst (IsColumn reading n) (ap (λ l. get_or l k d) (sym ch.is)) (column k d here (cases_eq k x));
       short = h.short;
     } where
       its : (d : BitVec T O G) → IsColumn reading n ch.now

@@ -1,8 +1,8 @@
 -- A letter combined with another.
 --
 -- Words: `overwrites_xor`. A list with itself: `combined_same`, `combined_none`. Rows' letters: `marks_combined`.
-use Rattle.std.proofs.Common.{◌≡◌, ℕ, ◌<◌, ◌&&◌, ◌||◌, ◌⊎◌, inl, inr, Bool, true, false, List, [], ◌∷◌, length, map, replicate, set as put}
-use Rattle.std.proofs.Common.{refl, sym, ap, ◌∙◌}
+use Rattle.std.proofs.Common.{◌≡◌, ℕ, ◌<◌, ◌&&◌, ◌||◌, ◌⊎◌, inl, inr, Bool, true, false, List, [], ◌∷◌, length}
+use Rattle.std.proofs.Common.{replicate, set as put, refl, sym, ap, ◌∙◌}
 use mathlib.Core.Bool.{xor}
 use Rattle.std.specs.Simd.Lanes.{zip2}
 use Rattle.std.proofs.lemmas.Simd.{zip2_of_maps}

@@ -1,7 +1,7 @@
 -- Rows taken out that bear a letter.
 --
 -- Of a list: `own_left`. Of rows' letters: `marks_dropped`.
-use Rattle.std.proofs.Common.{◌≡◌, ℕ, ◌+◌, ◌<◌, Bool, true, false, cond, not, List, [], ◌∷◌, length, map, replicate}
+use Rattle.std.proofs.Common.{◌≡◌, ℕ, ◌+◌, ◌<◌, Bool, true, false, cond, not, List, [], ◌∷◌, length, replicate}
 use Rattle.std.proofs.Common.{suc, refl, sym, ap, ◌∙◌, arith}
 use Rattle.std.specs.List.{count_by, filter}
 use Rattle.std.proofs.lemmas.List.Sums.{sum_by-cons}

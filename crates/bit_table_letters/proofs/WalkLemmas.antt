@@ -1,10 +1,10 @@
 -- A walk over a list that changes one element after another.
-use Rattle.std.proofs.Common.{◌≡◌, ◌≢◌, ℕ, ◌+◌, ◌-◌, ◌<◌, ◌≤◌, ◌⊎◌, ◌++◌, inl, inr, List, length, get_or, set, refl, sym, ap}
-use Rattle.std.proofs.Common.{◌∙◌, subst, arith}
+use Rattle.std.proofs.Common.{◌≡◌, ◌≢◌, ℕ, ◌+◌, ◌-◌, ◌<◌, ◌≤◌, ◌⊎◌, ◌++◌, inl, inr, List, length, get_or, set}
+use Rattle.std.proofs.Common.{refl, sym, ap, ◌∙◌, subst, arith}
 use Rattle.std.proofs.lemmas.Bool.{cases_eq, cases_lt}
 use Rattle.std.proofs.lemmas.List.{get_or-set_same, get_or-set_other, length-set, set-append_left, set-append_right}
 use Rattle.std.proofs.lemmas.List.{get_or_append_left, get_or-append_right, get_or_default}
-use Rattle.bit_table_letters.specs.Walk.{Becomes, ChangesAt, EachHas, IsWalked}
+use Rattle.bit_table_letters.specs.Walk.{Becomes, ChangesAt, IsWalked}
 
 module _ {A : Type 0} (step : ℕ → A → A → Type 0) where
   -- nothing is changed yet
@@ -64,7 +64,8 @@ module _ {A : Type 0} (step : ℕ → A → A → Type 0) where
   walk_ends i old new h all = record { len = h.len; each = λ k d low. h.done k d (omega (arith, low, all)) }
 
   -- the walk stopped, and those that it did not come to are as before
-  pub walk_stops : ((k : ℕ) (v : A) → step k v v) → (i : ℕ) (old new : List A) → IsWalked step i old new → Becomes step old new
+  pub walk_stops : ((k : ℕ) (v : A) → step k v v) → (i : ℕ) (old new : List A) → IsWalked step i old new
+      → Becomes step old new
   walk_stops stays i old new h = record { len = h.len; each = λ k d low. done_or_before k d (cases_lt k i) } where
     done_or_before : (k : ℕ) (d : A) → (k < i) ⊎ (i ≤ k) → step k (get_or old k d) (get_or new k d)
     done_or_before k d (inl below) = h.done k d below
@@ -76,14 +77,14 @@ pub walk_closes : {A : Type 0} (step : A → A → Type 0) (x i : ℕ) (old new 
     → Becomes (λ k. step) old (set new x b)
 walk_closes {A} step x i old new b h all last =
     record { len = length-set new x b ∙ h.len; each = λ k d low. last_or_done k d low (cases_eq k x) } where
-  last_or_done : (k : ℕ) (d : A) → k < length old → (k ≡ x) ⊎ (k ≢ x) → step (get_or old k d) (get_or (set new x b) k d)
-  last_or_done k d low (inl same) =
-      let here : x < length new = omega (arith, h.len, low, same) in
-      subst (λ j. step (get_or old j d) (get_or (set new x b) j d)) (sym same)
-      (subst (step (get_or old x d)) (sym (get_or-set_same new x b d here)) (last d))
-  last_or_done k d low (inr apart) =
-      subst (step (get_or old k d)) (sym (get_or-set_other new x k b d apart))
-      (h.done k d (omega (arith, low, all)) apart)
+      last_or_done : (k : ℕ) (d : A) → k < length old → (k ≡ x) ⊎ (k ≢ x) → step (get_or old k d) (get_or (set new x b) k d)
+      last_or_done k d low (inl same) =
+          let here : x < length new = omega (arith, h.len, low, same) in
+          subst (λ j. step (get_or old j d) (get_or (set new x b) j d)) (sym same)
+          (subst (step (get_or old x d)) (sym (get_or-set_same new x b d here)) (last d))
+      last_or_done k d low (inr apart) =
+          subst (step (get_or old k d)) (sym (get_or-set_other new x k b d apart))
+          (h.done k d (omega (arith, low, all)) apart)
 
 -- those that were changed have a property, and so has one more
 pub holds_goes_on : {A : Type 0} (P : A → Type 0) (i : ℕ) (new : List A) (w : A) → i < length new

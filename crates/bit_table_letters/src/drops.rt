@@ -15,8 +15,9 @@ use bit_slice_views::Bits;
 use bit_slice_writes::BitsMut;
 use bit_table_rows::keep_rows_of;
 
-// Takes the bits out of each list of `n` bits where the list of a letter has a one, and tells how many words the move of
-// each wrote. That list comes last: what stays of it is zeros, and no move writes them. It answers how many bits stay.
+// Takes the bits out of each list of `n` bits where the list of a letter has a one, and tells how many words the move
+// of each wrote. That list comes last: what stays of it is zeros, and no move writes them. It answers how many bits
+// stay.
 pub(crate) fn drop_marked<T: BitStore, O: BitOrder<T>>(
     lists: &mut [BitVec<T, O>],
     n: usize,

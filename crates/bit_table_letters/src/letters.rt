@@ -1,7 +1,7 @@
 //! The letters that rows bear.
 
-ghost use Rattle.std.specs.Prelude.{◌≡◌, ◌≢◌, ◌+◌, ◌*◌, ◌≤◌, ◌<◌, [], length, map, replicate, slice_set, slice_index_or};
-ghost use Rattle.std.specs.Prelude.{IfOk, IsOk, OnOk, OnErr, not, slice_index};
+ghost use Rattle.std.specs.Prelude.{◌≡◌, ◌≢◌, ◌+◌, ◌*◌, ◌≤◌, ◌<◌, [], length, map, replicate, slice_set};
+ghost use Rattle.std.specs.Prelude.{slice_index, slice_index_or, IfOk, IsOk, OnOk, OnErr, not};
 ghost use Rattle.std.specs.List.{All, count_by, filter};
 ghost use Rattle.std.specs.FinSet as set;
 ghost use Rattle.bit_addressing.specs.Memory.{read_by, touched};

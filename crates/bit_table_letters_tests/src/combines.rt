@@ -27,8 +27,8 @@ fn is_combined<T: BitStore, O: WordPaths<T>>(
     Ok((shows(&letters, wanted.as_slice()), steps.taken()))
 }
 
-// Whether each operation on some letters of up to 70 rows is that of the plain rows, in at least a step for each 64 rows
-// and at most one a row, and in none where a letter is combined with itself.
+// Whether each operation on some letters of up to 70 rows is that of the plain rows, in at least a step for each 64
+// rows and at most one a row, and in none where a letter is combined with itself.
 fn all_combined<T: BitStore, O: WordPaths<T>>(alloc: Global) -> Result<bool, AllocError> {
     let least = [
         (0, 0),

@@ -1,4 +1,4 @@
-use Rattle.std.proofs.Common.{◌≡◌, ◌<◌, ◌≤◌, List, Bool, length, get_or, arith}
+use Rattle.std.proofs.Common.{arith}
 use Rattle.std.specs.Simd.Lanes.{zip2}
 use Rattle.bit_addressing.specs.Memory.{read_by}
 use Rattle.bit_containers_vector.specs.Vector.{vec_bits}

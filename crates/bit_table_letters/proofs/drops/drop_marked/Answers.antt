@@ -1,5 +1,5 @@
-use Rattle.std.proofs.Common.{◌≡◌, ◌≢◌, ℕ, ◌+◌, ◌<◌, ◌≤◌, false, length, get_or, set as put, not, replicate}
-use Rattle.std.proofs.Common.{sym, ap, ◌∙◌, subst, arith}
+use Rattle.std.proofs.Common.{◌≡◌, ◌≢◌, ℕ, ◌<◌, ◌≤◌, Bool, List, false, length, get_or, set as put}
+use Rattle.std.proofs.Common.{not, replicate, sym, ap, ◌∙◌, subst, arith}
 use Rattle.std.specs.List.{count_by}
 use Rattle.std.proofs.lemmas.List.{get_or_default, get_or-set_same, get_or-set_other, length-set}
 use Rattle.bit_addressing.specs.Memory.{read_by, touched}
@@ -29,7 +29,8 @@ loop-i-preserved g c =
     let h = c.loop-i.invariant in
     let low : i < length old = omega (arith, c.loop-i-test.true) in
     let inside : i < length writes = omega (arith, low, h.count, c.requires.count) in
-    let most : ℕ → ℕ = (λ v. touched g.T.BitRegister.BITS 0 v) in
+    let Few : ℕ → List Bool → Type 0 =
+    (λ k off. k ≤ touched g.T.BitRegister.BITS 0 (count_by not off)) in
     elim c.if-i-letter.branch [
       | then-i-letter w ↦
           let same : i ≡ x = w.if-i-letter.true in
@@ -39,7 +40,8 @@ loop-i-preserved g c =
                 i old lists (h.walked d) (λ v u apart. absurd (apart same));
             flags = h.flags;
             count = length-set writes i 0 ∙ h.count;
-            writes = λ k e d below. holds_goes_on (λ v. v ≤ most (count_by not (vec_bits reading (get_or old x d)))) i writes 0 inside
+            writes = λ k e d below.
+                holds_goes_on (λ v. Few v (vec_bits reading (get_or old x d))) i writes 0 inside
                 (λ j b under. h.writes j b d under) (omega arith) k e below;
             own = λ below. subst (λ j. get_or (put writes i 0) j 0 ≡ 0) same (get_or-set_same writes i 0 0 inside);
           })
@@ -58,10 +60,11 @@ loop-i-preserved g c =
                 });
             flags = λ d. ap (λ l. get_or l x d) ch.is ∙ get_or-set_other lists i x ch.now d apart ∙ h.flags d;
             count = length-set writes i w.drop_by.result ∙ h.count;
-            writes = λ k e d below. holds_goes_on (λ v. v ≤ most (count_by not (vec_bits reading (get_or old x d)))) i writes w.drop_by.result inside
+            writes = λ k e d below.
+                holds_goes_on (λ v. Few v (vec_bits reading (get_or old x d))) i writes w.drop_by.result inside
                 (λ j b under. h.writes j b d under)
-                (subst (λ v. w.drop_by.result ≤ most (count_by not (vec_bits reading v)))
-                (h.flags d) (w.drop_by.ensures.writes d)) k e below;
+                (subst (λ v. Few w.drop_by.result (vec_bits reading v)) (h.flags d) (w.drop_by.ensures.writes d))
+                k e below;
             own = λ below. get_or-set_other writes i x w.drop_by.result 0 apart ∙ h.own (omega (arith, below, apart));
           })
     ]

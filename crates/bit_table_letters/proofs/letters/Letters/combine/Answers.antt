@@ -1,4 +1,4 @@
-use Rattle.std.proofs.Common.{◌≡◌, ◌<◌, Bool, List, length, map, get_or, set as put, sym, ap, ◌∙◌, arith}
+use Rattle.std.proofs.Common.{length, map, get_or, set as put, sym, ap, ◌∙◌, arith}
 use Rattle.std.specs.Simd.Lanes.{zip2}
 use Rattle.std.proofs.lemmas.Simd.{length-zip2}
 use Rattle.bit_addressing.specs.Memory.{read_by}

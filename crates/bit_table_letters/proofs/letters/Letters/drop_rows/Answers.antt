@@ -1,4 +1,4 @@
-use Rattle.std.proofs.Common.{◌≡◌, ◌≤◌, ◌<◌, length, map, get_or, not, sym, ap, ◌∙◌, arith}
+use Rattle.std.proofs.Common.{map, get_or, not, sym, ap, ◌∙◌, arith}
 use Rattle.std.specs.List.{count_by, filter}
 use Rattle.std.proofs.lemmas.List.Sums.{count_by-le-length}
 use Rattle.bit_addressing.specs.Memory.{read_by}

@@ -1,16 +1,19 @@
 -- The lists of letters, by their bits.
-use Rattle.std.proofs.Common.{◌≡◌, ℕ, ◌+◌, ◌*◌, ◌<◌, ◌≤◌, ◌++◌, Bool, List, [], ◌∷◌, length, map, get_or, drop, refl, sym, ap, ◌∙◌, arith}
+use Rattle.std.proofs.Common.{◌≡◌, ◌≢◌, ℕ, ◌+◌, ◌*◌, ◌<◌, ◌≤◌, ◌⊎◌, inl, inr, ◌++◌, Bool, List, [], ◌∷◌, length, map}
+use Rattle.std.proofs.Common.{set as put, get_or, drop, refl, sym, ap, ◌∙◌, subst, arith}
+use Rattle.std.proofs.lemmas.Bool.{cases_eq}
 use Rattle.std.proofs.Math.Nat.{mul-le-mul_right}
-use Rattle.std.proofs.lemmas.List.{get_or-map, length-map, length-take, same_lists}
+use Rattle.std.proofs.lemmas.List.{get_or-map, get_or-set_same, get_or-set_other, length-map, length-set, length-take}
+use Rattle.std.proofs.lemmas.List.{map-set, same_lists}
 use Rattle.bit_addressing.specs.declared.BitRegister.{Ghosts}
 use Rattle.bit_addressing.specs.Memory.{Reading, memory, piece, read_by}
 use Rattle.bit_addressing_span.specs.declared.span.TheConstants.{MAX_BITS}
-use Rattle.bit_containers_vector.specs.Vector.{vec_bits, vec_head, HasRoomFor}
+use Rattle.bit_containers_vector.specs.Vector.{vec_bits, HasRoomFor}
 use Rattle.bit_containers_vector.specs.declared.vector.BitVec.{BitVec}
 use Rattle.bit_table_letters.specs.Lists.{HasBits, IsColumn, AreColumns}
 use Rattle.bit_table_letter.specs.Marks.{letter_count}
 use Rattle.bit_table_letters.specs.Marks.{list_of}
-use Rattle.bit_table_letters.specs.Walk.{Becomes, EachHas}
+use Rattle.bit_table_letters.specs.Walk.{Becomes, ChangesAt, EachHas}
 
 -- a list has room for its own bits
 pub room_holds : {T O : Type 0} {g : Ghosts T} (position : ℕ → ℕ) (v : BitVec T O g)
@@ -27,7 +30,7 @@ none_of [] none = refl
 none_of (x ∷ xs) none = absurd (omega (arith, none))
 
 -- one of the lists, since there are some
-some_list : {A : Type 0} (lists : List A) → length lists ≡ letter_count → A
+pub some_list : {A : Type 0} (lists : List A) → length lists ≡ letter_count → A
 some_list [] count = absurd (omega (arith, count))
 some_list (v ∷ vs) count = v
 
@@ -72,6 +75,40 @@ module _ {T O : Type 0} {G : _} (reading : Reading T) (n : ℕ) (lists : List (B
           record { len = ap length step.bits ∙ sized _ before.len; head = step.head ∙ before.head };
       short = short;
     }
+
+  -- the lists after a change of one of them
+  module _ (after : List (BitVec T O G)) (x : ℕ) (now : BitVec T O G → List Bool → List Bool) (low : x < letter_count)
+      (ch : ChangesAt (λ v w. (d : BitVec T O G) → HasBits reading (now d) v w) x lists after) where
+    pub bits_changed : (d : BitVec T O G)
+        → map (vec_bits reading) after
+        ≡ put (map (vec_bits reading) lists) x (now d (list_of (map (vec_bits reading) lists) x))
+    bits_changed d =
+        ap (map (vec_bits reading)) ch.is ∙ map-set (vec_bits reading) lists x ch.now
+        ∙ ap (put (map (vec_bits reading) lists) x) ((ch.by d d).bits ∙ ap (now d) (sym (column_is x d low)))
+
+    pub columns_changed : ((d : BitVec T O G) (xs : List Bool) → length xs ≡ n → length (now d xs) ≡ n)
+        → AreColumns reading n after
+    columns_changed sized = record {
+      count = ap length ch.is ∙ length-set lists x ch.now ∙ h.count;
+      each = λ k d here.
+          subst (IsColumn reading n) (ap (λ l. get_or l k d) (sym ch.is)) (column k d here (cases_eq k x));
+      short = h.short;
+    } where
+      its : (d : BitVec T O G) → IsColumn reading n ch.now
+      its d =
+          let was = h.each x d (omega (arith, h.count, low)) in
+          let step = ch.by d d in
+          record { len = ap length step.bits ∙ sized d _ was.len; head = step.head ∙ was.head }
+
+      column : (k : ℕ) (d : BitVec T O G) → k < length after → (k ≡ x) ⊎ (k ≢ x)
+          → IsColumn reading n (get_or (put lists x ch.now) k d)
+      column k d here (inl same) =
+          let inside : x < length lists = omega (arith, h.count, low) in
+          subst (λ j. IsColumn reading n (get_or (put lists x ch.now) j d)) (sym same)
+          (subst (IsColumn reading n) (sym (get_or-set_same lists x ch.now d inside)) (its d))
+      column k d here (inr apart) =
+          let inside : k < length lists = omega (arith, here, ap length ch.is, length-set lists x ch.now) in
+          subst (IsColumn reading n) (sym (get_or-set_other lists x k ch.now d apart)) (h.each k d inside)
 
 -- lists that were made the same
 pub columns_same : {T O : Type 0} {G : _} (reading : Reading T) (lists after : List (BitVec T O G))

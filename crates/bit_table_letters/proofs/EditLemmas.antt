@@ -7,11 +7,11 @@ use Rattle.std.specs.FinSet.{contains-empty}
 use Rattle.std.specs.Ordering.{nat_cmp}
 use Rattle.std.specs.Prelude.{slice_range}
 use Rattle.std.specs.List.{swap}
-use Rattle.std.proofs.lemmas.List.{same_lists, places, map-append, take-map, drop-map, map-set, length-set}
+use Rattle.std.proofs.lemmas.List.{places, map-append, take-map, drop-map, map-set, length-set}
 use Rattle.std.proofs.Math.ListN.{get_or-map}
 use Rattle.bit_table_letters.specs.declared.edit.RowEdit.{RowEdit}
 use Rattle.bit_table_letters.specs.declared.edit.RowEdit.TheVariants.{Insert, Delete, Copy, Swap, Rotate, Dup}
-use Rattle.bit_table_letter.specs.Marks.{LetterSet, letter_count, bears}
+use Rattle.bit_table_letter.specs.Marks.{letter_count, bears}
 use Rattle.bit_table_letters.specs.Marks.{list_of, marks_of}
 use Rattle.bit_table_letters.specs.RowEdit.{edited_by, added, count_after, LiesIn}
 use Rattle.bit_table_letters.proofs.MarkLemmas.{length-marks, column_marked, none_behind, marks_are}

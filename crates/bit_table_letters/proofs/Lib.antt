@@ -4,3 +4,5 @@ pub mod WalkLemmas
 pub mod PutLemmas
 pub mod ColumnLemmas
 pub mod ListLemmas
+pub mod CombineLemmas
+pub mod DropLemmas

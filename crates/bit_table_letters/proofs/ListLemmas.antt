@@ -1,10 +1,10 @@
 -- One list edited, as the calls on its bits leave it.
-use Rattle.std.proofs.Common.{◌≡◌, ℕ, ◌+◌, ◌-◌, ◌*◌, ◌<◌, ◌≤◌, Bool, false, List, [], ◌∷◌, ◌++◌, length, take, drop}
+use Rattle.std.proofs.Common.{◌≡◌, ℕ, ◌+◌, ◌*◌, ◌<◌, ◌≤◌, Bool, false, List, [], ◌∷◌, ◌++◌, length, take, drop}
 use Rattle.std.proofs.Common.{set as put, get_or, refl, sym, ap, ap₂, ◌∙◌, arith, suc}
 use Rattle.std.specs.List.{swap}
 use Rattle.std.proofs.lemmas.List.{set_split, get_or_default}
 use Rattle.bit_table_moves.specs.RowMoves.{rows_moved}
-use Rattle.bit_table_rows.specs.RowEdits.{inserted, deleted, copied, turned, repeated, Opens}
+use Rattle.bit_table_rows.specs.RowEdits.{inserted, Opens}
 use Rattle.bit_table_rows.proofs.EditLemmas.{rows_opened}
 
 -- rows of one bit begin at their numbers

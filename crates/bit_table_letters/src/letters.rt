@@ -1,25 +1,30 @@
 //! The letters that rows bear.
 
-ghost use Rattle.std.specs.Prelude.{◌≡◌, ◌+◌, ◌*◌, ◌≤◌, ◌<◌, [], length, map, replicate, slice_set, slice_index_or};
-ghost use Rattle.std.specs.Prelude.{IfOk, IsOk, OnOk, OnErr, not};
-ghost use Rattle.std.specs.List.{All, count_by};
+ghost use Rattle.std.specs.Prelude.{◌≡◌, ◌≢◌, ◌+◌, ◌*◌, ◌≤◌, ◌<◌, [], length, map, replicate, slice_set};
+ghost use Rattle.std.specs.Prelude.{slice_index, slice_index_or, IfOk, IsOk, OnOk, OnErr, not};
+ghost use Rattle.std.specs.List.{All, count_by, filter};
 ghost use Rattle.std.specs.FinSet as set;
-ghost use Rattle.bit_addressing.specs.Memory.{read_by};
+ghost use Rattle.bit_addressing.specs.Memory.{read_by, touched};
 ghost use Rattle.bit_addressing_span.specs.declared.span.TheConstants.{MAX_BITS};
+ghost use Rattle.bit_slice_paths.specs.Steps.{groups, Takes};
 ghost use Rattle.bit_slice_views.specs.View.{view_bits};
 ghost use Rattle.bit_table_letters.specs.Lists.{AreColumns};
+ghost use Rattle.bit_table_letter.specs.Letters.{combined};
 ghost use Rattle.bit_table_letter.specs.Marks.{bears, letter_count, with_letter};
 ghost use Rattle.bit_table_letters.specs.Marks.{decided};
 ghost use Rattle.bit_table_letters.specs.RowEdit.{added, edited_by, most_moved, LiesIn};
 
+use crate::combine::combine_lists;
+use crate::drops::drop_marked;
 use crate::edit::RowEdit;
 use crate::lists::{copy_lists, edit_lists, extend_lists, reserve_lists};
 use bit_addressing::BitOrder;
 use bit_containers_vector::BitVec;
-use bit_slice_paths::WordPaths;
+use bit_slice_paths::{Steps, WordPaths};
 use bit_slice_stores::BitStore;
 use bit_slice_views::{BitSlice, Bits};
 use bit_slice_writes::BitsMut;
+use bit_table_letter::BoolOp;
 use std::alloc::{AllocError, Global};
 use std::array;
 use std::marker::Model;
@@ -119,6 +124,38 @@ impl<T: BitStore, O: WordPaths<T>> Letters<T, O> {
         ensures { self.new ≡ decided letter (λ letters. not (bears letter letters)) self.old }
     {
         self.lists[letter].invert();
+    }
+
+    /// Makes a letter of each row what an operation makes of it and of another letter of the row, or of itself.
+    pub fn combine(&mut self, op: BoolOp, letter: usize, other: usize, steps: &mut Steps)
+        requires letter { letter < letter_count }
+        requires other { other < letter_count }
+        ensures rows { self.new ≡ decided letter
+            (λ letters. combined op (bears letter letters) (bears other letters)) self.old }
+
+        // Of two letters as many word steps as of that many bits; of a letter and itself none.
+        ensures steps { letter ≢ other
+            → Takes steps.old steps.new (groups (length self.old) 64) (groups (length self.old) O.SPAN) }
+        ensures alone { letter ≡ other → steps.new ≡ steps.old }
+    {
+        combine_lists(&mut self.lists, self.rows, op, letter, other, steps);
+    }
+
+    /// Takes out the rows that bear a letter: the others move together, in their order. It answers how many words the
+    /// move of each letter's list wrote.
+    ///
+    /// No memory is taken.
+    pub fn drop_rows(&mut self, letter: usize) -> [usize; LETTERS]
+        requires { letter < letter_count }
+        ensures rows { self.new ≡ filter (λ letters. not (bears letter letters)) self.old }
+
+        // At most the words that the rows that stay touch, and of the letter itself none.
+        ensures writes { All (λ k. k ≤ touched T.BITS 0 (length self.new)) result }
+        ensures own { slice_index result letter ≡ 0 }
+    {
+        let mut writes = [0; LETTERS];
+        self.rows = drop_marked(&mut self.lists, self.rows, letter, &mut writes);
+        writes
     }
 
     /// How many rows bear a letter.

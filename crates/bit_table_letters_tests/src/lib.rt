@@ -4,7 +4,11 @@
 #[cfg(test)]
 mod calls;
 #[cfg(test)]
+mod combines;
+#[cfg(test)]
 mod copies;
+#[cfg(test)]
+mod drops;
 #[cfg(test)]
 mod edits;
 #[cfg(test)]

@@ -3,6 +3,7 @@
 ghost use Rattle.std.specs.Prelude.{◌≡◌, true};
 ghost use Rattle.bit_table_letters.specs.RowEdit.{LiesIn};
 
+use bit_table_letter::BoolOp;
 use bit_table_letters::RowEdit;
 use std::alloc::{AllocError, Global};
 
@@ -105,4 +106,37 @@ fn row_after(rows: &[u32], edit: RowEdit, k: usize) -> Option<u32> {
         }
         _ => row(k),
     }
+}
+
+/// The rows after letter `x` of each was made what an operation makes of it and letter `y`.
+pub fn combined(
+    alloc: Global,
+    rows: &[u32],
+    op: BoolOp,
+    x: usize,
+    y: usize,
+) -> Result<Vec<u32>, AllocError> {
+    let mut after = Vec::new(alloc);
+    for row in rows {
+        let one = (row >> (x % 32)) & 1;
+        let other = (row >> (y % 32)) & 1;
+        let now = match op {
+            BoolOp::And => one & other,
+            BoolOp::Or => one | other,
+            BoolOp::Xor => one ^ other,
+        };
+        after.push((row ^ (one << (x % 32))) | (now << (x % 32)))?;
+    }
+    Ok(after)
+}
+
+/// The rows that do not bear letter `x`.
+pub fn without(alloc: Global, rows: &[u32], x: usize) -> Result<Vec<u32>, AllocError> {
+    let mut after = Vec::new(alloc);
+    for row in rows {
+        if (row >> (x % 32)) & 1 == 0 {
+            after.push(*row)?;
+        }
+    }
+    Ok(after)
 }

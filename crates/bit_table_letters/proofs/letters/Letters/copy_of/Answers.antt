@@ -1,4 +1,4 @@
-use Rattle.std.proofs.Common.{◌≡◌, map, ap, ◌∙◌}
+use Rattle.std.proofs.Common.{ap, ◌∙◌}
 use Rattle.bit_addressing.specs.Memory.{read_by}
 use Rattle.bit_table_letters.specs.Marks.{marks_of}
 use Rattle.bit_table_letters.proofs.ColumnLemmas.{columns_copied, are_columns_copied}

@@ -1,4 +1,4 @@
-use Rattle.std.proofs.Common.{◌≡◌, ◌+◌, ◌≤◌, false, length, map, sym, ap, ◌∙◌, subst, arith}
+use Rattle.std.proofs.Common.{◌+◌, ◌≤◌, false, length, map, sym, ap, ◌∙◌, subst, arith}
 use Rattle.std.specs.FinSet as set
 use Rattle.std.proofs.lemmas.Bool.{false≢true}
 use Rattle.std.proofs.lemmas.Result.{err_from_is_err_and}
@@ -6,7 +6,7 @@ use Rattle.bit_addressing.specs.Memory.{read_by}
 use Rattle.bit_addressing_span.specs.declared.span.TheConstants.{MAX_BITS}
 use Rattle.bit_containers_vector.specs.Vector.{vec_bits}
 use Rattle.bit_table_letters.specs.Marks.{marks_of}
-use Rattle.bit_table_letters.specs.RowEdit.{added, count_after, edited_by, most_moved, LiesIn}
+use Rattle.bit_table_letters.specs.RowEdit.{added, count_after, edited_by, LiesIn}
 use Rattle.bit_table_letters.proofs.ColumnLemmas.{column_size, column_after, columns_after, columns_same, columns_short}
 use Rattle.bit_table_letters.proofs.EditLemmas.{count_most, length-edited, marks_edited}
 use Rattle.bit_table_letters.proofs.MarkLemmas.{length-marks}

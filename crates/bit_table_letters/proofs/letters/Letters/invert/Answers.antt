@@ -1,10 +1,10 @@
-use Rattle.std.proofs.Common.{◌≡◌, map, not, set as put, sym, ap, ◌∙◌}
+use Rattle.std.proofs.Common.{map, not, set as put, sym, ap, ◌∙◌}
 use Rattle.std.proofs.lemmas.List.{map-set}
 use Rattle.std.proofs.lemmas.Simd.{map-map}
 use Rattle.bit_addressing.specs.Memory.{read_by}
 use Rattle.bit_containers_vector.specs.Vector.{vec_bits}
 use Rattle.bit_table_letter.specs.Marks.{bears}
-use Rattle.bit_table_letters.specs.Marks.{decided, list_of, marks_of}
+use Rattle.bit_table_letters.specs.Marks.{decided, marks_of}
 use Rattle.bit_table_letters.proofs.ColumnLemmas.{column_is, column_size, columns_count}
 use Rattle.bit_table_letters.proofs.MarkLemmas.{column_marked}
 use Rattle.bit_table_letters.proofs.PutLemmas.{marks_decided}

@@ -1,8 +1,7 @@
-use Rattle.std.proofs.Common.{◌≡◌, ◌+◌, ◌++◌, ◌≤◌, Bool, false, List, [], ◌∷◌, length, map, replicate, refl, sym, ap, ◌∙◌, arith}
+use Rattle.std.proofs.Common.{◌≡◌, ◌++◌, false, length, map, ap, ◌∙◌, arith}
 use Rattle.std.proofs.lemmas.List.{length-append, length-replicate}
 use Rattle.bit_addressing.specs.Memory.{read_by}
 use Rattle.bit_containers_vector.specs.Vector.{vec_bits}
-use Rattle.bit_table_letters.specs.Lists.{AreColumns}
 use Rattle.bit_table_letters.proofs.ColumnLemmas.{column_after, column_size, columns_after, columns_short, none_of}
 use Rattle.bit_table_letters.proofs.PutLemmas.{marks_blank}
 use Rattle.bit_table_letters.proofs.letters.Letters.of_rows.Goals as goal

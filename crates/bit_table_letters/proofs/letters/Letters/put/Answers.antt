@@ -1,10 +1,10 @@
-use Rattle.std.proofs.Common.{◌≡◌, ◌<◌, length, map, set as put, get_or, sym, ap, ◌∙◌, arith}
+use Rattle.std.proofs.Common.{◌<◌, length, map, set as put, get_or, sym, ap, ◌∙◌, arith}
 use Rattle.std.specs.FinSet as set
 use Rattle.std.proofs.lemmas.List.{map-set}
 use Rattle.bit_addressing.specs.Memory.{read_by}
 use Rattle.bit_containers_vector.specs.Vector.{vec_bits}
 use Rattle.bit_table_letter.specs.Marks.{with_letter}
-use Rattle.bit_table_letters.specs.Marks.{list_of, marks_of}
+use Rattle.bit_table_letters.specs.Marks.{marks_of}
 use Rattle.bit_table_letters.proofs.ColumnLemmas.{column_is, column_size, columns_count}
 use Rattle.bit_table_letters.proofs.MarkLemmas.{length-marks}
 use Rattle.bit_table_letters.proofs.PutLemmas.{marks_put}

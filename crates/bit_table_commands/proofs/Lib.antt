@@ -1,4 +1,5 @@
 mod ReadingLemmas
+pub mod DigitLemmas
 mod ReplyLemmas
 pub mod CauseLemmas
 pub mod ValueLemmas

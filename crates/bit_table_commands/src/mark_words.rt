@@ -86,8 +86,8 @@ pub(crate) fn digits_of_bytes<'a>(mut words: Words<'a>) -> Option<&'a [u8]>
     let Some(word) = words.next() else {
         return Some(&[]);
     };
-    match words.next() {
-        None if are_digits(word) => Some(word),
-        _ => None,
+    if words.next().is_some() || !are_digits(word) {
+        return None;
     }
+    Some(word)
 }

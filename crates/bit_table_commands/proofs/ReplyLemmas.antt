@@ -1,7 +1,9 @@
 -- Items with a space between each two.
-use Rattle.std.proofs.Common.{◌≡◌, ℕ, ◌≤◌, List, [], ◌∷◌, ◌++◌, map, take, length, ap, ◌∙◌, sym}
+use Rattle.std.proofs.Common.{◌≡◌, ℕ, ◌≤◌, List, [], ◌∷◌, ◌++◌, map, take, length, refl, ap, ◌∙◌, sym}
 use Rattle.std.proofs.Common.{append-nil, take_all}
+use Rattle.std.specs.Prelude.{◌==◌, false, Bool, decimal}
 use Rattle.std.specs.List.{join_with_byte, flat_map}
+use Rattle.bit_table_commands.specs.Replies.{row_numbers}
 
 -- the texts of items, each behind a space
 abbrev pub behind_spaces : {X : Type 0} → (X → List ℕ) → List X → List ℕ
@@ -20,3 +22,9 @@ pub spaced-of : {X : Type 0} (shown : X → List ℕ) (x : X) (all xs : List X) 
 spaced-of shown x all xs start text i e s h k =
     h ∙ ap (λ l. start ++ behind_spaces shown l) (take_all i xs k) ∙ ap (λ l. l ++ behind_spaces shown xs) s
     ∙ sym (spaced-cons shown x xs) ∙ ap (λ l. join_with_byte 32 (map shown l)) (sym e)
+
+-- some row numbers with a space between each two
+pub row_numbers-some : (rows : List ℕ) → (length rows == 0) ≡ false
+    → join_with_byte 32 (map decimal rows) ≡ row_numbers rows
+row_numbers-some [] h = absurd cc
+row_numbers-some (row ∷ rows) h = refl

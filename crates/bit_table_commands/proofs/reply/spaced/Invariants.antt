@@ -5,5 +5,5 @@ use Rattle.bit_table_commands.proofs.reply.spaced.Given as goal
 -- behind the first item come those so far, each behind a space
 abbrev pub invariant-loop-item : goal.invariant-loop-item
 invariant-loop-item g l =
-    (shown : g.T → List ℕ) → ((item : g.T) → g.T.Display.output item ≡ Some (shown item))
+    (shown : g.row.T.Denot → List ℕ) → ((item : g.row.T.Denot) → g.T.Display.output item ≡ Some (shown item))
     → l.text.items ≡ l.initial.text.items ++ behind_spaces shown (take l.item-index l.rest)

@@ -29,7 +29,8 @@ use Rattle.bit_table_commands.specs.Causes.{too_full}
 use Rattle.bit_table_commands.specs.Causes.{wrong_image, nothing_kept, is_in_range, is_taken, field_at}
 use Rattle.bit_table_commands.specs.CauseSteps.{rows_counted, rows_loaded}
 use Rattle.bit_table_commands.specs.Accepted.{IsInRange, IsAccepted, IsTaken, HasLawfulValues, HasImage, HasKept}
-use Rattle.bit_table_commands.specs.Marks.{row_bears, marked, passes, number_in_field}
+use Rattle.bit_table_commands.specs.Marks.{row_bears, passes, number_in_field}
+use Rattle.bit_table_commands.proofs.MarkLemmas.{length-marked}
 
 -- ---- the first condition that holds
 
@@ -104,10 +105,6 @@ no_cause false false false false false false false e = record {
 -- the rows from p up to before q
 length-range : (rows : List Row) (p q : ℕ) → p ≤ q → q ≤ length rows → length (slice_range rows p q) ≡ q - p
 length-range rows p q h k = simp (length-take, length-drop) (omega arith)
-
--- as many rows are marked
-pub length-marked : (x : ℕ) (decide : Row → Bool) (rows : List Row) → length (marked x decide rows) ≡ length rows
-length-marked x decide rows = simp length-map
 
 -- no more rows pass a test
 length-passed : (test : Row → Bool) (rows : List Row) → length (filter test rows) ≤ length rows

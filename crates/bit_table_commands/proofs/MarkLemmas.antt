@@ -2,7 +2,8 @@
 --
 -- What marked rows bear: `row_bears-marked`, `row_bears-other`. Their numbers and letters: `marked-numbers`,
 -- `marked-letters`, `marked-decided`. One of them, and how many: `get_or-marked`, `length-marked`. The numbers of the rows
--- that pass: `rows_passing-append`, `rows_passing-more`, `length-rows_passing`.
+-- that pass: `rows_passing-same`, `rows_passing-marked`, `rows_passing-append`, `rows_passing-more`,
+-- `length-rows_passing`.
 use Rattle.std.proofs.Common.{◌≡◌, ◌≢◌, ℕ, zero, suc, ◌+◌, ◌<◌, ◌&&◌, ◌||◌, not, Bool, true, false, cond, List, [], ◌∷◌}
 use Rattle.std.proofs.Common.{◌++◌, length, map, take, get_or, refl, sym, ap, ◌∙◌, arith, length-take-le}
 use Rattle.std.specs.Prelude.{count_by, if◌then◌else◌}
@@ -126,6 +127,31 @@ rows_passing-more test from rows k d h =
     let size : length (take k rows) ≡ k = length-take-le k rows (omega arith) in
     ap (rows_passing test from) (take_more rows k d h) ∙ rows_passing-append test from (take k rows) one
     ∙ ap (λ n. rows_passing test from (take k rows) ++ rows_passing test (from + n) one) size
+
+-- the numbers are told by which rows pass alone
+record SameCons (b c : Bool) (bs cs : List Bool) : Type 0 where
+  first : b ≡ c
+  rest : bs ≡ cs
+
+same_cons : (b c : Bool) (bs cs : List Bool) → b ∷ bs ≡ c ∷ cs → SameCons b c bs cs
+same_cons b c bs cs h = record { first = cc; rest = cc }
+
+pub rows_passing-same : (test other : Row → Bool) (from : ℕ) (rows others : List Row) → map test rows ≡ map other others
+    → rows_passing test from rows ≡ rows_passing other from others
+rows_passing-same test other from [] [] h = refl
+rows_passing-same test other from [] (row ∷ others) h = absurd cc
+rows_passing-same test other from (row ∷ rows) [] h = absurd cc
+rows_passing-same test other from (row ∷ rows) (one ∷ others) h =
+    let same = same_cons (test row) (other one) (map test rows) (map other others) h in
+    let rest = rows_passing-same test other (from + 1) rows others same.rest in
+    ap (λ b. cond b (from ∷ rows_passing test (from + 1) rows) (rows_passing test (from + 1) rows)) same.first
+    ∙ ap (λ l. cond (other one) (from ∷ l) l) rest
+
+-- the rows that bear a letter once it was decided
+pub rows_passing-marked : (x : ℕ) (decide : Row → Bool) (from : ℕ) (rows : List Row)
+    → rows_passing (row_bears x) from (marked x decide rows) ≡ rows_passing decide from rows
+rows_passing-marked x decide from rows =
+    rows_passing-same (row_bears x) decide from (marked x decide rows) rows (row_bears-marked x decide rows)
 
 -- as many rows are told as pass
 pub length-rows_passing : (test : Row → Bool) (from : ℕ) (rows : List Row)

@@ -1,7 +1,7 @@
 -- Items with a space between each two.
 use Rattle.std.proofs.Common.{◌≡◌, ℕ, ◌≤◌, List, [], ◌∷◌, ◌++◌, map, take, length, refl, ap, ◌∙◌, sym}
 use Rattle.std.proofs.Common.{append-nil, take_all}
-use Rattle.std.specs.Prelude.{◌==◌, false, Bool, decimal}
+use Rattle.std.specs.Prelude.{◌==◌, false, decimal}
 use Rattle.std.specs.List.{join_with_byte, flat_map}
 use Rattle.bit_table_commands.specs.Replies.{row_numbers}
 

@@ -1,4 +1,4 @@
-use Rattle.std.proofs.Common.{◌≡◌, Some, sym, ap, ◌∙◌}
+use Rattle.std.proofs.Common.{Some, sym, ap, ◌∙◌}
 use Rattle.bit_table_commands.specs.Commands.{bytes_in}
 use Rattle.bit_table_commands.proofs.DigitLemmas.{no_digits}
 use Rattle.bit_table_commands.proofs.mark_words.digits_of_bytes.Goals as goal

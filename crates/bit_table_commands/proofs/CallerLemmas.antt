@@ -10,3 +10,8 @@ pub use Rattle.bit_table_commands.proofs.CutLemmas.{cause_in-cut_off, cut_off-ac
 pub use Rattle.bit_table_commands.proofs.ValueLemmas.{take_all-cut_value, cut_value-all_taken, length-cut_value}
 pub use Rattle.bit_table_commands.proofs.ValueLemmas.{takes-cut_value, cut_value-taken, cut_place-below}
 pub use Rattle.bit_table_commands.proofs.ValueLemmas.{cut_place-within}
+-- ---- rows that are marked, and rows that a test passes
+pub use Rattle.bit_table_commands.proofs.MarkLemmas.{row_bears-marked, row_bears-other, marked-numbers, marked-letters}
+pub use Rattle.bit_table_commands.proofs.MarkLemmas.{marked-decided, length-marked, get_or-marked, with_mark}
+pub use Rattle.bit_table_commands.proofs.MarkLemmas.{rows_passing-same, rows_passing-marked, rows_passing-append}
+pub use Rattle.bit_table_commands.proofs.MarkLemmas.{rows_passing-more, length-rows_passing}

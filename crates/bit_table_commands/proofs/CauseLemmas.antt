@@ -3,11 +3,12 @@ use Rattle.std.proofs.Common.{◌≡◌, ℕ, ◌+◌, ◌-◌, ◌*◌, ◌≤�
 use Rattle.std.proofs.Common.{ℤ, List}
 use Rattle.std.proofs.Common.{[], ◌∷◌, length, Option, None, Some, refl, sym, ap, ap₂, ◌∙◌, arith}
 use Rattle.std.proofs.Common.{length-append}
-use Rattle.std.specs.Prelude.{slice_range, is_some, unwrap_or, IfSome}
+use Rattle.std.specs.Prelude.{slice_range, is_some, unwrap_or, IfSome, filter}
 use Rattle.std.specs.Option.{option_map_or}
 use Rattle.std.proofs.lemmas.Bool.Decides.{nat_tests}
 use Rattle.std.proofs.lemmas.List.{length-take, length-drop, length-map}
 use Rattle.std.proofs.lemmas.List.Edits.{length-swap}
+use Rattle.std.proofs.lemmas.List.Sums.{length-filter, count_by-le-length}
 use Rattle.std.proofs.Math.Nat.{mul-le-mul_right}
 use Rattle.bit_table_layout.specs.declared.cause.Cause.{Cause}
 use Rattle.bit_table_layout.specs.declared.cause.Cause.TheVariants as refusal
@@ -15,16 +16,21 @@ use Rattle.bit_table_layout.specs.declared.layout.TheConstants.{MAX_BITS}
 use Rattle.bit_table_layout.specs.Fields.{FieldShape, takes}
 use Rattle.bit_table_layout.specs.Layouts.{LayoutShape, row_width}
 use Rattle.bit_table_layout.specs.Rows.{Row}
+use Rattle.bit_table_layout.specs.Loads.{is_image}
+use Rattle.bit_table_layout.proofs.LoadLemmas.{length-rows_in_bytes}
+use Rattle.bit_table_letter.specs.Letters.{combined}
 use Rattle.bit_table_commands.specs.declared.command.Command.{Command}
 use Rattle.bit_table_commands.specs.declared.command.Command.TheVariants.{Insert, Delete, Set, Get, Copy, Swap, Rotate}
-use Rattle.bit_table_commands.specs.declared.command.Command.TheVariants.{Dup, Back}
+use Rattle.bit_table_commands.specs.declared.command.Command.TheVariants.{Dup, Load, Back, Mark, Combine, Not, Drop}
 use Rattle.bit_table_commands.specs.Tables.{TableShape, AreHeld, IsTable, IsTableOf}
 use Rattle.bit_table_commands.specs.Edits.{edited, edit}
 use Rattle.bit_table_commands.specs.Causes.{cause_in, first_of, wrong_form, wrong_field, wrong_row, wrong_value}
 use Rattle.bit_table_commands.specs.Causes.{too_full}
 use Rattle.bit_table_commands.specs.Causes.{wrong_image, nothing_kept, is_in_range, is_taken, field_at}
-use Rattle.bit_table_commands.specs.CauseSteps.{rows_added}
-use Rattle.bit_table_commands.specs.Accepted.{IsInRange, IsAccepted, IsTaken, HasLawfulValues, HasKept}
+use Rattle.bit_table_commands.specs.CauseSteps.{rows_counted, rows_loaded}
+use Rattle.bit_table_commands.specs.Accepted.{IsInRange, IsAccepted, IsTaken, HasLawfulValues, HasImage, HasKept}
+use Rattle.bit_table_commands.specs.Marks.{row_bears, passes, number_in_field}
+use Rattle.bit_table_commands.proofs.MarkLemmas.{length-marked}
 
 -- ---- the first condition that holds
 
@@ -100,8 +106,13 @@ no_cause false false false false false false false e = record {
 length-range : (rows : List Row) (p q : ℕ) → p ≤ q → q ≤ length rows → length (slice_range rows p q) ≡ q - p
 length-range rows p q h k = simp (length-take, length-drop) (omega arith)
 
+-- no more rows pass a test
+length-passed : (test : Row → Bool) (rows : List Row) → length (filter test rows) ≤ length rows
+length-passed test rows = omega (arith, length-filter test rows, count_by-le-length test rows)
+
 -- no row is added
-pub length-not_added : (rows : List Row) (c : Command) → IsInRange (length rows) c → rows_added c ≡ 0
+pub length-not_added : (rows : List Row) (c : Command) → IsInRange (length rows) c
+    → rows_counted (length rows) c ≤ length rows
     → length (edited rows c) ≤ length rows
 length-not_added rows (Insert p vs) h k = absurd (omega arith)
 length-not_added rows (Delete p q) h k = simp (length-append, length-take, length-drop) (omega (arith, h.0, h.1))
@@ -111,6 +122,12 @@ length-not_added rows (Copy p q r) h k =
 length-not_added rows (Swap p q) h k = omega (arith, length-swap rows p q)
 length-not_added rows (Rotate p q k) (a, b, d) e = simp (length-append, length-take, length-drop) (omega arith)
 length-not_added rows (Dup p q) h k = simp (length-append, length-take, length-drop) (omega (arith, h.0, h.1))
+length-not_added rows (Mark x f t v) h k =
+    omega (arith, length-marked x (λ row. passes t (number_in_field f row) v) rows)
+length-not_added rows (Combine op x y) h k =
+    omega (arith, length-marked x (λ row. combined op (row_bears x row) (row_bears y row)) rows)
+length-not_added rows (Not x) h k = omega (arith, length-marked x (λ row. not (row_bears x row)) rows)
+length-not_added rows (Drop x) h k = length-passed (λ row. not (row_bears x row)) rows
 length-not_added rows c h k = omega arith
 
 -- where there are no more rows than before, they have room
@@ -132,12 +149,12 @@ held-kept l (Some kept) rows h k = h
 full-back : (t : TableShape) → IsTable t → too_full t Back ≡ false
 full-back t h = let room = (held-kept t.layout t.kept t.rows h.kept h.rows).room in grind (arith, nat_tests)
 
-full-same : (t : TableShape) → IsTable t → nat_lt MAX_BITS ((length t.rows + 0) * row_width t.layout.fields) ≡ false
+full-same : (t : TableShape) → IsTable t → nat_lt MAX_BITS (length t.rows * row_width t.layout.fields) ≡ false
 full-same t h = let room = h.rows.room in grind (arith, nat_tests)
 
--- whether the rows after a command have room, by how many there were and how many come
+-- whether the rows after a command have room, by how many are counted
 pub full-count : (t : TableShape) (c : Command) → IsTable t → IsInRange (length t.rows) c
-    → too_full t c ≡ nat_lt MAX_BITS ((length t.rows + rows_added c) * row_width t.layout.fields)
+    → too_full t c ≡ nat_lt MAX_BITS (rows_counted (length t.rows) c * row_width t.layout.fields)
 full-count t (Insert p vs) h k =
     let count : length (edited t.rows (Insert p vs)) ≡ length t.rows + 1 =
     simp (length-append, length-take, length-drop) (omega arith) in
@@ -146,8 +163,17 @@ full-count t (Dup p q) h (a, b) =
     let count : length (edited t.rows (Dup p q)) ≡ length t.rows + (q - p) =
     simp (length-append, length-take, length-drop) (omega arith) in
     ap (λ n. nat_lt MAX_BITS (n * row_width t.layout.fields)) count
+full-count t (Load n bytes) h k =
+    ap (λ m. nat_lt MAX_BITS (m * row_width t.layout.fields)) (length-rows_in_bytes t.layout n bytes)
 full-count t Back h k = full-back t h ∙ sym (full-same t h)
-full-count t c h k = full-not_more t c h (length-not_added t.rows c k refl) ∙ sym (full-same t h)
+full-count t c h k = full-not_more t c h (length-not_added t.rows c k (omega arith)) ∙ sym (full-same t h)
+
+-- rows that are loaded are counted
+pub loaded-counted : (n : ℕ) (c : Command) → rows_loaded c ≤ rows_counted n c
+loaded-counted n (Insert p vs) = omega arith
+loaded-counted n (Dup p q) = omega arith
+loaded-counted n (Load m bytes) = omega arith
+loaded-counted n c = omega arith
 
 -- ---- row numbers in range
 
@@ -203,7 +229,7 @@ cause-of l n kept t c form field row value h a b d e =
 -- where no earlier condition holds, the rows after the command decide, and then whether it finds what it wants
 pub cause-by_room : (l : LayoutShape) (n : ℕ) (kept : Bool) (t : TableShape) (c : Command) (full image none : Bool)
     → IsTableOf l n kept t → wrong_form l c ≡ false → wrong_field l c ≡ false → wrong_row n c ≡ false
-    → wrong_value l c ≡ false → nat_lt MAX_BITS ((n + rows_added c) * row_width l.fields) ≡ full
+    → wrong_value l c ≡ false → nat_lt MAX_BITS (rows_counted n c * row_width l.fields) ≡ full
     → wrong_image l c ≡ image → nothing_kept kept c ≡ none
     → by_conditions false false false false full image none ≡ cause_in t c
 cause-by_room l n kept t c full image none h a b d e k i j =
@@ -211,8 +237,8 @@ cause-by_room l n kept t c full image none h a b d e k i j =
     in_range-facts (length t.rows) c (ap (λ m. is_in_range m c) h.count ∙ not-false _ d) in
     let room : too_full t c ≡ full =
     full-count t c h.lawful in_range
-    ∙ ap (λ m. nat_lt MAX_BITS ((m + rows_added c) * row_width t.layout.fields)) h.count
-    ∙ ap (λ (x : LayoutShape). nat_lt MAX_BITS ((n + rows_added c) * row_width x.fields)) h.layout
+    ∙ ap (λ m. nat_lt MAX_BITS (rows_counted m c * row_width t.layout.fields)) h.count
+    ∙ ap (λ (x : LayoutShape). nat_lt MAX_BITS (rows_counted n c * row_width x.fields)) h.layout
     ∙ k in
     ap (λ b. by_conditions false false false false b image none) (sym room)
     ∙ ap₂ (by_conditions false false false false (too_full t c)) (sym i) (sym j)
@@ -238,7 +264,12 @@ values-facts l (Insert p vs) a b =
     let same : (length vs == length l.fields) ≡ true = not-false _ a in
     record { count = grind (arith, nat_tests); taken = not-false _ b }
 values-facts l (Set p f v) a b = taken-facts l f v (not-false _ b)
+values-facts l (Mark x f t v) a b = taken-facts l f v (not-false _ b)
 values-facts l c a b = tt
+
+image-facts : (l : LayoutShape) (c : Command) → wrong_image l c ≡ false → HasImage l c
+image-facts l (Load n bytes) e = not-false (is_image l n bytes) e
+image-facts l c e = tt
 
 kept-facts : (kept : Bool) (c : Command) → nothing_kept kept c ≡ false → HasKept kept c
 kept-facts kept Back e = not-false kept e
@@ -260,5 +291,6 @@ accepted t c e =
       in_range = in_range-facts (length t.rows) c (not-false _ h.row_is);
       values = values-facts t.layout c h.form_is h.value_is;
       room = grind (arith, nat_tests);
+      image = image-facts t.layout c h.image_is;
       kept = kept-facts (is_some t.kept) c h.kept_is;
     }

@@ -1,19 +1,25 @@
 -- The table that a command leaves is a table.
-use Rattle.std.proofs.Common.{◌≡◌, ℕ, zero, suc, ◌+◌, ◌-◌, ◌<◌, true, ℤ, List, [], ◌∷◌, ◌++◌}
+use Rattle.std.proofs.Common.{◌≡◌, ℕ, zero, suc, ◌+◌, ◌-◌, ◌<◌, not, Bool, true, ℤ, List, [], ◌∷◌, ◌++◌}
 use Rattle.std.proofs.Common.{length, map, take, drop, get_or, set, Option, Some, None, refl, ap, ◌∙◌, arith}
 use Rattle.std.specs.Prelude.{slice_get, slice_range, unwrap_or, IfSome}
 use Rattle.std.specs.List.{All, swap}
 use Rattle.std.proofs.lemmas.List.Elements.{All-get_or, All-append, All-cons, All-take, All-drop, All-map, All-set}
+use Rattle.std.proofs.lemmas.List.Elements.{All-filter}
 use Rattle.std.proofs.lemmas.List.Sums.{AllPass-from_list_all, list_all-from_AllPass}
 use Rattle.bit_table_layout.specs.Fields.{FieldShape, takes}
 use Rattle.bit_table_layout.specs.Layouts.{LayoutShape}
 use Rattle.bit_table_layout.specs.Rows.{Row, new_row, take_all, is_row}
+use Rattle.bit_table_layout.specs.Loads.{rows_in_bytes}
+use Rattle.bit_table_layout.proofs.LoadLemmas.{are_rows-rows_in_bytes}
+use Rattle.bit_table_letter.specs.Letters.{combined}
+use Rattle.bit_table_letter.specs.Marks.{with_letter}
 use Rattle.bit_table_commands.specs.declared.command.Command.{Command}
 use Rattle.bit_table_commands.specs.declared.command.Command.TheVariants.{Insert, Delete, Set, Copy, Swap, Rotate, Dup}
-use Rattle.bit_table_commands.specs.declared.command.Command.TheVariants.{Keep, Back}
+use Rattle.bit_table_commands.specs.declared.command.Command.TheVariants.{Load, Keep, Back, Mark, Combine, Not, Drop}
 use Rattle.bit_table_commands.specs.Accepted.{IsInRange, HasLawfulValues, IsTaken}
 use Rattle.bit_table_commands.specs.Causes.{cause_in}
 use Rattle.bit_table_commands.specs.Edits.{edit, edited, rows_after, kept_after, with_number}
+use Rattle.bit_table_commands.specs.Marks.{row_bears, marked, passes, number_in_field}
 use Rattle.bit_table_commands.specs.Tables.{TableShape, AreHeld, IsTable}
 use Rattle.bit_table_commands.proofs.CauseLemmas.{accepted, held-kept}
 
@@ -55,6 +61,12 @@ swapped l (d ∷ rows) p q a b h =
     let once = All-set (IsRow l) all p (get_or all q d) (All-get_or (IsRow l) all q d b h) h in
     All-set (IsRow l) (set all p (get_or all q d)) q (get_or all p d) (All-get_or (IsRow l) all p d a h) once
 
+-- marks leave numbers as they are
+remarked : (l : LayoutShape) (x : ℕ) (decide : Row → Bool) (rows : List Row) → All (IsRow l) rows
+    → All (IsRow l) (marked x decide rows)
+remarked l x decide rows h =
+    All-map (IsRow l) (λ (row : Row). record row { letters = with_letter x (decide row) row.letters }) rows h
+
 -- rows that are rows of the layout stay so
 pub edited-rows : (l : LayoutShape) (rows : List Row) (c : Command) → All (IsRow l) rows → IsInRange (length rows) c
     → HasLawfulValues l c → All (IsRow l) (edited rows c)
@@ -83,6 +95,11 @@ edited-rows l rows (Rotate p q k) h r v =
     (All-append (IsRow l) (slice_range rows p (p + k)) (drop q rows) (part l rows p (p + k) h)
     (All-drop (IsRow l) q rows h)))
 edited-rows l rows (Dup p q) h k v = All-append (IsRow l) rows (slice_range rows p q) h (part l rows p q h)
+edited-rows l rows (Mark x f t y) h k v = remarked l x (λ row. passes t (number_in_field f row) y) rows h
+edited-rows l rows (Combine op x y) h k v =
+    remarked l x (λ row. combined op (row_bears x row) (row_bears y row)) rows h
+edited-rows l rows (Not x) h k v = remarked l x (λ row. not (row_bears x row)) rows h
+edited-rows l rows (Drop x) h k v = All-filter (λ row. not (row_bears x row)) (IsRow l) rows h
 edited-rows l rows c h k v = h
 
 -- the rows that a command leaves are rows of the layout
@@ -91,6 +108,9 @@ rows-after : (t : TableShape) (c : Command) → IsTable t → IsInRange (length 
 rows-after t Back h k v =
     AllPass-from_list_all (is_row t.layout) (unwrap_or t.kept t.rows)
     (held-kept t.layout t.kept t.rows h.kept h.rows).lawful
+rows-after t (Load n bytes) h k v =
+    AllPass-from_list_all (is_row t.layout) (rows_in_bytes t.layout n bytes)
+    (are_rows-rows_in_bytes t.layout n bytes h.layout)
 rows-after t c h k v =
     edited-rows t.layout t.rows c (AllPass-from_list_all (is_row t.layout) t.rows h.rows.lawful) k v
 

@@ -1,7 +1,7 @@
 -- Known lines, commands, edits and answers, computed: a wrong rule among the definitions does not check.
 use Rattle.std.proofs.Common.{◌≡◌, ℕ, ◌-◌, ◌+◌, ◌^◌, ◌==◌, true, false, pos, neg_ℤ, List, [], ◌∷◌, ◌++◌, codes}
-use Rattle.std.proofs.Common.{Option, None, Some, refl}
-use Rattle.std.specs.Prelude.{⊤}
+use Rattle.std.proofs.Common.{Option, None, Some, Bool, ◌*◌, ◌||◌, not, refl, ap, ◌∙◌}
+use Rattle.std.specs.Prelude.{⊤, nat_lt}
 use Rattle.std.specs.Fmt.{digits}
 use Rattle.std.specs.List.{slice_split}
 use Rattle.hex.proofs.OnLiterals.{hex_on_literals}
@@ -9,15 +9,24 @@ use Rattle.bit_table_layout.specs.declared.cause.Cause.{Cause}
 use Rattle.bit_table_layout.specs.declared.layout.Rule.{Rule}
 use Rattle.bit_table_layout.specs.declared.layout.Rule.TheVariants.{Low, High}
 use Rattle.bit_table_layout.specs.CauseWords.{refusal_text}
-use Rattle.bit_table_layout.specs.Layouts.{LayoutShape}
+use Rattle.bit_table_layout.specs.declared.layout.TheConstants.{MAX_BITS}
+use Rattle.bit_table_layout.specs.Layouts.{LayoutShape, row_width}
+use Rattle.bit_table_layout.proofs.LoadLemmas.{length-rows_in_bytes}
+use Rattle.bit_table_letter.specs.Letters.{combined}
 use Rattle.bit_table_layout.specs.Rows.{Row, new_row}
+use Rattle.bit_table_letter.specs.declared.bool_op.BoolOp.TheVariants.{And, Or, Xor}
 use Rattle.bit_table_commands.specs.declared.command.Command.{Command}
 use Rattle.bit_table_commands.specs.declared.command.Command.TheVariants.{Insert, Delete, Set, Get, Copy, Swap, Rotate}
-use Rattle.bit_table_commands.specs.declared.command.Command.TheVariants.{Dup, Image, Keep, Back}
+use Rattle.bit_table_commands.specs.declared.command.Command.TheVariants.{Dup, Image, Load, Keep, Back, Mark, Combine}
+use Rattle.bit_table_commands.specs.declared.command.Command.TheVariants.{Not, Count, List as Listing, Drop}
+use Rattle.bit_table_commands.specs.declared.test.Test.TheVariants.{Below, Equal, Above}
 use Rattle.bit_table_commands.specs.Commands.{command_of, cut_place, cut_value, cut_off}
-use Rattle.bit_table_commands.specs.Causes.{cause_in, line_cause}
+use Rattle.bit_table_commands.specs.Causes.{cause_in, line_cause, too_full}
+use Rattle.bit_table_commands.specs.Marks.{row_bears, passes, number_in_field, rows_passing}
 use Rattle.bit_table_commands.specs.Edits.{edit, edited, reply_to}
 use Rattle.bit_table_commands.specs.Replies.{reply_text}
+use Rattle.bit_table_commands.specs.declared.reply.Reply.TheVariants as answer
+use Rattle.bit_table_commands.proofs.MarkLemmas.{rows_passing-marked}
 use Rattle.bit_table_commands.specs.Tables.{TableShape, new_table}
 
 -- ---- tables to begin with
@@ -228,6 +237,142 @@ command-back_more : command_of (two_fields Low) (codes "back back") ≡ None
 unfolding command_of two_fields
 command-back_more = refl
 
+command-load : command_of (two_fields Low) (codes "load 2 7d0d") ≡ Some (Load 2 (125 ∷ 13 ∷ []))
+unfolding command_of two_fields hex_on_literals
+command-load = refl
+
+command-load_upper : command_of (two_fields Low) (codes "load 02 BE8c") ≡ Some (Load 2 (190 ∷ 140 ∷ []))
+unfolding command_of two_fields hex_on_literals
+command-load_upper = refl
+
+command-load_none : command_of (two_fields Low) (codes "load 0") ≡ Some (Load 0 [])
+unfolding command_of two_fields
+command-load_none = refl
+
+command-load_great : command_of (two_fields Low) (codes "load 18446744073709551616 00") ≡ Some (Load (2 ^ 64) (0 ∷ []))
+unfolding command_of two_fields hex_on_literals
+command-load_great = refl
+
+command-load_no_count : command_of (two_fields Low) (codes "load") ≡ None
+unfolding command_of two_fields
+command-load_no_count = refl
+
+command-load_odd : command_of (two_fields Low) (codes "load 2 7d0") ≡ None
+unfolding command_of two_fields hex_on_literals
+command-load_odd = refl
+
+command-load_no_digit : command_of (two_fields Low) (codes "load 2 7d0g") ≡ None
+unfolding command_of two_fields hex_on_literals
+command-load_no_digit = refl
+
+command-load_two_words : command_of (two_fields Low) (codes "load 2 7d 0d") ≡ None
+unfolding command_of two_fields hex_on_literals
+command-load_two_words = refl
+
+command-load_signed : command_of (two_fields Low) (codes "load -0") ≡ None
+unfolding command_of two_fields
+command-load_signed = refl
+
+command-mark_below : command_of (two_fields Low) (codes "mark x b < 0") ≡ Some (Mark 23 (Some 1) Below (pos 0))
+unfolding command_of two_fields
+command-mark_below = refl
+
+command-mark_equal : command_of (two_fields Low) (codes "mark a a = -7") ≡ Some (Mark 0 (Some 0) Equal (neg_ℤ (pos 7)))
+unfolding command_of two_fields
+command-mark_equal = refl
+
+command-mark_above : command_of (two_fields Low) (codes "mark z c > 007") ≡ Some (Mark 25 None Above (pos 7))
+unfolding command_of two_fields
+command-mark_above = refl
+
+command-mark_short : command_of (two_fields Low) (codes "mark x b <") ≡ None
+unfolding command_of two_fields
+command-mark_short = refl
+
+command-mark_more : command_of (two_fields Low) (codes "mark x b < 0 0") ≡ None
+unfolding command_of two_fields
+command-mark_more = refl
+
+command-mark_joined : command_of (two_fields Low) (codes "mark x b <= 0") ≡ None
+unfolding command_of two_fields
+command-mark_joined = refl
+
+command-mark_no_test : command_of (two_fields Low) (codes "mark x b ! 0") ≡ None
+unfolding command_of two_fields
+command-mark_no_test = refl
+
+command-mark_upper : command_of (two_fields Low) (codes "mark X b < 0") ≡ None
+unfolding command_of two_fields
+command-mark_upper = refl
+
+command-mark_two_letters : command_of (two_fields Low) (codes "mark xx b < 0") ≡ None
+unfolding command_of two_fields
+command-mark_two_letters = refl
+
+command-mark_no_field : command_of (two_fields Low) (codes "mark x B < 0") ≡ None
+unfolding command_of two_fields
+command-mark_no_field = refl
+
+command-mark_plus : command_of (two_fields Low) (codes "mark x b < +1") ≡ None
+unfolding command_of two_fields
+command-mark_plus = refl
+
+command-and : command_of (two_fields Low) (codes "and x y") ≡ Some (Combine And 23 24)
+unfolding command_of two_fields
+command-and = refl
+
+command-or : command_of (two_fields Low) (codes "or x x") ≡ Some (Combine Or 23 23)
+unfolding command_of two_fields
+command-or = refl
+
+command-xor : command_of (two_fields Low) (codes "xor b a") ≡ Some (Combine Xor 1 0)
+unfolding command_of two_fields
+command-xor = refl
+
+command-and_one : command_of (two_fields Low) (codes "and x") ≡ None
+unfolding command_of two_fields
+command-and_one = refl
+
+command-or_three : command_of (two_fields Low) (codes "or x y z") ≡ None
+unfolding command_of two_fields
+command-or_three = refl
+
+command-xor_number : command_of (two_fields Low) (codes "xor x 1") ≡ None
+unfolding command_of two_fields
+command-xor_number = refl
+
+command-not : command_of (two_fields Low) (codes "not a") ≡ Some (Not 0)
+unfolding command_of two_fields
+command-not = refl
+
+command-not_none : command_of (two_fields Low) (codes "not") ≡ None
+unfolding command_of two_fields
+command-not_none = refl
+
+command-count : command_of (two_fields Low) (codes "count z") ≡ Some (Count 25)
+unfolding command_of two_fields
+command-count = refl
+
+command-count_two : command_of (two_fields Low) (codes "count x y") ≡ None
+unfolding command_of two_fields
+command-count_two = refl
+
+command-list : command_of (two_fields Low) (codes "list x") ≡ Some (Listing 23)
+unfolding command_of two_fields
+command-list = refl
+
+command-list_capital : command_of (two_fields Low) (codes "list A") ≡ None
+unfolding command_of two_fields
+command-list_capital = refl
+
+command-drop : command_of (two_fields Low) (codes "drop x") ≡ Some (Drop 23)
+unfolding command_of two_fields
+command-drop = refl
+
+command-drop_two_bytes : command_of (two_fields Low) (codes "drop ab") ≡ None
+unfolding command_of two_fields
+command-drop_two_bytes = refl
+
 command-none : command_of (two_fields Low) ([]) ≡ None
 unfolding command_of two_fields
 command-none = refl
@@ -271,6 +416,12 @@ cut_off-rotate = refl
 cut_off-set : cut_off (Set (2 ^ 64) (Some 3) (neg_ℤ (pos (2 ^ 65))))
     ≡ Set (2 ^ 64 - 1) (Some 3) (neg_ℤ (pos (2 ^ 64)))
 cut_off-set = refl
+
+cut_off-load : cut_off (Load (2 ^ 64) (7 ∷ [])) ≡ Load (2 ^ 64 - 1) (7 ∷ [])
+cut_off-load = refl
+
+cut_off-mark : cut_off (Mark 3 (Some 1) Above (pos (2 ^ 64 + 5))) ≡ Mark 3 (Some 1) Above (pos (2 ^ 64))
+cut_off-mark = refl
 
 -- ---- edits of any rows: they go whole, with their letters
 
@@ -473,3 +624,96 @@ answered-kept_again : answered (two_rows High)
     ≡ codes "ok\nok\nok\nok\nok\nok\n1 46\nrefused kept\n"
 unfolding on_literals
 answered-kept_again = refl
+
+answered-load : answered (two_rows High)
+    (codes "load 2 be8d\nload 2 BE8C\nload 3 be8c\nload 2 be8\nload 2\nload 0 00\nload 0\nimage")
+    ≡ codes "refused image\nok\nrefused image\nrefused form\nrefused image\nrefused image\nok\n0\n"
+unfolding on_literals
+answered-load = refl
+
+answered-order_of_mark : answered (two_rows High)
+    (codes "mark x c < 99\nmark x a < 8\nmark x a < -1\nmark x a < 18446744073709551616\nmark x b < 0")
+    ≡ codes "refused field\nrefused value\nrefused value\nrefused value\nok\n"
+unfolding on_literals
+answered-order_of_mark = refl
+
+-- ---- room for rows that are loaded: 2 ^ 61 - 1 bits have it, and one bit more has none
+
+full-load : (t : TableShape) (n : ℕ) (bytes : List ℕ) (full : Bool)
+    → nat_lt MAX_BITS (n * row_width t.layout.fields) ≡ full → too_full t (Load n bytes) ≡ full
+full-load t n bytes full h =
+    ap (λ m. nat_lt MAX_BITS (m * row_width t.layout.fields)) (length-rows_in_bytes t.layout n bytes) ∙ h
+
+full-ones_past : too_full (new_table (one_field Low 1)) (Load 2305843009213693952 (0 ∷ [])) ≡ true
+unfolding one_field
+full-ones_past = full-load (new_table (one_field Low 1)) 2305843009213693952 (0 ∷ []) true refl
+
+full-ones : too_full (new_table (one_field Low 1)) (Load 2305843009213693951 (0 ∷ [])) ≡ false
+unfolding one_field
+full-ones = full-load (new_table (one_field Low 1)) 2305843009213693951 (0 ∷ []) false refl
+
+full-sevens_past : too_full (two_rows High) (Load 329406144173384851 (0 ∷ [])) ≡ true
+unfolding two_rows two_fields
+full-sevens_past = full-load (two_rows High) 329406144173384851 (0 ∷ []) true refl
+
+full-sevens : too_full (two_rows High) (Load 329406144173384850 (0 ∷ [])) ≡ false
+unfolding two_rows two_fields
+full-sevens = full-load (two_rows High) 329406144173384850 (0 ∷ []) false refl
+
+-- ---- numbers compared, with their sign
+
+passes-below : passes Below (neg_ℤ (pos 1)) (pos 0) ≡ true
+passes-below = refl
+
+passes-below_same : passes Below (pos 3) (pos 3) ≡ false
+passes-below_same = refl
+
+passes-equal : passes Equal (neg_ℤ (pos 8)) (neg_ℤ (pos 8)) ≡ true
+passes-equal = refl
+
+passes-equal_sign : passes Equal (neg_ℤ (pos 8)) (pos 8) ≡ false
+passes-equal_sign = refl
+
+passes-above : passes Above (pos 3) (neg_ℤ (pos 1)) ≡ true
+passes-above = refl
+
+passes-above_same : passes Above (neg_ℤ (pos 1)) (neg_ℤ (pos 1)) ≡ false
+passes-above_same = refl
+
+-- ---- marks, and the rows that bear them
+
+listed-below : rows_passing (row_bears 23) 0 (edited (two_rows High).rows (Mark 23 (Some 1) Below (pos 0))) ≡ 0 ∷ []
+unfolding two_rows
+listed-below =
+    rows_passing-marked 23 (λ row. passes Below (number_in_field (Some 1) row) (pos 0)) 0 (two_rows High).rows
+
+listed-equal : rows_passing (row_bears 23) 0 (edited (two_rows High).rows (Mark 23 (Some 0) Equal (pos 5))) ≡ 0 ∷ []
+unfolding two_rows
+listed-equal =
+    rows_passing-marked 23 (λ row. passes Equal (number_in_field (Some 0) row) (pos 5)) 0 (two_rows High).rows
+
+listed-above : rows_passing (row_bears 24) 0 (edited (two_rows High).rows (Mark 24 (Some 1) Above (pos 0))) ≡ 1 ∷ []
+unfolding two_rows
+listed-above =
+    rows_passing-marked 24 (λ row. passes Above (number_in_field (Some 1) row) (pos 0)) 0 (two_rows High).rows
+
+listed-not : (rows : List Row) → rows_passing (row_bears 23) 0 (edited rows (Not 23))
+    ≡ rows_passing (λ row. not (row_bears 23 row)) 0 rows
+listed-not rows = rows_passing-marked 23 (λ row. not (row_bears 23 row)) 0 rows
+
+listed-or : (rows : List Row) → rows_passing (row_bears 23) 0 (edited rows (Combine Or 23 24))
+    ≡ rows_passing (λ row. row_bears 23 row || row_bears 24 row) 0 rows
+listed-or rows = rows_passing-marked 23 (λ row. combined Or (row_bears 23 row) (row_bears 24 row)) 0 rows
+
+-- ---- the text of row numbers and counts
+
+text-rows : reply_text (answer.Rows (0 ∷ 7 ∷ 12 ∷ [])) ≡ codes "0 7 12\n"
+unfolding digits
+text-rows = refl
+
+text-no_rows : reply_text (answer.Rows []) ≡ codes "none\n"
+text-no_rows = refl
+
+text-count : reply_text (answer.Count 0) ≡ codes "0\n"
+unfolding digits
+text-count = refl

@@ -1,5 +1,7 @@
 mod ReadingLemmas
+pub mod DigitLemmas
 mod ReplyLemmas
+pub mod MarkLemmas
 pub mod CauseLemmas
 pub mod ValueLemmas
 pub mod CutLemmas

@@ -5,14 +5,17 @@ use Rattle.std.proofs.lemmas.Option.{option_and_then_some}
 use Rattle.bit_table_layout.specs.LineWords.{words}
 use Rattle.bit_table_layout.specs.Numerals.{number_in}
 use Rattle.bit_table_layout.specs.Layouts.{LayoutShape}
+use Rattle.bit_table_letter.specs.declared.bool_op.BoolOp.TheVariants.{And, Or, Xor}
 use Rattle.bit_table_commands.specs.declared.name.Name.{Name}
 use Rattle.bit_table_commands.specs.declared.name.Name.TheVariants as name
 use Rattle.bit_table_commands.specs.declared.command.Command.{Command}
 use Rattle.bit_table_commands.specs.declared.command.Command.TheVariants.{Insert, Delete, Set, Get, Copy, Swap, Rotate}
-use Rattle.bit_table_commands.specs.declared.command.Command.TheVariants.{Dup, Image, Keep, Back}
+use Rattle.bit_table_commands.specs.declared.command.Command.TheVariants.{Dup, Image, Load, Keep, Back, Mark, Combine}
+use Rattle.bit_table_commands.specs.declared.command.Command.TheVariants.{Not, Count, List as Listing, Drop}
 use Rattle.bit_table_commands.specs.Commands.{command_of, command_in, command_named, insert_in, insert_from, set_in}
 use Rattle.bit_table_commands.specs.Commands.{field_and_value, alone, one_number, two_numbers, three_numbers}
-use Rattle.bit_table_commands.specs.Commands.{whole_numbers_in, name_of, cut_off}
+use Rattle.bit_table_commands.specs.Commands.{whole_numbers_in, name_of, cut_off, mark_in, load_in, field_test_value, bytes_in}
+use Rattle.bit_table_commands.specs.Commands.{letter_in, one_letter, two_letters}
 use Rattle.bit_table_commands.specs.Causes.{wrong_form}
 
 -- ---- a command that a line spells has the right form
@@ -42,6 +45,18 @@ set_in-form l (w ∷ ws) c e =
     option_and_then_some (λ p. option_map (λ fv. Set p fv.0 fv.1) (field_and_value l ws)) (number_in w) c e
     (λ p a b. mapped-form l (λ fv. Set p fv.0 fv.1) (field_and_value l ws) c (λ fv. refl) b)
 
+mark_in-form : (l : LayoutShape) (ws : List (List ℕ)) (c : Command) → mark_in l ws ≡ Some c → wrong_form l c ≡ false
+mark_in-form l [] c e = absurd cc
+mark_in-form l (w ∷ ws) c e =
+    option_and_then_some (λ x. option_map (λ ftv. Mark x ftv.0 ftv.1 ftv.2) (field_test_value l ws)) (letter_in w) c e
+    (λ x a b. mapped-form l (λ ftv. Mark x ftv.0 ftv.1 ftv.2) (field_test_value l ws) c (λ ftv. refl) b)
+
+load_in-form : (l : LayoutShape) (ws : List (List ℕ)) (c : Command) → load_in ws ≡ Some c → wrong_form l c ≡ false
+load_in-form l [] c e = absurd cc
+load_in-form l (w ∷ ws) c e =
+    option_and_then_some (λ n. option_map (λ bytes. Load n bytes) (bytes_in ws)) (number_in w) c e
+    (λ n a b. mapped-form l (λ bytes. Load n bytes) (bytes_in ws) c (λ bytes. refl) b)
+
 alone-form : (l : LayoutShape) (whole c : Command) (ws : List (List ℕ)) → wrong_form l whole ≡ false
     → alone whole ws ≡ Some c → wrong_form l c ≡ false
 alone-form l whole c [] h e = let same : whole ≡ c = cc in sym (ap (wrong_form l) same) ∙ h
@@ -60,8 +75,17 @@ named-form l name.Rotate ws c e =
     mapped-form l (λ pqk. Rotate pqk.0 pqk.1 pqk.2) (three_numbers ws) c (λ pqk. refl) e
 named-form l name.Dup ws c e = mapped-form l (λ pq. Dup pq.0 pq.1) (two_numbers ws) c (λ pq. refl) e
 named-form l name.Image ws c e = alone-form l Image c ws refl e
+named-form l name.Load ws c e = load_in-form l ws c e
 named-form l name.Keep ws c e = alone-form l Keep c ws refl e
 named-form l name.Back ws c e = alone-form l Back c ws refl e
+named-form l name.Mark ws c e = mark_in-form l ws c e
+named-form l name.And ws c e = mapped-form l (λ xy. Combine And xy.0 xy.1) (two_letters ws) c (λ xy. refl) e
+named-form l name.Or ws c e = mapped-form l (λ xy. Combine Or xy.0 xy.1) (two_letters ws) c (λ xy. refl) e
+named-form l name.Xor ws c e = mapped-form l (λ xy. Combine Xor xy.0 xy.1) (two_letters ws) c (λ xy. refl) e
+named-form l name.Not ws c e = mapped-form l Not (one_letter ws) c (λ x. refl) e
+named-form l name.Count ws c e = mapped-form l Count (one_letter ws) c (λ x. refl) e
+named-form l name.List ws c e = mapped-form l Listing (one_letter ws) c (λ x. refl) e
+named-form l name.Drop ws c e = mapped-form l Drop (one_letter ws) c (λ x. refl) e
 
 spelled_in-form : (l : LayoutShape) (ws : List (List ℕ)) (c : Command) → command_in l ws ≡ Some c
     → wrong_form l c ≡ false

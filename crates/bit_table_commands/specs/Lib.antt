@@ -14,9 +14,13 @@ pub use Rattle.bit_table_layout.specs.Fields
 pub use Rattle.bit_table_layout.specs.Images
 pub use Rattle.bit_table_layout.specs.Layouts
 pub use Rattle.bit_table_layout.specs.LineWords
+pub use Rattle.bit_table_layout.specs.Loads
 pub use Rattle.bit_table_layout.specs.Numerals
 pub use Rattle.bit_table_layout.specs.Rows
 pub use Rattle.bit_table_layout.specs.declared.cause.Cause
 pub use Rattle.bit_table_layout.specs.declared.cause.Fault
 pub use Rattle.bit_table_layout.specs.declared.layout.Rule
 pub use Rattle.bit_table_layout.specs.declared.layout.TheConstants as Limits
+pub use Rattle.bit_table_letter.specs.Letters
+pub use Rattle.bit_table_letter.specs.Marks as LetterMarks
+pub use Rattle.bit_table_letter.specs.declared.bool_op.BoolOp

@@ -1,5 +1,5 @@
 //! What refuses a command.
-ghost use Rattle.std.specs.Prelude.{◌≡◌, ◌*◌, ◌≤◌};
+ghost use Rattle.std.specs.Prelude.{◌≡◌, ◌*◌, ◌≤◌, ◌^◌};
 ghost use Rattle.std.specs.Option.{option_copied};
 ghost use Rattle.bit_table_layout.specs.Layouts.{row_width};
 ghost use Rattle.bit_table_layout.specs.Rows.{take_all};
@@ -128,7 +128,8 @@ impl Command {
 
     // How many rows need room, where there are so many before the command.
     fn rows_counted(&self, rows: u64) -> u128
-        ensures { result ≡ rows_counted rows self.now }
+        ensures value { result ≡ rows_counted rows self.now }
+        ensures few { result ≤ 2 ^ 65 }
     {
         match self {
             Command::Insert { .. } => u128::from(rows) + 1,

@@ -1,6 +1,8 @@
 //! Letters, tests and bytes that words spell.
 ghost use Rattle.std.specs.Prelude.{◌≡◌, option_map};
 ghost use Rattle.std.specs.Option.{option_copied};
+ghost use Rattle.std.specs.Result.{result_ok};
+ghost use Rattle.hex.specs.Hex.{decode_of};
 ghost use Rattle.bit_table_layout.specs.LineWordsLeft.{words_left};
 ghost use Rattle.bit_table_commands.specs.Commands.{bytes_in, letter_in, one_letter, test_and_value, test_in, test_of};
 ghost use Rattle.bit_table_commands.specs.Commands.{two_letters};
@@ -79,6 +81,13 @@ fn are_digits(word: &[u8]) -> bool
     word.len() % 2 == 0 && word.iter().all(|byte| byte.is_ascii_hexdigit())
 }
 
+// A word that is hexadecimal digits, two a byte.
+fn digits(word: &[u8]) -> Option<&[u8]>
+    ensures { option_map bytes_of_digits (option_copied result) ≡ result_ok (decode_of word.now) }
+{
+    if are_digits(word) { Some(word) } else { None }
+}
+
 // The digits of bytes: those of the only word that is left, or none where there is no word.
 pub(crate) fn digits_of_bytes<'a>(mut words: Words<'a>) -> Option<&'a [u8]>
     ensures { option_map bytes_of_digits (option_copied result) ≡ bytes_in (words_left words.entry) }
@@ -87,7 +96,7 @@ pub(crate) fn digits_of_bytes<'a>(mut words: Words<'a>) -> Option<&'a [u8]>
         return Some(&[]);
     };
     match words.next() {
-        None if are_digits(word) => Some(word),
-        _ => None,
+        None => digits(word),
+        Some(_) => None,
     }
 }

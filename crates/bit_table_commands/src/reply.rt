@@ -1,12 +1,12 @@
 //! The replies to commands that were carried out.
-ghost use Rattle.std.specs.Prelude.{◌≡◌, IfOk, map};
-ghost use Rattle.std.specs.Fmt.{signed_decimal};
+ghost use Rattle.std.specs.Prelude.{◌≡◌, ℕ, List, IfOk, Some, map};
 ghost use Rattle.std.specs.List.{join_with_byte};
 ghost use Rattle.bit_table_commands.specs.Replies.{reply_text, row_numbers};
 
 use super::items::Items;
 use bit_table_layout::image;
 use std::alloc::{AllocError, Global};
+use std::fmt;
 
 /// The numbers of a row, one a field, in order.
 pub type Numbers = Items<i128>;
@@ -53,33 +53,30 @@ impl Reply {
     }
 }
 
-// The numbers in decimal, with a space between each two.
-fn spaced(alloc: Global, numbers: &[i128]) -> Result<Vec<u8>, AllocError>
-    ensures { IfOk result (λ text. text.items ≡ join_with_byte 32 (map signed_decimal numbers.now)) }
-{
-    let mut text = Vec::new(alloc);
-    let Some((first, rest)) = numbers.split_first() else {
-        return Ok(text);
-    };
-    text.extend_from_slice(first.to_string(alloc)?.as_bytes())?;
-    for number in rest {
-        text.push(b' ')?;
-        text.extend_from_slice(number.to_string(alloc)?.as_bytes())?;
-    }
-    Ok(text)
-}
-
 // The row numbers in decimal with a space between each two, or `none`.
 fn row_numbers(alloc: Global, rows: &[usize]) -> Result<Vec<u8>, AllocError>
     ensures { IfOk result (λ text. text.items ≡ row_numbers rows.now) }
 {
-    let Some((first, rest)) = rows.split_first() else {
-        return Vec::from_slice(alloc, b"none");
+    if rows.is_empty() {
+        Vec::from_slice(alloc, b"none")
+    } else {
+        spaced(alloc, rows)
+    }
+}
+
+// The texts of items, with a space between each two.
+fn spaced<T: fmt::Display>(alloc: Global, items: &[T]) -> Result<Vec<u8>, AllocError>
+    ensures { (shown : T → List ℕ) → ((item : T) → T.output item ≡ Some (shown item))
+        → IfOk result (λ text. text.items ≡ join_with_byte 32 (map shown items.now)) }
+{
+    let mut text = Vec::new(alloc);
+    let Some((first, rest)) = items.split_first() else {
+        return Ok(text);
     };
-    let mut text = Vec::from_slice(alloc, first.to_string(alloc)?.as_bytes())?;
-    for row in rest {
+    text.extend_from_slice(first.to_string(alloc)?.as_bytes())?;
+    for item in rest {
         text.push(b' ')?;
-        text.extend_from_slice(row.to_string(alloc)?.as_bytes())?;
+        text.extend_from_slice(item.to_string(alloc)?.as_bytes())?;
     }
     Ok(text)
 }

@@ -70,6 +70,15 @@ fn carries_out_rows_in_range(rt: HostRuntime) -> Result<(), Fail> {
         b"swap 1 1".as_slice(),
         b"dup 0 2".as_slice(),
         b"image".as_slice(),
+        b"load 2 be8c".as_slice(),
+        b"load 0".as_slice(),
+        b"mark x a > 7".as_slice(),
+        b"mark x b = -8".as_slice(),
+        b"and x y".as_slice(),
+        b"not x".as_slice(),
+        b"count x".as_slice(),
+        b"list x".as_slice(),
+        b"drop x".as_slice(),
     ];
     check_lines(&rt, rt.alloc(), &layout, 2, None, lines.as_slice())
 }
@@ -85,6 +94,15 @@ fn tells_the_first_cause(rt: HostRuntime) -> Result<(), Fail> {
         (Cause::Row, b"insert 3 8 0".as_slice()),
         (Cause::Value, b"insert 0 8 0".as_slice()),
         (Cause::Value, b"insert 0 18446744073709551616 0".as_slice()),
+        (Cause::Field, b"mark x c < 99".as_slice()),
+        (Cause::Value, b"mark x a < 8".as_slice()),
+        (Cause::Value, b"mark x a > -1".as_slice()),
+        (Cause::Value, b"mark x b < 8".as_slice()),
+        (Cause::Value, b"mark x b = -9".as_slice()),
+        (Cause::Value, b"mark x b < 18446744073709551616".as_slice()),
+        (Cause::Full, b"load 329406144173384851 00".as_slice()),
+        (Cause::Full, b"load 18446744073709551616".as_slice()),
+        (Cause::Image, b"load 329406144173384850 00".as_slice()),
     ] {
         check_lines(&rt, rt.alloc(), &layout, 2, Some(cause), [line].as_slice())?;
     }
@@ -109,6 +127,34 @@ fn refuses_values_that_are_not_one_a_field(rt: HostRuntime) -> Result<(), Fail> 
             change.cause(&layout, 2, false) == Some(Cause::Field),
             "{field:?}"
         );
+    }
+    Ok(())
+}
+
+// Two rows of seven bits fill two bytes but for two bits, which have to be zero.
+#[test]
+fn takes_images_alone(rt: HostRuntime) -> Result<(), Fail> {
+    let high = Layout::parse(rt.alloc(), b"high a:u3 b:i4")?;
+    let low = Layout::parse(rt.alloc(), b"low a:u3 b:i4")?;
+    for (line, of_high, of_low) in [
+        (b"load 2 be8c".as_slice(), true, false),
+        (b"load 2 7d0d".as_slice(), false, true),
+        (b"load 2 BE8C".as_slice(), true, false),
+        (b"load 2 be8d".as_slice(), false, false),
+        (b"load 2 fffc".as_slice(), true, false),
+        (b"load 2 ff3f".as_slice(), false, true),
+        (b"load 2 0000".as_slice(), true, true),
+        (b"load 3 be8c".as_slice(), false, false),
+        (b"load 1 be8c".as_slice(), false, false),
+        (b"load 1 be".as_slice(), true, false),
+        (b"load 2".as_slice(), false, false),
+        (b"load 0 00".as_slice(), false, false),
+        (b"load 0".as_slice(), true, true),
+    ] {
+        for (layout, taken) in [(&high, of_high), (&low, of_low)] {
+            let cause = if taken { None } else { Some(Cause::Image) };
+            check_lines(&rt, rt.alloc(), layout, 2, cause, [line].as_slice())?;
+        }
     }
     Ok(())
 }
@@ -168,6 +214,30 @@ fn is_full_past_the_most_bits(rt: HostRuntime) -> Result<(), Fail> {
         most - 1,
         Some(Cause::Full),
         [b"dup 3 5".as_slice()].as_slice(),
+    )?;
+    check_lines(
+        &rt,
+        rt.alloc(),
+        &one_bit,
+        0,
+        Some(Cause::Full),
+        [b"load 2305843009213693952 00".as_slice()].as_slice(),
+    )?;
+    check_lines(
+        &rt,
+        rt.alloc(),
+        &one_bit,
+        most,
+        Some(Cause::Image),
+        [b"load 2305843009213693951 00".as_slice(), b"load 0 00"].as_slice(),
+    )?;
+    check_lines(
+        &rt,
+        rt.alloc(),
+        &one_bit,
+        most,
+        None,
+        [b"load 1 01".as_slice(), b"load 0", b"drop x"].as_slice(),
     )?;
     let seven_bits = Layout::parse(rt.alloc(), b"high a:u3 b:i4")?;
     let most = 329_406_144_173_384_850;

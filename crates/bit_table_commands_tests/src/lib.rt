@@ -6,4 +6,6 @@ mod causes;
 #[cfg(test)]
 mod lines;
 #[cfg(test)]
+mod marks;
+#[cfg(test)]
 mod replies;

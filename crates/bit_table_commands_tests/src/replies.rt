@@ -1,5 +1,5 @@
 //! The lines of replies.
-use bit_table_commands::{ImageBytes, Numbers, Reply};
+use bit_table_commands::{ImageBytes, Numbers, Reply, RowNumbers};
 use std::alloc::Global;
 use std::process::Abort;
 use std::test::Fail;
@@ -28,6 +28,41 @@ fn writes_numbers(rt: HostRuntime) -> Result<(), Fail> {
         [18_446_744_073_709_551_615, -9_223_372_036_854_775_808, 10].as_slice(),
         b"18446744073709551615 -9223372036854775808 10\n".as_slice(),
     )
+}
+
+#[test]
+fn writes_row_numbers(rt: HostRuntime) -> Result<(), Fail> {
+    let alloc = rt.alloc();
+    for (rows, line) in [
+        ([].as_slice(), b"none\n".as_slice()),
+        ([0].as_slice(), b"0\n".as_slice()),
+        ([1, 2].as_slice(), b"1 2\n".as_slice()),
+        (
+            [0, 9, 10, 2_305_843_009_213_693_950].as_slice(),
+            b"0 9 10 2305843009213693950\n".as_slice(),
+        ),
+    ] {
+        let rows = RowNumbers::new(Vec::from_slice(alloc, rows)?);
+        assert!(rt;
+            Reply::Rows(rows).line(alloc)?.as_slice() == line,
+            "{line:?}"
+        );
+    }
+    Ok(())
+}
+
+#[test]
+fn writes_counts(rt: HostRuntime) -> Result<(), Fail> {
+    let alloc = rt.alloc();
+    assert!(rt; Reply::Count(0).line(alloc)?.as_slice() == b"0\n".as_slice());
+    assert!(rt; Reply::Count(10).line(alloc)?.as_slice() == b"10\n".as_slice());
+    assert!(rt;
+        Reply::Count(2_305_843_009_213_693_951)
+            .line(alloc)?
+            .as_slice()
+            == b"2305843009213693951\n".as_slice()
+    );
+    Ok(())
 }
 
 // The bytes and the answer line of an image of so many rows.

@@ -1,8 +1,9 @@
-use Rattle.std.proofs.Common.{◌≡◌, ◌++◌, take}
+use Rattle.std.proofs.Common.{◌≡◌, ℕ, List, Some, ◌++◌, take}
 use Rattle.bit_table_commands.proofs.ReplyLemmas.{behind_spaces}
 use Rattle.bit_table_commands.proofs.reply.spaced.Given as goal
 
--- behind the first number come those so far, each behind a space
-abbrev pub invariant-loop-number : goal.invariant-loop-number
-invariant-loop-number l =
-    l.text.items ≡ l.initial.text.items ++ behind_spaces (take l.number-index l.rest)
+-- behind the first item come those so far, each behind a space
+abbrev pub invariant-loop-item : goal.invariant-loop-item
+invariant-loop-item g l =
+    (shown : g.row.T.Denot → List ℕ) → ((item : g.row.T.Denot) → g.T.Display.output item ≡ Some (shown item))
+    → l.text.items ≡ l.initial.text.items ++ behind_spaces shown (take l.item-index l.rest)

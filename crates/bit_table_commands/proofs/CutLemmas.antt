@@ -1,7 +1,7 @@
 -- A command that is kept cut off is refused, edits and answers as the one that its words spell.
 use Rattle.std.proofs.Common.{◌≡◌, ℕ, ◌+◌, ◌-◌, ◌*◌, ◌^◌, ◌<◌, ◌≤◌, ◌&&◌, not, nat_lt, nat_le, Bool, true, false, ℤ}
-use Rattle.std.proofs.Common.{List, [], ◌∷◌}
-use Rattle.std.proofs.Common.{length, map, Option, Some, None, refl, sym, ap, ap₂, subst, ◌∙◌, arith, zero, suc, inl, inr}
+use Rattle.std.proofs.Common.{List, [], ◌∷◌, inl, inr}
+use Rattle.std.proofs.Common.{length, map, Option, Some, None, refl, sym, ap, ap₂, subst, ◌∙◌, arith, zero, suc}
 use Rattle.std.specs.Prelude.{slice_get, min, is_some}
 use Rattle.std.specs.List.{list_all}
 use Rattle.std.specs.Option.{option_map_or}
@@ -157,8 +157,8 @@ few_held t h n room =
     let e : n ≤ n * row_width t.layout.fields = grind arith in
     omega (arith, e, room)
 
-few_loaded : (t : TableShape) → IsTable t → (c : Command) → length (edit t c).rows * row_width t.layout.fields ≤ MAX_BITS
-    → rows_loaded c ≤ 2 ^ 64 - 1
+few_loaded : (t : TableShape) → IsTable t → (c : Command)
+    → length (edit t c).rows * row_width t.layout.fields ≤ MAX_BITS → rows_loaded c ≤ 2 ^ 64 - 1
 few_loaded t h (Load n bytes) room =
     few_held t h n
     (subst (λ m. m * row_width t.layout.fields ≤ MAX_BITS) (length-rows_in_bytes t.layout n bytes) room)
@@ -219,7 +219,8 @@ same_from t h (Load n bytes) form row value =
           ∙ ap (λ k. nat_lt MAX_BITS (k * w)) (sym count);
       found = λ none.
           let room : nat_lt MAX_BITS (n * w) ≡ false = ap (λ k. nat_lt MAX_BITS (k * w)) (sym count) ∙ none in
-          ap (λ k. wrong_image t.layout (Load k bytes)) (cut_place-within n (few_held t h n (grind (arith, nat_tests))));
+          let few = few_held t h n (grind (arith, nat_tests)) in
+          ap (λ k. wrong_image t.layout (Load k bytes)) (cut_place-within n few);
     }
 same_from t h c form row value =
     let same = cut_off-within t.layout (length t.rows) c (few_rows t h) (fields_lawful t.layout h.layout)

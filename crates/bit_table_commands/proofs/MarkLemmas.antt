@@ -1,9 +1,8 @@
 -- Rows that are marked, and rows that a test passes.
 --
 -- What marked rows bear: `row_bears-marked`, `row_bears-other`. Their numbers and letters: `marked-numbers`,
--- `marked-letters`, `marked-decided`. One of them, and how many: `get_or-marked`, `length-marked`. The numbers of the rows
--- that pass: `rows_passing-same`, `rows_passing-marked`, `rows_passing-append`, `rows_passing-more`,
--- `length-rows_passing`.
+-- `marked-letters`, `marked-decided`. One of them, and how many: `get_or-marked`, `length-marked`. Which rows pass:
+-- `rows_passing-same`, `rows_passing-marked`, `rows_passing-append`, `rows_passing-more`, `length-rows_passing`.
 use Rattle.std.proofs.Common.{◌≡◌, ◌≢◌, ℕ, ◌+◌, ◌<◌, ◌&&◌, ◌||◌, not, Bool, true, false, cond, List, [], ◌∷◌}
 use Rattle.std.proofs.Common.{◌++◌, length, map, take, get_or, refl, sym, ap, ◌∙◌, arith, length-take-le}
 use Rattle.std.specs.Prelude.{count_by, if◌then◌else◌}

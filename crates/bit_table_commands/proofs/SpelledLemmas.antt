@@ -14,8 +14,8 @@ use Rattle.bit_table_commands.specs.declared.command.Command.TheVariants.{Dup, I
 use Rattle.bit_table_commands.specs.declared.command.Command.TheVariants.{Not, Count, List as Listing, Drop}
 use Rattle.bit_table_commands.specs.Commands.{command_of, command_in, command_named, insert_in, insert_from, set_in}
 use Rattle.bit_table_commands.specs.Commands.{field_and_value, alone, one_number, two_numbers, three_numbers}
-use Rattle.bit_table_commands.specs.Commands.{whole_numbers_in, name_of, cut_off, mark_in, load_in, field_test_value, bytes_in}
-use Rattle.bit_table_commands.specs.Commands.{letter_in, one_letter, two_letters}
+use Rattle.bit_table_commands.specs.Commands.{whole_numbers_in, name_of, cut_off, mark_in, load_in, field_test_value}
+use Rattle.bit_table_commands.specs.Commands.{bytes_in, letter_in, one_letter, two_letters}
 use Rattle.bit_table_commands.specs.Causes.{wrong_form}
 
 -- ---- a command that a line spells has the right form

@@ -1,8 +1,8 @@
 -- The private steps of reading a command. No public clause cites this module.
+use Rattle.std.specs.Prelude.{ℕ, zero, suc, ◌%◌, ◌==◌, ◌&&◌, true, false, is_some, ℤ, pos, Bool, List, [], ◌∷◌, map}
+use Rattle.std.specs.Prelude.{length, Option, unwrap_or, option_map}
 use Rattle.std.specs.Char.{is_ascii_hexdigit}
 use Rattle.std.specs.List.{list_all}
-use Rattle.std.specs.Prelude.{ℕ, zero, suc, ◌%◌, ◌==◌, length, ◌&&◌, true, false, is_some, ℤ, pos, Bool, List, [], ◌∷◌, map}
-use Rattle.std.specs.Prelude.{Option, unwrap_or, option_map}
 use Rattle.std.specs.Result.{result_unwrap_or}
 use Rattle.hex.specs.Hex.{decode_of}
 use Rattle.bit_table_layout.specs.LineWordsLeft.{words_left}
@@ -10,8 +10,8 @@ use Rattle.bit_table_layout.specs.Numerals.{whole_number_in}
 use Rattle.bit_table_commands.specs.declared.command.Command.{Command}
 use Rattle.bit_table_commands.specs.declared.command.Command.TheVariants.{Insert, Load}
 use Rattle.bit_table_commands.specs.declared.reading.Reading.{Reading}
-use Rattle.bit_table_commands.specs.declared.test.Test.{Test}
 use Rattle.bit_table_commands.specs.declared.reading.Reading.TheVariants as read
+use Rattle.bit_table_commands.specs.declared.test.Test.{Test}
 use Rattle.bit_table_commands.specs.Commands.{cut_place, cut_value}
 
 -- numbers as they are kept

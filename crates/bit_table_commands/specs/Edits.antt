@@ -37,8 +37,8 @@ edited rows (Not x) = marked x (λ row. not (row_bears x row)) rows
 edited rows (Drop x) = filter (λ row. not (row_bears x row)) rows
 edited rows c = rows
 
--- the rows that a command leaves: `back` those that are kept, `load` those that its bytes hold, which bear no letter, any
--- other what it makes of the rows
+-- the rows that a command leaves: `back` those that are kept, `load` those that its bytes hold, without letters, any other
+-- what it makes of the rows
 abbrev pub rows_after : TableShape → Command → List Row
 rows_after t Back = unwrap_or t.kept t.rows
 rows_after t (Load n bytes) = rows_in_bytes t.layout n bytes

@@ -16,6 +16,7 @@ pub use Rattle.bit_table_layout.specs.Layouts
 pub use Rattle.bit_table_layout.specs.LineWords
 pub use Rattle.bit_table_layout.specs.Loads
 pub use Rattle.bit_table_layout.specs.Numerals
+pub use Rattle.bit_table_layout.specs.Readings
 pub use Rattle.bit_table_layout.specs.Rows
 pub use Rattle.bit_table_layout.specs.declared.cause.Cause
 pub use Rattle.bit_table_layout.specs.declared.cause.Fault

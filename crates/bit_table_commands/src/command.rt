@@ -15,8 +15,8 @@ pub type Values = Items<i128>;
 
 /// A command of a script. Rows are numbered from 0, and rows from a start up to an end leave the end out.
 ///
-/// Its numbers are kept cut off: a row number or count past `u64` as `u64::MAX`, a value past `2^64` or `-2^64` as that, which
-/// changes neither what refuses a command nor what it does.
+/// Its numbers are kept cut off: a row number or a count past `u64` as `u64::MAX`, a value past `2^64` or `-2^64` as
+/// that, which changes neither what refuses a command nor what it does.
 #[derive(Debug, Drop, PartialEq, Eq)]
 pub enum Command {
     /// A new row of these values, one a field, before the row of this number.

@@ -2,10 +2,10 @@
 ghost use Rattle.std.specs.Prelude.{◌≡◌, IfOk, map, option_map};
 ghost use Rattle.bit_table_layout.specs.LineWordsLeft.{words_left};
 ghost use Rattle.bit_table_commands.specs.Commands.{alone, command_named, command_of, cut_off, field_and_value};
-ghost use Rattle.bit_table_commands.specs.Commands.{field_in, field_place, field_test_value, insert_in, load_in, mark_in, set_in};
+ghost use Rattle.bit_table_commands.specs.Commands.{field_in, field_place, field_test_value, insert_in, load_in};
+ghost use Rattle.bit_table_commands.specs.Commands.{mark_in, set_in, two_letters};
 ghost use Rattle.bit_table_commands.specs.CommandSteps.{are_values, bytes_of_digits, command_read, cut_field};
 ghost use Rattle.bit_table_commands.specs.CommandSteps.{cut_field_test, value_in};
-ghost use Rattle.bit_table_commands.specs.Commands.{two_letters};
 ghost use Rattle.bit_table_commands.specs.declared.command.Command.TheVariants.{Combine};
 
 use super::command::{Command, Values};

@@ -11,7 +11,6 @@ use Rattle.std.specs.FinSet as set
 use Rattle.std.proofs.lemmas.Bool.{cases_Bool}
 use Rattle.std.proofs.lemmas.List.{append-nil}
 use Rattle.std.proofs.lemmas.List.Sums.{length-filter, sum_by-cons}
-
 use Rattle.bit_table_layout.specs.Layouts.{LayoutShape, row_width}
 use Rattle.bit_table_layout.specs.Readings.{rows_from}
 use Rattle.bit_table_layout.specs.Rows.{Row}
@@ -134,7 +133,7 @@ ones_more place (suc i) (bit ∷ bits) d low =
     let count : suc i + 1 ≡ suc (i + 1) = omega arith in
     let next : place + 1 + i ≡ place + suc i = omega arith in
     let rest : ones_from (place + 1) (take (i + 1) bits)
-        ≡ ones_from (place + 1) (take i bits) ++ (if get_or bits i d then (place + suc i) ∷ [] else []) =
+    ≡ ones_from (place + 1) (take i bits) ++ (if get_or bits i d then (place + suc i) ∷ [] else []) =
     ones_more (place + 1) i bits d (omega (arith, low))
     ∙ ap (λ k. ones_from (place + 1) (take i bits) ++ (if get_or bits i d then k ∷ [] else [])) next in
     ap (λ m. ones_from place (take m (bit ∷ bits))) count

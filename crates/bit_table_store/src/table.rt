@@ -290,12 +290,10 @@ impl<A: BitViewSized, O: WordPaths<A::Store> + Digits<A::Store>> Table<A, O> {
             }
             Command::Mark {
                 letter,
-                field: Some(index),
+                field,
                 test,
                 value,
-            } => Ok(self.mark(*letter, *index, *test, *value)),
-            // A field that the layout lacks is a cause.
-            Command::Mark { .. } => Ok(Reply::Done),
+            } => Ok(self.mark(*letter, *field, *test, *value)),
             Command::Combine { op, letter, other } => {
                 self.combine(*op, *letter, *other, &mut Steps::new());
                 Ok(Reply::Done)
@@ -439,11 +437,15 @@ impl<A: BitViewSized, O: WordPaths<A::Store> + Digits<A::Store>> Table<A, O> {
         Ok(Reply::Done)
     }
 
-    fn mark(&mut self, letter: Letter, field: usize, test: Test, value: i128) -> Reply
-        requires { IsAccepted self.old.shape (Command.Mark letter (Some field) test value) }
-        ensures shape { self.new.shape ≡ edit self.old.shape (Command.Mark letter (Some field) test value) }
+    fn mark(&mut self, letter: Letter, field: Option<usize>, test: Test, value: i128) -> Reply
+        requires { IsAccepted self.old.shape (Command.Mark letter field test value) }
+        ensures shape { self.new.shape ≡ edit self.old.shape (Command.Mark letter field test value) }
         ensures reply { result ≡ Done }
     {
+        // A field that the layout lacks is a cause.
+        let Some(field) = field else {
+            return Reply::Done;
+        };
         let letter = letter.index();
         mark_rows(
             &mut self.letters,

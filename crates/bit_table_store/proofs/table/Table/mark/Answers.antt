@@ -27,8 +27,8 @@ returns-clause-shape g c =
     let h = c.self.invariant in
     let value = to_z-of_z w128 c.args.value c.ranges.value in
     let letters = rw (c.index-letter.ensures.index, value, h.1.marked) at c.mark_rows.ensures in
-    shape_after _ t.layout _ _ _ c.self.view_is h.0 h.1 h.2
-    (Mark c.args.letter (Some c.args.field) c.args.test c.args.value) _ _
+    rw c.in-Some.is (shape_after _ t.layout _ _ _ c.self.view_is h.0 h.1 h.2
+    (Mark c.args.letter (Some c.in-Some.field) c.args.test c.args.value) _ _
     (rows_told_by t.layout _ h.1 c.args.letter
-    (λ row. passes c.args.test (number_in_field (Some c.args.field) row) c.args.value) _ (λ row letters. refl) letters)
-    refl
+    (λ row. passes c.args.test (number_in_field (Some c.in-Some.field) row) c.args.value) _ (λ row letters. refl) letters)
+    refl)

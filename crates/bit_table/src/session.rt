@@ -98,7 +98,7 @@ fn answer_command_line<A: BitViewSized, O: WordPaths<A::Store> + Digits<A::Store
         text.items ≡ answer_by (line_cause (Some table.old.shape) line.now) (Some table.old.shape) line.now) }
     ensures state { OnOk result (
         state_with table.new.shape
-            ≡ after_by (line_cause (Some table.old.shape) line.now) (state_with table.old.shape) line.now) }
+        ≡ after_by (line_cause (Some table.old.shape) line.now) (state_with table.old.shape) line.now) }
 {
     let command = match Command::parse(alloc, table.layout(), line) {
         Ok(command) => command,

@@ -26,7 +26,7 @@ pub kept_beside : {R : Type 0} (reading : Reading R) (before after : List R) (pl
 kept_beside reading before after place len n w off flags rows is =
     let few : length (rows_left off) * w ≤ n * w =
     place_order (length (rows_left off)) n w (omega (arith, few_left off (length off))) in
-    record { below = is.below; above = λ p far. is.above p (omega arith); words = is.words; }
+    record { below = is.below; above = λ p far. is.above p (omega arith); words = is.words }
 
 -- no element at all
 none_of : {X : Type 0} (xs : List X) → length xs ≡ 0 → xs ≡ []

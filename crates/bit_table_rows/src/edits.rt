@@ -8,7 +8,9 @@ ghost use Rattle.bit_table_moves.specs.RowMoves.{rows_moved};
 ghost use Rattle.bit_table_moves.specs.RowsKept.{rows_kept};
 ghost use Rattle.bit_table_rows.specs.RowEdits.{copied, exchanged, turned};
 
-use crate::windows::{keep_window_rows, move_window_rows, swap_window_rows, turn_window, write_window};
+use crate::windows::{
+    keep_window_rows, move_window_rows, swap_window_rows, turn_window, write_window,
+};
 use bit_slice_views::{BitSlice, Bits};
 use bit_slice_writes::BitsMut;
 

@@ -9,7 +9,9 @@ ghost use Rattle.bit_table_moves.specs.RowMoves.{rows_moved};
 ghost use Rattle.bit_table_moves.specs.RowsKept.{rows_kept};
 ghost use Rattle.bit_table_rows.specs.RowEdits.{exchanged, turned};
 
-use bit_addressing::{BitIdx, BitOrder, BitRegister, Sweep, Way, copy_between, swap_within, way_for};
+use bit_addressing::{
+    BitIdx, BitOrder, BitRegister, Sweep, Way, copy_between, swap_within, way_for,
+};
 use bit_slice_changes::rotate_left_in;
 use bit_slice_views::BitSlice;
 use bit_table_moves::{keep_rows, move_rows};

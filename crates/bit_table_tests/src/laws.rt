@@ -27,7 +27,8 @@ pub fn is_same_table(alloc: Global, table: &[u8], edit: &[u8], told: &[u8]) -> R
 }
 
 // Five rows.
-const FIVE_ROWS: &[u8] = b"high a:u3 b:i4\ninsert 0 5 -1\ninsert 1 2 3\ninsert 2 7 -8\ninsert 3 4 6\ninsert 4 0 0\n";
+const FIVE_ROWS: &[u8] =
+    b"high a:u3 b:i4\ninsert 0 5 -1\ninsert 1 2 3\ninsert 2 7 -8\ninsert 3 4 6\ninsert 4 0 0\n";
 
 // What tells them.
 const NUMBERS: &[u8] = b"image\nget 0\nget 1\nget 2\nget 3\nget 4\nget 5\n";
@@ -47,7 +48,10 @@ fn edits_that_undo_one_another_leave_the_numbers(rt: HostRuntime) -> Result<(), 
         b"copy 1 3 1\ndelete 2 2\n".as_slice(),
         b"keep\ndelete 0 5\nback\n".as_slice(),
     ] {
-        assert!(rt; is_same_table(rt.alloc(), FIVE_ROWS, edit, NUMBERS)?, "{edit:?}");
+        assert!(rt;
+            is_same_table(rt.alloc(), FIVE_ROWS, edit, NUMBERS)?,
+            "{edit:?}"
+        );
     }
     Ok(())
 }
@@ -55,15 +59,30 @@ fn edits_that_undo_one_another_leave_the_numbers(rt: HostRuntime) -> Result<(), 
 #[test]
 fn set_changes_one_number(rt: HostRuntime) -> Result<(), Fail> {
     for (line, numbers) in [
-        (b"set 0 a 0\n".as_slice(), b"0 -1\n2 3\n7 -8\n4 6\n0 0\n".as_slice()),
-        (b"set 2 b 7\n".as_slice(), b"5 -1\n2 3\n7 7\n4 6\n0 0\n".as_slice()),
-        (b"set 4 a 7\n".as_slice(), b"5 -1\n2 3\n7 -8\n4 6\n7 0\n".as_slice()),
-        (b"set 1 b -8\n".as_slice(), b"5 -1\n2 -8\n7 -8\n4 6\n0 0\n".as_slice()),
+        (
+            b"set 0 a 0\n".as_slice(),
+            b"0 -1\n2 3\n7 -8\n4 6\n0 0\n".as_slice(),
+        ),
+        (
+            b"set 2 b 7\n".as_slice(),
+            b"5 -1\n2 3\n7 7\n4 6\n0 0\n".as_slice(),
+        ),
+        (
+            b"set 4 a 7\n".as_slice(),
+            b"5 -1\n2 3\n7 -8\n4 6\n7 0\n".as_slice(),
+        ),
+        (
+            b"set 1 b -8\n".as_slice(),
+            b"5 -1\n2 -8\n7 -8\n4 6\n0 0\n".as_slice(),
+        ),
     ] {
         let mut lines = Vec::from_slice(rt.alloc(), line)?;
         lines.extend_from_slice(b"get 0\nget 1\nget 2\nget 3\nget 4")?;
         let answer = after(rt.alloc(), FIVE_ROWS, lines.as_slice())?;
-        assert!(rt; answer.as_slice().strip_prefix(b"ok\n") == Some(numbers), "{line:?}");
+        assert!(rt;
+            answer.as_slice().strip_prefix(b"ok\n") == Some(numbers),
+            "{line:?}"
+        );
     }
     Ok(())
 }

@@ -41,14 +41,18 @@ fn answers<A: BitViewSized, O: WordPaths<A::Store> + Digits<A::Store>>(
 /// Whether runs over three storages answer a script so: long words, bytes with the first bit highest, and an order that
 /// has no word paths.
 pub fn three_answer(alloc: Global, script: &[u8], answer: &[u8]) -> Result<bool, Fail> {
-    Ok(answers::<[u64; 4], Lsb0>(alloc, script, answer)?
-        && answers::<[u8; 32], Msb0>(alloc, script, answer)?
-        && answers::<[u16; 16], HiLo>(alloc, script, answer)?)
+    Ok(
+        answers::<[u64; 4], Lsb0>(alloc, script, answer)?
+            && answers::<[u8; 32], Msb0>(alloc, script, answer)?
+            && answers::<[u16; 16], HiLo>(alloc, script, answer)?,
+    )
 }
 
 /// Whether an answer has these bytes somewhere.
 pub fn has(answers: &[u8], part: &[u8]) -> bool {
-    answers.windows(part.len().max(1)).any(|found| found == part)
+    answers
+        .windows(part.len().max(1))
+        .any(|found| found == part)
 }
 
 #[test]

@@ -110,18 +110,20 @@ pub fn all_answer(alloc: Global, rows: &[Row]) -> Result<bool, Fail> {
             return Ok(false);
         }
     }
-    Ok(answers::<[u8; 32], Lsb0>(alloc, rows)?
-        && answers::<[u8; 32], Msb0>(alloc, rows)?
-        && answers::<[u8; 32], HiLo>(alloc, rows)?
-        && answers::<[u16; 16], Lsb0>(alloc, rows)?
-        && answers::<[u16; 16], Msb0>(alloc, rows)?
-        && answers::<[u16; 16], HiLo>(alloc, rows)?
-        && answers::<[u32; 8], Lsb0>(alloc, rows)?
-        && answers::<[u32; 8], Msb0>(alloc, rows)?
-        && answers::<[u32; 8], HiLo>(alloc, rows)?
-        && answers::<[u64; 4], Lsb0>(alloc, rows)?
-        && answers::<[u64; 4], Msb0>(alloc, rows)?
-        && answers::<[u64; 4], HiLo>(alloc, rows)?)
+    Ok(
+        answers::<[u8; 32], Lsb0>(alloc, rows)?
+            && answers::<[u8; 32], Msb0>(alloc, rows)?
+            && answers::<[u8; 32], HiLo>(alloc, rows)?
+            && answers::<[u16; 16], Lsb0>(alloc, rows)?
+            && answers::<[u16; 16], Msb0>(alloc, rows)?
+            && answers::<[u16; 16], HiLo>(alloc, rows)?
+            && answers::<[u32; 8], Lsb0>(alloc, rows)?
+            && answers::<[u32; 8], Msb0>(alloc, rows)?
+            && answers::<[u32; 8], HiLo>(alloc, rows)?
+            && answers::<[u64; 4], Lsb0>(alloc, rows)?
+            && answers::<[u64; 4], Msb0>(alloc, rows)?
+            && answers::<[u64; 4], HiLo>(alloc, rows)?,
+    )
 }
 
 #[test]

@@ -58,6 +58,8 @@ fn options_name_the_storage(rt: HostRuntime) {
 fn other_words_are_bad(rt: HostRuntime) {
     let alloc = rt.alloc();
     assert!(rt; is_bad(alloc, &["--word", "u128"], "u128"));
+    assert!(rt; is_bad(alloc, &["--word", "usize"], "usize"));
+    assert!(rt; is_bad(alloc, &["--word", ""], "--word"));
     assert!(rt; is_bad(alloc, &["--order", "up"], "up"));
     assert!(rt; is_bad(alloc, &["x"], "x"));
     assert!(rt; is_bad(alloc, &["--word"], "--word"));
@@ -65,13 +67,71 @@ fn other_words_are_bad(rt: HostRuntime) {
     assert!(rt; is_bad(alloc, &["--word", "U8"], "U8"));
 }
 
+// What is told says what would be right.
 #[test]
-fn help_shows_a_script(rt: HostRuntime) {
+fn a_bad_word_is_told_the_right_ones(rt: HostRuntime) {
+    let alloc = rt.alloc();
+    assert!(rt;
+        is_bad(
+            alloc,
+            &["--word", "u128"],
+            "[possible values: u8, u16, u32, u64]"
+        )
+    );
+    assert!(rt;
+        is_bad(
+            alloc,
+            &["--order", "up"],
+            "[possible values: lsb0, msb0, hilo]"
+        )
+    );
+    assert!(rt; is_bad(alloc, &["x"], "Usage: bit-table [OPTIONS]"));
+    assert!(rt; is_bad(alloc, &["--wide", "u8"], "--help"));
+}
+
+// What help says on standard output: the options, a script, and each command with its words.
+const HELP: [&str; 24] = [
+    "Usage: bit-table [OPTIONS]",
+    "--word <WORD>",
+    "[default: u64] [possible values: u8, u16, u32, u64]",
+    "--order <ORDER>",
+    "[default: lsb0] [possible values: lsb0, msb0, hilo]",
+    "low a:u3 b:i4\n",
+    "insert p v..  ",
+    "delete p q  ",
+    "set p f v  ",
+    "get p  ",
+    "copy p q r  ",
+    "swap p q  ",
+    "rotate p q k  ",
+    "dup p q  ",
+    "image  ",
+    "load c h  ",
+    "keep  ",
+    "back  ",
+    "mark x f op v  ",
+    "and x y  ",
+    "not x  ",
+    "count x  ",
+    "list x  ",
+    "drop x  ",
+];
+
+#[test]
+fn help_shows_a_script_and_each_command(rt: HostRuntime) {
     match choose(rt.alloc(), &["--help"]) {
         Choice::Help(text) => {
-            assert!(rt; text.as_str().contains("--word <WORD>"));
-            assert!(rt; text.as_str().contains("low a:u3 b:i4"));
+            for part in HELP {
+                assert!(rt; text.as_str().contains(part), "{part}");
+            }
         }
         _ => assert!(rt; false),
     }
+    assert!(rt; matches!(choose(rt.alloc(), &["-h"]), Choice::Help(_)));
+    assert!(rt;
+        matches!(
+            choose(rt.alloc(), &["--word", "u8", "--help"]),
+            Choice::Help(_)
+        )
+    );
 }

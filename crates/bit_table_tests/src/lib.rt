@@ -11,6 +11,8 @@ mod commands;
 #[cfg(test)]
 mod image_lines;
 #[cfg(test)]
+mod laws;
+#[cfg(test)]
 mod layout_lines;
 #[cfg(test)]
 mod line_runs;
@@ -21,6 +23,12 @@ mod numbers;
 #[cfg(test)]
 mod plain;
 #[cfg(test)]
+mod plain_letters;
+#[cfg(test)]
+mod plain_rows;
+#[cfg(test)]
+mod plain_words;
+#[cfg(test)]
 mod rows;
 #[cfg(test)]
 mod scripts;
@@ -28,3 +36,5 @@ mod scripts;
 mod storages;
 #[cfg(test)]
 mod streams;
+#[cfg(test)]
+mod thrower;

@@ -1,24 +1,67 @@
 //! A plain slow program that answers a script: its rows are a list, edited line by line. It uses nothing of the crate.
-use std::alloc::{AllocError, Global};
+ghost use Rattle.std.specs.Prelude.{◌≡◌};
 
-// A field: its name, how many bits its numbers have, and whether they have a sign.
+use crate::plain_words::{
+    PlainField, digits_of, field_of, halved, hexadecimal, is_in_range, is_name, number_of, words_of,
+};
+use std::alloc::{AllocError, AllocFailed, Global};
+
+/// A row: a number for each field, and which letters it bears.
 #[derive(Drop)]
-struct PlainField {
-    name: Vec<u8>,
-    bits: u32,
-    signed: bool,
+pub struct PlainRow {
+    pub numbers: Vec<i128>,
+    pub letters: [bool; 26],
 }
 
-// How far a script has come: no fields yet, or some, whether their highest digits come first, and a list of rows; and
-// what was answered.
+/// How far a script has come: no fields yet, or some, whether their highest digits come first, a list of rows, and those
+/// that are kept; and what was answered.
 #[derive(Drop)]
-struct Plain {
-    alloc: Global,
-    high: bool,
-    fields: Vec<PlainField>,
-    rows: Vec<Vec<i128>>,
-    text: Vec<u8>,
+pub struct Plain {
+    pub alloc: Global,
+    pub high: bool,
+    pub fields: Vec<PlainField>,
+    pub rows: Vec<PlainRow>,
+    pub kept: Option<Vec<PlainRow>>,
+    pub text: Vec<u8>,
 }
+
+/// What keeps a line from being carried out.
+#[derive(Clone, Copy)]
+pub enum Refusal {
+    /// A cause, which is answered.
+    Cause(&'static str),
+    /// Want of memory.
+    Memory,
+}
+
+impl From<AllocError> for Refusal {
+    ghost use Rattle.bit_table_tests.specs.declared.plain.Refusal.TheVariants.{Memory};
+
+    ghost from_gives = { λ _ e. e ≡ Memory };
+
+    fn from(_: AllocError) -> Refusal {
+        Refusal::Memory
+    }
+}
+
+impl<T: Drop> From<AllocFailed<T>> for Refusal {
+    ghost use Rattle.bit_table_tests.specs.declared.plain.Refusal.TheVariants.{Memory};
+
+    ghost from_gives = { λ _ e. e ≡ Memory };
+
+    fn from(_: AllocFailed<T>) -> Refusal {
+        Refusal::Memory
+    }
+}
+
+/// The cause of a line that is no command.
+pub const FORM: Refusal = Refusal::Cause("form");
+
+/// The cause of a row that is not there.
+pub const NO_ROW: Refusal = Refusal::Cause("row");
+
+// The most bits of all rows.
+const MOST_BITS: i128 = 2_305_843_009_213_693_951;
 
 /// The answer to a script.
 pub fn plain_answer(alloc: Global, script: &[u8]) -> Result<Vec<u8>, AllocError> {
@@ -27,6 +70,7 @@ pub fn plain_answer(alloc: Global, script: &[u8]) -> Result<Vec<u8>, AllocError>
         high: false,
         fields: Vec::new(alloc),
         rows: Vec::new(alloc),
+        kept: None,
         text: Vec::new(alloc),
     };
     for line in script.split(|byte| *byte == b'\n') {
@@ -38,34 +82,60 @@ pub fn plain_answer(alloc: Global, script: &[u8]) -> Result<Vec<u8>, AllocError>
 impl Plain {
     // Carries a line out and adds its answer.
     fn answer_line(&mut self, line: &[u8]) -> Result<(), AllocError> {
-        let mut words = Vec::new(self.alloc);
-        for part in line.split(|byte| b" \t\r".contains(byte)) {
-            if !part.is_empty() {
-                words.push(part)?;
-            }
-        }
+        let words = words_of(self.alloc, line)?;
         let Some((first, rest)) = words.as_slice().split_first() else {
             return Ok(());
         };
-        if self.fields.is_empty() {
-            return self.begin(first, rest);
+        let outcome = if self.fields.is_empty() {
+            self.begin(first, rest)
+        } else {
+            self.carry_out(first, rest)
+        };
+        match outcome {
+            Ok(()) => Ok(()),
+            Err(Refusal::Memory) => Err(AllocError),
+            Err(Refusal::Cause(cause)) => {
+                self.say("refused ")?;
+                self.say(cause)?;
+                self.say("\n")
+            }
         }
-        if *first == b"insert".as_slice() {
-            return self.insert(rest);
-        }
-        if *first == b"image".as_slice() && rest.is_empty() {
-            return self.image();
-        }
-        self.say("refused form\n")
     }
 
-    // Adds an answer.
-    fn say(&mut self, answer: &str) -> Result<(), AllocError> {
+    // Carries a command out and adds its answer.
+    fn carry_out(&mut self, name: &[u8], words: &[&[u8]]) -> Result<(), Refusal> {
+        match name {
+            b"insert" => self.insert(words)?,
+            b"delete" => self.delete(words)?,
+            b"set" => self.set(words)?,
+            b"get" => return self.get(words),
+            b"copy" => self.copy(words)?,
+            b"swap" => self.swap(words)?,
+            b"rotate" => self.rotate(words)?,
+            b"dup" => self.dup(words)?,
+            b"image" => return self.image(words),
+            b"load" => self.load(words)?,
+            b"keep" => self.keep(words)?,
+            b"back" => self.back(words)?,
+            b"mark" => self.mark(words)?,
+            b"and" | b"or" | b"xor" => self.combine(name, words)?,
+            b"not" => self.invert(words)?,
+            b"count" => return self.count(words),
+            b"list" => return self.list(words),
+            b"drop" => self.drop_rows(words)?,
+            _ => return Err(FORM),
+        }
+        self.say("ok\n")?;
+        Ok(())
+    }
+
+    /// Adds an answer.
+    pub fn say(&mut self, answer: &str) -> Result<(), AllocError> {
         self.text.extend_from_slice(answer.as_bytes())
     }
 
     // Takes the fields of a layout line.
-    fn begin(&mut self, rule: &[u8], words: &[&[u8]]) -> Result<(), AllocError> {
+    fn begin(&mut self, rule: &[u8], words: &[&[u8]]) -> Result<(), Refusal> {
         let mut fields = Vec::new(self.alloc);
         let mut row_bits = 0u128;
         let high = rule == b"high".as_slice();
@@ -75,60 +145,61 @@ impl Plain {
                 is_layout = false;
                 continue;
             };
-            is_layout &= !has_name(&fields, field.name.as_slice());
+            is_layout &= place_of(&fields, field.name.as_slice()).is_none();
             row_bits = row_bits.wrapping_add(u128::from(field.bits));
             fields.push(field)?;
         }
         if !is_layout || fields.is_empty() || row_bits > 256 {
-            return self.say("refused layout\n");
+            return Err(Refusal::Cause("layout"));
         }
         self.fields = fields;
         self.high = high;
-        self.say("ok\n")
+        self.say("ok\n")?;
+        Ok(())
     }
 
-    // Inserts the row of these words: a place, and a number for each field.
-    fn insert(&mut self, words: &[&[u8]]) -> Result<(), AllocError> {
-        let Some((place, numbers)) = words.split_first() else {
-            return self.say("refused form\n");
-        };
-        let Some(place) = digits_of(place) else {
-            return self.say("refused form\n");
-        };
-        let mut row = Vec::new(self.alloc);
-        for word in numbers {
-            let Some(number) = number_of(word) else {
-                return self.say("refused form\n");
-            };
-            row.push(number)?;
+    /// How many bits so many rows have.
+    pub fn bits_of_rows(&self, count: i128) -> i128 {
+        let mut bits = 0i128;
+        for field in &self.fields {
+            bits = bits.wrapping_add(i128::from(field.bits));
         }
-        if row.len() != self.fields.len() {
-            return self.say("refused form\n");
+        bits.saturating_mul(count)
+    }
+
+    /// Refuses so many rows where they are too many.
+    pub fn hold(&self, count: i128) -> Result<(), Refusal> {
+        if self.bits_of_rows(count) > MOST_BITS {
+            Err(Refusal::Cause("full"))
+        } else {
+            Ok(())
         }
-        let Ok(place) = usize::try_from(place) else {
-            return self.say("refused row\n");
-        };
-        if place > self.rows.len() {
-            return self.say("refused row\n");
+    }
+
+    /// The field that a word names, among the fields.
+    pub fn find(&self, word: &[u8]) -> Result<usize, Refusal> {
+        place_of(&self.fields, word).ok_or(Refusal::Cause("field"))
+    }
+
+    /// Refuses a number that a field does not take.
+    pub fn take_value(&self, field: usize, number: i128) -> Result<(), Refusal> {
+        match self.fields.get(field) {
+            Some(field) if is_in_range(field, number) => Ok(()),
+            _ => Err(Refusal::Cause("value")),
         }
-        for (field, number) in self.fields.iter().zip(&row) {
-            if !is_in_range(field, *number) {
-                return self.say("refused value\n");
-            }
-        }
-        self.rows.insert(place, row)?;
-        self.say("ok\n")
     }
 
     // Answers the image of the rows.
-    fn image(&mut self) -> Result<(), AllocError> {
+    fn image(&mut self, words: &[&[u8]]) -> Result<(), Refusal> {
+        if !words.is_empty() {
+            return Err(FORM);
+        }
         let count = self.rows.len();
         let line = format!(in self.alloc; "{count}")?;
         self.say(line.as_str())?;
-        if count == 0 {
-            return self.say("\n");
+        if count > 0 {
+            self.say(" ")?;
         }
-        self.say(" ")?;
         for eight in self.bits()?.chunks(8) {
             let mut byte = 0u8;
             let mut weight = if self.high { 128u8 } else { 1 };
@@ -145,14 +216,15 @@ impl Plain {
             self.text.push(hexadecimal(byte / 16))?;
             self.text.push(hexadecimal(byte % 16))?;
         }
-        self.say("\n")
+        self.say("\n")?;
+        Ok(())
     }
 
     // The digits of all numbers, the lowest of each first or the highest.
     fn bits(&self) -> Result<Vec<bool>, AllocError> {
         let mut bits = Vec::new(self.alloc);
         for row in &self.rows {
-            for (field, number) in self.fields.iter().zip(row) {
+            for (field, number) in self.fields.iter().zip(&row.numbers) {
                 for k in 0..field.bits {
                     let place = if self.high { field.bits - 1 - k } else { k };
                     bits.push(halved(*number, place).rem_euclid(2) == 1)?;
@@ -163,100 +235,43 @@ impl Plain {
     }
 }
 
-// The digit of a number below 16.
-fn hexadecimal(number: u8) -> u8 {
-    b"0123456789abcdef"
-        .get(usize::from(number))
-        .copied()
-        .unwrap_or(b'?')
-}
-
-// A number halved so many times, and rounded down each time.
-fn halved(number: i128, times: u32) -> i128 {
-    let mut rest = number;
-    for _ in 0..times {
-        rest = rest.div_euclid(2);
-    }
-    rest
-}
-
-// Whether a field has digits enough for a number: without them nothing is left of it but a sign, where it has one.
-fn is_in_range(field: &PlainField, number: i128) -> bool {
-    if field.signed {
-        let rest = halved(number, field.bits.saturating_sub(1));
-        rest == 0 || rest == -1
-    } else {
-        halved(number, field.bits) == 0
-    }
-}
-
-// Whether one of the fields has the name.
-fn has_name(fields: &Vec<PlainField>, name: &[u8]) -> bool {
-    for field in fields {
+// The place of the field with this name.
+fn place_of(fields: &Vec<PlainField>, name: &[u8]) -> Option<usize> {
+    for (place, field) in fields.iter().enumerate() {
         if field.name.as_slice() == name {
-            return true;
+            return Some(place);
         }
     }
-    false
+    None
 }
 
-// The field that a word spells, if it spells one.
-fn field_of(alloc: Global, word: &[u8]) -> Result<Option<PlainField>, AllocError> {
-    let mut parts = word.split(|byte| *byte == b':');
-    let (Some(name), Some(kind), None) = (parts.next(), parts.next(), parts.next()) else {
-        return Ok(None);
-    };
-    if !is_name(name) {
-        return Ok(None);
-    }
-    let Some((kind, width)) = kind.split_first() else {
-        return Ok(None);
-    };
-    if !b"ui".contains(kind) || width.starts_with(b"0") {
-        return Ok(None);
-    }
-    match digits_of(width).map(u32::try_from) {
-        Some(Ok(bits)) if bits <= 64 => Ok(Some(PlainField {
-            name: Vec::from_slice(alloc, name)?,
-            bits,
-            signed: *kind == b'i',
-        })),
-        _ => Ok(None),
+/// A row number, a count or an amount.
+pub fn count_in(word: &[u8]) -> Result<i128, Refusal> {
+    digits_of(word).ok_or(FORM)
+}
+
+/// A value.
+pub fn value_in(word: &[u8]) -> Result<i128, Refusal> {
+    number_of(word).ok_or(FORM)
+}
+
+/// A word of the shape of a name.
+pub fn name_in<'a>(word: &'a [u8]) -> Result<&'a [u8], Refusal> {
+    if is_name(word) { Ok(word) } else { Err(FORM) }
+}
+
+/// A row number, which is at most this one.
+pub fn up_to(number: i128, most: usize) -> Result<usize, Refusal> {
+    match usize::try_from(number) {
+        Ok(number) if number <= most => Ok(number),
+        _ => Err(NO_ROW),
     }
 }
 
-// Whether a word is a name.
-fn is_name(word: &[u8]) -> bool {
-    let Some(first) = word.first() else {
-        return false;
-    };
-    word.len() <= 16
-        && first.is_ascii_lowercase()
-        && word.iter().all(|byte| byte.is_ascii_lowercase()
-            || byte.is_ascii_digit()
-            || *byte == b'_')
-}
-
-// The number that digits spell, if they are digits. Thirty digits at most keep it exact.
-fn digits_of(word: &[u8]) -> Option<i128> {
-    if word.is_empty() {
-        return None;
-    }
-    let mut number = 0i128;
-    for byte in word {
-        if !byte.is_ascii_digit() {
-            return None;
-        }
-        let digit = i128::from(byte.wrapping_sub(b'0'));
-        number = number.saturating_mul(10).saturating_add(digit);
-    }
-    Some(number)
-}
-
-// The whole number that digits spell, or a minus and digits.
-fn number_of(word: &[u8]) -> Option<i128> {
-    match word.strip_prefix(b"-") {
-        Some(digits) => digits_of(digits).map(|number| number.wrapping_neg()),
-        None => digits_of(word),
+/// The number of a row that is there.
+pub fn below(number: i128, count: usize) -> Result<usize, Refusal> {
+    match usize::try_from(number) {
+        Ok(number) if number < count => Ok(number),
+        _ => Err(NO_ROW),
     }
 }

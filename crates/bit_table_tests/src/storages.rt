@@ -2,19 +2,34 @@
 
 ghost use Rattle.std.specs.Prelude.{◌*◌, ◌≤◌};
 
+use crate::plain::plain_answer;
 use bit_addressing::{Lsb0, Msb0};
 use bit_slice_paths::WordPaths;
 use bit_slice_stores::BitViewSized;
-use bit_table::{Digits, HiLo};
-use bit_table_samples::answer_to;
+use bit_table::{Digits, HiLo, Input, Output, RunError, run};
+use bit_table_samples::{Cut, Narrow, Stop, answer_to};
 use std::alloc::Global;
 use std::test::Fail;
 
-// A script and its answer.
-type Row = (&'static [u8], &'static [u8]);
+/// A script and its answer.
+pub type Row = (&'static [u8], &'static [u8]);
 
 // Scripts with their answers, worked by hand. Two rows are 5 and -1, then 2 and 3.
-const ROWS: [Row; 15] = [
+const ROWS: [Row; 19] = [
+    (b"", b""),
+    (b" \n\t\n\r\n\n \t\r", b""),
+    (
+        b"insert 0 1\nlow\nlow a:u65\nlow a:u1 a:u1\nlow a:u01\nlow a:u1\nlow a:u1\n\xfe",
+        b"refused layout\nrefused layout\nrefused layout\nrefused layout\nrefused layout\nok\nrefused form\n\
+          refused form\n",
+    ),
+    // the first cause that holds is told
+    (
+        b"high a:u3 b:i4\ninsert 0 5 -1\ninsert 1 2 3\nset 9 c 99\nset 9 a 99\ninsert 3 8 0\ninsert 0 8 0\n\
+          insert 0 5\nget -0\nset 0 a +1\nset 0 A 1\nget 0001\nget\t0\r\nimage",
+        b"ok\nok\nok\nrefused field\nrefused row\nrefused row\nrefused value\nrefused form\nrefused form\n\
+          refused form\nrefused form\n2 3\n5 -1\n2 be8c\n",
+    ),
     (b"high a:u3 b:u5\ninsert 0 5 17\nimage", b"ok\nok\n1 b1\n"),
     (b"low a:u3 b:u5\ninsert 0 5 17\nimage", b"ok\nok\n1 8d\n"),
     (
@@ -77,44 +92,97 @@ const ROWS: [Row; 15] = [
 // Whether each script has its answer over a storage.
 fn answers<A: BitViewSized, O: WordPaths<A::Store> + Digits<A::Store>>(
     alloc: Global,
+    rows: &[Row],
 ) -> Result<bool, Fail>
     requires { 256 ≤ A.COUNT * A.Store.BITS }
 {
     let mut same = true;
-    for (script, answer) in ROWS {
-        same = answer_to::<A, O>(alloc, script)?.as_slice() == answer && same;
+    for (script, answer) in rows {
+        same = answer_to::<A, O>(alloc, script)?.as_slice() == *answer && same;
     }
     Ok(same)
 }
 
-#[test]
-fn answers_over_bytes(rt: HostRuntime) -> Result<(), Fail> {
-    assert!(rt; answers::<[u8; 32], Lsb0>(rt.alloc())?);
-    assert!(rt; answers::<[u8; 32], Msb0>(rt.alloc())?);
-    assert!(rt; answers::<[u8; 32], HiLo>(rt.alloc())?);
-    Ok(())
+/// Whether each script has its answer by the plain program, and over each of twelve storages.
+pub fn all_answer(alloc: Global, rows: &[Row]) -> Result<bool, Fail> {
+    for (script, answer) in rows {
+        if plain_answer(alloc, script)?.as_slice() != *answer {
+            return Ok(false);
+        }
+    }
+    Ok(
+        answers::<[u8; 32], Lsb0>(alloc, rows)?
+            && answers::<[u8; 32], Msb0>(alloc, rows)?
+            && answers::<[u8; 32], HiLo>(alloc, rows)?
+            && answers::<[u16; 16], Lsb0>(alloc, rows)?
+            && answers::<[u16; 16], Msb0>(alloc, rows)?
+            && answers::<[u16; 16], HiLo>(alloc, rows)?
+            && answers::<[u32; 8], Lsb0>(alloc, rows)?
+            && answers::<[u32; 8], Msb0>(alloc, rows)?
+            && answers::<[u32; 8], HiLo>(alloc, rows)?
+            && answers::<[u64; 4], Lsb0>(alloc, rows)?
+            && answers::<[u64; 4], Msb0>(alloc, rows)?
+            && answers::<[u64; 4], HiLo>(alloc, rows)?,
+    )
 }
 
 #[test]
-fn answers_over_two_bytes(rt: HostRuntime) -> Result<(), Fail> {
-    assert!(rt; answers::<[u16; 16], Lsb0>(rt.alloc())?);
-    assert!(rt; answers::<[u16; 16], Msb0>(rt.alloc())?);
-    assert!(rt; answers::<[u16; 16], HiLo>(rt.alloc())?);
+fn answers_over_twelve_storages(rt: HostRuntime) -> Result<(), Fail> {
+    for row in ROWS {
+        assert!(rt; all_answer(rt.alloc(), &[row])?, "{row:?}");
+    }
     Ok(())
 }
 
-#[test]
-fn answers_over_four_bytes(rt: HostRuntime) -> Result<(), Fail> {
-    assert!(rt; answers::<[u32; 8], Lsb0>(rt.alloc())?);
-    assert!(rt; answers::<[u32; 8], Msb0>(rt.alloc())?);
-    assert!(rt; answers::<[u32; 8], HiLo>(rt.alloc())?);
-    Ok(())
+// Two rows under `high` and their image. The last line has no line end.
+const SCRIPT: &[u8; 47] = b"high a:u3 b:i4\ninsert 0 5 -1\ninsert 1 2 3\nimage";
+
+// Whether the script is answered over a storage when it is read byte by byte; and whether a writer that takes three
+// bytes and then fails has taken an `ok` and its line end.
+fn answers_byte_by_byte<A: BitViewSized, O: WordPaths<A::Store> + Digits<A::Store>>(
+    alloc: Global,
+) -> Result<bool, Fail>
+    requires { 256 ≤ A.COUNT * A.Store.BITS }
+{
+    let mut input = Input::new(Cut {
+        rest: SCRIPT.as_slice(),
+        first: 0,
+        piece: 1,
+        until_fault: usize::MAX,
+    });
+    let mut output = Output::new(Vec::new(alloc));
+    run::<A, O, _, _>(alloc, &mut input, &mut output)?;
+    let whole = output.into_inner().as_slice() == b"ok\nok\nok\n2 be8c\n".as_slice();
+    let mut input = Input::new(SCRIPT.as_slice());
+    let mut output = Output::new(Narrow {
+        taken: Vec::new(alloc),
+        most: 3,
+        room: 3,
+        stop: Stop::Fails,
+    });
+    let outcome = run::<A, O, _, _>(alloc, &mut input, &mut output);
+    let Narrow {
+        taken,
+        most: _,
+        room: _,
+        stop: _,
+    } = output.into_inner();
+    Ok(whole && outcome == Err(RunError::Write) && taken.as_slice() == b"ok\n".as_slice())
 }
 
 #[test]
-fn answers_over_eight_bytes(rt: HostRuntime) -> Result<(), Fail> {
-    assert!(rt; answers::<[u64; 4], Lsb0>(rt.alloc())?);
-    assert!(rt; answers::<[u64; 4], Msb0>(rt.alloc())?);
-    assert!(rt; answers::<[u64; 4], HiLo>(rt.alloc())?);
+fn answers_over_twelve_storages_byte_by_byte(rt: HostRuntime) -> Result<(), Fail> {
+    assert!(rt; answers_byte_by_byte::<[u8; 32], Lsb0>(rt.alloc())?);
+    assert!(rt; answers_byte_by_byte::<[u8; 32], Msb0>(rt.alloc())?);
+    assert!(rt; answers_byte_by_byte::<[u8; 32], HiLo>(rt.alloc())?);
+    assert!(rt; answers_byte_by_byte::<[u16; 16], Lsb0>(rt.alloc())?);
+    assert!(rt; answers_byte_by_byte::<[u16; 16], Msb0>(rt.alloc())?);
+    assert!(rt; answers_byte_by_byte::<[u16; 16], HiLo>(rt.alloc())?);
+    assert!(rt; answers_byte_by_byte::<[u32; 8], Lsb0>(rt.alloc())?);
+    assert!(rt; answers_byte_by_byte::<[u32; 8], Msb0>(rt.alloc())?);
+    assert!(rt; answers_byte_by_byte::<[u32; 8], HiLo>(rt.alloc())?);
+    assert!(rt; answers_byte_by_byte::<[u64; 4], Lsb0>(rt.alloc())?);
+    assert!(rt; answers_byte_by_byte::<[u64; 4], Msb0>(rt.alloc())?);
+    assert!(rt; answers_byte_by_byte::<[u64; 4], HiLo>(rt.alloc())?);
     Ok(())
 }

@@ -1,9 +1,10 @@
 //! A script read and answered in pieces, and runs that a fault ends.
-ghost use Rattle.std.specs.Prelude.{◌≤◌};
+ghost use Rattle.std.specs.Prelude.{◌≤◌, Some};
 
 use bit_addressing::Lsb0;
 use bit_table::{Input, Output, RunError, run};
 use bit_table_samples::{Cut, Narrow, Stop};
+use std::io::{self, Write};
 use std::test::Fail;
 
 // Two rows and their image. The last line has no line end.
@@ -110,5 +111,47 @@ fn a_write_fault_ends_it(rt: HostRuntime) -> Result<(), Fail> {
             }
         }
     }
+    Ok(())
+}
+
+// Takes all that it is given, and counts how often it is given something.
+#[derive(Drop)]
+struct Counting {
+    taken: Vec<u8>,
+    calls: usize,
+}
+
+impl Write for Counting {
+    ghost contents = { λ s. Some s.taken.items };
+
+    fn write(&mut self, buf: &[u8]) -> io::Result<usize> {
+        self.calls = self.calls.saturating_add(1);
+        self.taken.extend_from_slice(buf)?;
+        Ok(buf.len())
+    }
+
+    fn flush(&mut self) -> io::Result<()> {
+        Ok(())
+    }
+}
+
+// Five thousand lines are read in eight pieces, and their answers have ten thousand bytes.
+#[test]
+fn many_short_lines_take_few_writes(rt: HostRuntime) -> Result<(), Fail> {
+    let mut script = Vec::from_slice(rt.alloc(), b"low f:u1\n")?;
+    let mut answer = Vec::from_slice(rt.alloc(), b"ok\n")?;
+    for _ in 0..5000 {
+        script.extend_from_slice(b"image\n")?;
+        answer.extend_from_slice(b"0\n")?;
+    }
+    let mut input = Input::new(script.as_slice());
+    let mut output = Output::new(Counting {
+        taken: Vec::new(rt.alloc()),
+        calls: 0,
+    });
+    run::<[u64; 4], Lsb0, _, _>(rt.alloc(), &mut input, &mut output)?;
+    let Counting { taken, calls } = output.into_inner();
+    assert!(rt; taken.as_slice() == answer.as_slice());
+    assert!(rt; calls <= 20, "{calls}");
     Ok(())
 }

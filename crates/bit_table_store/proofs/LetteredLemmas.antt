@@ -2,9 +2,9 @@
 --
 -- What the two say of the whole: `numbers_lettered`, `letters_lettered`, `length-lettered`, `bits_lettered`,
 -- `are_rows-lettered`. The whole from the two: `rows_told`.
-use Rattle.std.proofs.Common.{◌≡◌, ℕ, zero, suc, ◌+◌, List, [], ◌∷◌, ◌++◌, ◌&&◌, length, map, get_or, take, drop, subst, refl, sym, ap, ap₂, ◌∙◌, arith}
+use Rattle.std.proofs.Common.{◌≡◌, ℕ, zero, suc, ◌+◌, List, [], ◌∷◌, ◌++◌, ◌&&◌, length, map, get_or, take, drop}
+use Rattle.std.proofs.Common.{subst, refl, sym, ap, ap₂, ◌∙◌, arith}
 use Rattle.std.specs.Prelude.{ℤ, slice_range}
-use Rattle.std.specs.List.{list_all, flat_map}
 use Rattle.std.proofs.lemmas.List.{length-map, places, same_lists}
 use Rattle.bit_table_layout.specs.Layouts.{LayoutShape}
 use Rattle.bit_table_layout.specs.Rows.{Row, all_numbers, are_rows, is_row, row_bits, table_bits}

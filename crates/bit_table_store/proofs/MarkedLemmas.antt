@@ -4,14 +4,14 @@
 -- told of them: `count-lettered`, `ones-passing`, `bears-letters`, `one_found`, `none_found`. Rows that do not bear a
 -- letter: `staying-lettered`, `count-staying`. Rows without letters: `blank-from`.
 use Rattle.std.proofs.Common.{◌≡◌, ℕ, zero, suc, ◌+◌, ◌<◌, ◌≤◌, Bool, true, false, not, List, [], ◌∷◌, ◌++◌, length, map}
-use Rattle.std.proofs.Common.{get_or, take, inl, inr, refl, sym, ap, ap₂, ◌∙◌, arith, if◌then◌else◌, add-one}
+use Rattle.std.proofs.Common.{get_or, take, inl, inr, refl, sym, ap, ap₂, ◌∙◌, arith, if◌then◌else◌}
 use Rattle.std.specs.Prelude.{count_by, replicate, slice_index_or, slice_set}
 use Rattle.std.specs.List.{filter}
 use Rattle.std.specs.FinSet as set
 use Rattle.std.proofs.lemmas.Bool.{cases_Bool}
 use Rattle.std.proofs.lemmas.List.{append-nil}
 use Rattle.std.proofs.lemmas.List.Sums.{length-filter, sum_by-cons}
-use Rattle.bit_table_layout.specs.Layouts.{LayoutShape, row_width}
+use Rattle.bit_table_layout.specs.Layouts.{LayoutShape}
 use Rattle.bit_table_layout.specs.Readings.{rows_from}
 use Rattle.bit_table_layout.specs.Rows.{Row}
 use Rattle.bit_table_letter.specs.Marks.{LetterSet, bears, with_letter}

@@ -1,4 +1,4 @@
-use Rattle.std.proofs.Common.{◌≡◌, ◌<◌, ◌≤◌, Some, Bool, [], length, map, take, get_or, sym, ap, ◌∙◌, arith, refl, ℤ, to_z, of_z}
+use Rattle.std.proofs.Common.{◌≡◌, ◌<◌, Some, Bool, [], length, map, take, get_or, sym, ap, ◌∙◌, arith, refl, ℤ, to_z, of_z}
 use Rattle.std.specs.Prelude.{slice_get, slice_index_or, slice_set}
 use mir.Syntax.{w128}
 use Rattle.std.specs.FinSet as set
@@ -7,7 +7,6 @@ use Rattle.std.proofs.lemmas.List.{get_or-map, length-map, take_all}
 use Rattle.std.proofs.lemmas.Option.{slice_get-get_or}
 use Rattle.bit_addressing.specs.Memory.{read_by}
 use Rattle.bit_containers_vector.specs.Vector.{vec_bits}
-use Rattle.bit_table_layout.specs.Fields.{FieldShape}
 use Rattle.bit_table_layout.specs.Readings.{rows_from}
 use Rattle.bit_table_layout.specs.Rows.{Row, new_row}
 use Rattle.bit_table_layout.proofs.RowLemmas.{length-rows_from}

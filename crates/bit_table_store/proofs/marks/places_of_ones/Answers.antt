@@ -1,4 +1,4 @@
-use Rattle.std.proofs.Common.{◌≡◌, ◌<◌, ◌++◌, [], ◌∷◌, false, true, Vec, Global, ℕ, length, get_or, ap, sym, ◌∙◌, arith}
+use Rattle.std.proofs.Common.{◌<◌, ◌++◌, [], ◌∷◌, false, Vec, Global, ℕ, length, ap, sym, ◌∙◌, arith}
 use Rattle.bit_addressing.specs.Memory.{read_by}
 use Rattle.bit_slice_views.specs.View.{view_bits}
 use Rattle.bit_table_store.proofs.MarkedLemmas.{none_found, one_found}

@@ -1,13 +1,10 @@
-use Rattle.std.proofs.Common.{◌≡◌, ◌+◌, ◌-◌, ◌*◌, ◌≤◌, length, take, ap, sym, ◌∙◌, refl, arith}
+use Rattle.std.proofs.Common.{◌≡◌, ◌+◌, ◌*◌, take, ap, ◌∙◌, refl, arith}
 use Rattle.bit_addressing.specs.Memory.{piece, read_by}
-use Rattle.bit_addressing_span.specs.declared.span.TheConstants.{MAX_BITS}
 use Rattle.bit_containers_array.specs.Array.{array_bits}
-use Rattle.bit_containers_vector.specs.Vector.{vec_bits}
 use Rattle.bit_slice_views.specs.View.{view_bits}
 use Rattle.bit_table_layout.specs.Layouts.{row_width}
 use Rattle.bit_table_layout.specs.Readings.{rows_from}
 use Rattle.bit_table_layout.specs.Rows.{new_row, numbers_bits}
-use Rattle.bit_table_layout.proofs.CallerLemmas.{row_width-bounds}
 use Rattle.bit_table_layout.proofs.RowLemmas.{some_row_bits}
 use Rattle.bit_table_commands.specs.declared.command.Command.TheVariants.{Insert}
 use Rattle.bit_table_letters.specs.declared.edit.RowEdit.TheVariants as edits

@@ -1,4 +1,4 @@
-use Rattle.std.proofs.Common.{◌≡◌, ◌*◌, ◌≤◌, length, ap, ◌∙◌, refl}
+use Rattle.std.proofs.Common.{◌*◌, length, ap, ◌∙◌, refl}
 use Rattle.std.proofs.lemmas.List.{length-replicate}
 use Rattle.std.specs.FinSet as set
 use Rattle.bit_table_layout.specs.Layouts.{row_width}

@@ -1,4 +1,4 @@
-use Rattle.std.proofs.Common.{◌≡◌, Some, length, ap, ◌∙◌, refl}
+use Rattle.std.proofs.Common.{Some, length, ap, ◌∙◌, refl}
 use mir.Syntax.{w128}
 use Rattle.std.proofs.lemmas.Int.{to_z-of_z}
 use Rattle.bit_table_commands.specs.Marks.{number_in_field, passes}

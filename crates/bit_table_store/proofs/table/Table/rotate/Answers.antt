@@ -1,4 +1,4 @@
-use Rattle.std.proofs.Common.{◌≡◌, ◌+◌, ◌-◌, ◌*◌, ◌≤◌, [], length, take, refl, ap, sym, ◌∙◌, arith}
+use Rattle.std.proofs.Common.{[], refl, ap, ◌∙◌, arith}
 use Rattle.bit_table_layout.specs.Readings.{rows_from}
 use Rattle.bit_table_layout.specs.Rows.{new_row}
 use Rattle.bit_table_commands.specs.declared.command.Command.TheVariants.{Rotate}
@@ -41,5 +41,8 @@ returns-clause-shape g c =
     let bits = rw c.row_bits-width.ensures.bits at c.rotate_rows.ensures.bits in
     let letters = rw c.unwrap.ensures at c.edit.ensures.ok in
     shape_after _ t.layout _ _ _ c.self.view_is h.0 h.1 h.2 (Rotate c.args.start c.args.upto c.args.amount) _ _
-    (rows_edited _ t.layout _ _ _ c.self.view_is h.0 h.1 h.2 (edits.Rotate c.args.start c.args.upto c.args.amount) (new_row []) _ r
-    (ap (rows_from t.layout t.rows) bits ∙ rows_after_rotate t.layout t.rows _ h.1.fits c.args.start c.args.upto c.args.amount (omega (arith, r.0, r.2)) r.1) letters) refl
+    (rows_edited _ t.layout _ _ _ c.self.view_is h.0 h.1 h.2 (edits.Rotate c.args.start c.args.upto c.args.amount)
+    (new_row []) _ r
+    (ap (rows_from t.layout t.rows) bits
+    ∙ rows_after_rotate t.layout t.rows _ h.1.fits c.args.start c.args.upto c.args.amount (omega (arith, r.0, r.2)) r.1)
+    letters) refl

@@ -8,7 +8,9 @@ pub use Rattle.bit_table_layout.specs.Images
 pub use Rattle.bit_table_layout.specs.Layouts
 pub use Rattle.bit_table_layout.specs.LineWords
 pub use Rattle.bit_table_layout.specs.LineWordsLeft
+pub use Rattle.bit_table_layout.specs.Loads
 pub use Rattle.bit_table_layout.specs.Numerals
+pub use Rattle.bit_table_layout.specs.Readings
 pub use Rattle.bit_table_layout.specs.Rows
 pub use Rattle.bit_table_layout.specs.declared.layout.LayoutError
 pub use Rattle.bit_table_layout.specs.declared.layout.Rule
@@ -20,6 +22,7 @@ pub use Rattle.bit_table_commands.specs.Causes
 pub use Rattle.bit_table_commands.specs.Edits
 pub use Rattle.bit_table_commands.specs.CuttingOff
 pub use Rattle.bit_table_commands.specs.Commands
+pub use Rattle.bit_table_commands.specs.Marks
 pub use Rattle.bit_table_script.specs.Ends
 pub use Rattle.bit_table_script.specs.Lines
 pub use Rattle.bit_table_commands.specs.Replies
@@ -30,6 +33,10 @@ pub use Rattle.bit_table_layout.specs.declared.cause.Fault
 pub use Rattle.bit_table_script.specs.declared.run_error.RunError
 pub use Rattle.bit_table_commands.specs.declared.command.Command
 pub use Rattle.bit_table_commands.specs.declared.reply.Reply
+pub use Rattle.bit_table_commands.specs.declared.test.Test
+pub use Rattle.bit_table_letter.specs.Letters
+pub use Rattle.bit_table_letter.specs.Marks as LetterMarks
+pub use Rattle.bit_table_letter.specs.declared.bool_op.BoolOp
 pub use Rattle.bit_table_script.specs.declared.streams.Input
 pub use Rattle.bit_table_script.specs.declared.streams.Output
 pub use Rattle.bit_table_store.specs.View

@@ -5,7 +5,8 @@ mod script_run;
 mod session;
 
 pub use bit_table_commands::{
-    Command, ImageBytes, Items, Numbers, Reply, RowNumbers, Test, Values, cutting_off_changes_nothing,
+    Command, ImageBytes, Items, Numbers, Reply, RowNumbers, Test, Values,
+    cutting_off_changes_nothing,
 };
 pub use bit_table_digits::{Digits, HiLo, digits_by_bits};
 pub use bit_table_image as image;

@@ -224,9 +224,9 @@ fn combines<A: BitViewSized, O: WordPaths<A::Store> + Digits<A::Store>>(
 }
 
 #[test]
-fn a_table_combines_letters_by_words(rt: HostRuntime) -> Result<(), Fail> {
-    assert!(rt; combines::<[u64; 4], Lsb0>(rt.alloc(), 2)?);
-    assert!(rt; combines::<[u8; 32], Msb0>(rt.alloc(), 2)?);
+fn a_table_combines_letters(rt: HostRuntime) -> Result<(), Fail> {
+    assert!(rt; combines::<[u64; 4], Lsb0>(rt.alloc(), 70)?);
+    assert!(rt; combines::<[u8; 32], Msb0>(rt.alloc(), 70)?);
     assert!(rt; combines::<[u32; 8], HiLo>(rt.alloc(), 70)?);
     Ok(())
 }

@@ -54,7 +54,8 @@ fn letters_over_twelve_storages(rt: HostRuntime) -> Result<(), Fail> {
 }
 
 // Five rows, of which 0, 2 and 3 bear x, and 1 and 3 bear y.
-const FIVE_ROWS: &[u8] = b"high a:u3 b:i4\ninsert 0 5 -1\ninsert 1 2 3\ninsert 2 7 -8\ninsert 3 4 6\n\
+const FIVE_ROWS: &[u8] =
+    b"high a:u3 b:i4\ninsert 0 5 -1\ninsert 1 2 3\ninsert 2 7 -8\ninsert 3 4 6\n\
     insert 4 0 0\nmark x a > 3\nmark y b > 2\nmark z a = 0\n";
 
 // What is told of the five rows: all but the rows' letters is told by their numbers.
@@ -74,7 +75,10 @@ fn edits_that_undo_one_another_leave_letters(rt: HostRuntime) -> Result<(), Fail
         b"keep\ndrop x\nback\n".as_slice(),
         b"set 3 a 0\nset 3 a 4\n".as_slice(),
     ] {
-        assert!(rt; is_same_table(rt.alloc(), FIVE_ROWS, edit, LETTERS)?, "{edit:?}");
+        assert!(rt;
+            is_same_table(rt.alloc(), FIVE_ROWS, edit, LETTERS)?,
+            "{edit:?}"
+        );
     }
     Ok(())
 }

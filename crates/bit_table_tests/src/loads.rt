@@ -61,7 +61,10 @@ fn a_tables_own_image_is_loaded(rt: HostRuntime) -> Result<(), Fail> {
         lines.extend_from_slice(b"list x\nimage")?;
         let mut answer = Vec::from_slice(rt.alloc(), b"ok\nok\nnone\n")?;
         answer.extend_from_slice(image.as_slice())?;
-        assert!(rt; after(rt.alloc(), table, lines.as_slice())?.as_slice() == answer.as_slice(), "{table:?}");
+        assert!(rt;
+            after(rt.alloc(), table, lines.as_slice())?.as_slice() == answer.as_slice(),
+            "{table:?}"
+        );
     }
     Ok(())
 }

@@ -43,7 +43,11 @@ fn two_rows<A: BitViewSized, O: WordPaths<A::Store> + Digits<A::Store>>(
 {
     let layout = Layout::parse(alloc, b"high a:u3 b:i4")?;
     let mut table = Table::<A, O>::new(alloc, layout);
-    told(alloc, &mut table, b"insert 0 5 -1\ninsert 1 2 3\nmark x b < 0")?;
+    told(
+        alloc,
+        &mut table,
+        b"insert 0 5 -1\ninsert 1 2 3\nmark x b < 0",
+    )?;
     Ok(table)
 }
 
@@ -59,13 +63,22 @@ where
 {
     let mut table = two_rows::<A, O>(alloc)?;
     let mut early = table.relay::<A2, O2>()?;
-    let mut relayed = tells(alloc, &mut early, b"image\nget 0\nlist x", b"2 be8c\n5 -1\n0\n")?
-        && !early.back();
+    let mut relayed = tells(
+        alloc,
+        &mut early,
+        b"image\nget 0\nlist x",
+        b"2 be8c\n5 -1\n0\n",
+    )? && !early.back();
     relayed = tells(alloc, &mut table, b"keep\ndelete 0 2", b"ok\nok\n")? && relayed;
     let mut late = table.relay::<A2, O2>()?;
     relayed = late.rows() == 0 && late.moved() == [0; 27] && relayed;
     relayed = tells(alloc, &mut late, b"back\nimage\nlist x", b"ok\n2 be8c\n0\n")? && relayed;
-    relayed = tells(alloc, &mut table, b"image\nback\nimage\nlist x", b"0\nok\n2 be8c\n0\n")? && relayed;
+    relayed = tells(
+        alloc,
+        &mut table,
+        b"image\nback\nimage\nlist x",
+        b"0\nok\n2 be8c\n0\n",
+    )? && relayed;
     Ok(relayed && !late.back() && !table.back())
 }
 
@@ -130,9 +143,18 @@ fn tells_moves<A: BitViewSized, O: WordPaths<A::Store> + Digits<A::Store>>(
     let layout = Layout::parse(alloc, b"low f:u8")?;
     let mut table = Table::<A, O>::new(alloc, layout);
     let mut right = table.moved() == [0; 27];
-    told(alloc, &mut table, b"insert 0 1\ninsert 1 2\ninsert 2 3\ninsert 3 4\ninsert 4 5\ninsert 0 9")?;
+    told(
+        alloc,
+        &mut table,
+        b"insert 0 1\ninsert 1 2\ninsert 2 3\ninsert 3 4\ninsert 4 5\ninsert 0 9",
+    )?;
     right = table.moved()[0] == 5 && right;
-    right = tells(alloc, &mut table, b"get 5\nswap 0 1\nswap 0 1", b"5\nok\nok\n")? && right;
+    right = tells(
+        alloc,
+        &mut table,
+        b"get 5\nswap 0 1\nswap 0 1",
+        b"5\nok\nok\n",
+    )? && right;
     right = table.moved()[0] == 5 && right;
     told(alloc, &mut table, b"delete 0 1")?;
     right = table.moved()[0] == 5 && right;
@@ -191,7 +213,11 @@ fn combines<A: BitViewSized, O: WordPaths<A::Store> + Digits<A::Store>>(
         right = tells(alloc, &mut table, b"count x\ncount y", count)? && right;
         let mut alone = Steps::new();
         table.combine(op, y, y, &mut alone);
-        let own = if op == BoolOp::Xor { b"0\n" } else { b"50\n".as_slice() };
+        let own = if op == BoolOp::Xor {
+            b"0\n"
+        } else {
+            b"50\n".as_slice()
+        };
         right = tells(alloc, &mut table, b"count y", own)? && right;
     }
     Ok(right)

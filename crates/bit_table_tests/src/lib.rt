@@ -15,9 +15,15 @@ mod laws;
 #[cfg(test)]
 mod layout_lines;
 #[cfg(test)]
+mod letter_scripts;
+#[cfg(test)]
+mod letters;
+#[cfg(test)]
 mod line_runs;
 #[cfg(test)]
 mod line_words;
+#[cfg(test)]
+mod loads;
 #[cfg(test)]
 mod numbers;
 #[cfg(test)]
@@ -28,6 +34,8 @@ mod plain_letters;
 mod plain_rows;
 #[cfg(test)]
 mod plain_words;
+#[cfg(test)]
+mod relays;
 #[cfg(test)]
 mod rows;
 #[cfg(test)]

@@ -13,8 +13,8 @@ pub struct PlainRow {
     pub letters: [bool; 26],
 }
 
-/// How far a script has come: no fields yet, or some, whether their highest digits come first, a list of rows, and those
-/// that are kept; and what was answered.
+/// How far a script has come: no fields yet, or some, whether their highest digits come first, a list of rows, and
+/// those that are kept; and what was answered.
 #[derive(Drop)]
 pub struct Plain {
     pub alloc: Global,

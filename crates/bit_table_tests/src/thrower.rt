@@ -204,14 +204,16 @@ impl Thrower {
     /// Adds the name of a field, one that the layout lacks now and then, and answers a number for it.
     pub fn write_field(&mut self) -> Result<i128, AllocError> {
         self.write_gap()?;
+        let count = self.kinds.len().max(1);
         let index = if self.roll(12) == 0 {
             4
         } else {
-            self.roll(self.kinds.len().max(1))
+            self.roll(count)
         };
         let name = b"abcde".get(index).copied().unwrap_or(b'e');
         self.write(&[name])?;
-        Ok(match self.kinds.get(index).copied() {
+        let kind = self.kinds.get(index).copied();
+        Ok(match kind {
             Some(kind) => self.number(kind),
             None => 1,
         })

@@ -29,6 +29,12 @@ pub use Rattle.bit_slice_writes.specs.Frame
 pub use Rattle.bit_slice_writes.specs.Pair
 pub use Rattle.bit_slice_writes.specs.Parts
 pub use Rattle.bit_slice_writes.specs.ViewMut
+pub use Rattle.bit_slice_access.specs.BitMut
+pub use Rattle.bit_slice_access.specs.Fills
+pub use Rattle.bit_slice_access.specs.Part
+pub use Rattle.bit_slice_access.specs.PartLender
+pub use Rattle.bit_slice_access.specs.Shows
+pub use Rattle.bit_slice_iterators.specs.Indices
 -- of splits, by which a predicate is asked
 pub use Rattle.bit_slice_splits.specs.Ways
 -- of word paths, memories and sweeps

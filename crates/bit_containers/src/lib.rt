@@ -14,6 +14,12 @@ pub use bit_containers_box as boxed;
 pub use bit_containers_box::{BitBox, IntoBoxed};
 pub use bit_containers_lending::{BitsOwned, apply};
 pub use bit_containers_vector::{BitVec, Drain, SliceFault, Splice};
+pub use bit_slice_access::{
+    BitMut, BitRangeMut, BitSliceIndexMut, BitsAccess, BitsCopy, BitsCut, BitsFill, BitsParts, Part,
+};
+pub use bit_slice_iterators::{
+    BitRefIter, BitValIter, BitsIter, Indices, Iter, IterOnes, IterZeros, Ones, Sought, Zeros,
+};
 pub use bit_slice_paths::{Steps, WordPaths, by_bits};
 pub use bit_slice_stores::{BitStore, BitViewSized};
 pub use bit_slice_views::{

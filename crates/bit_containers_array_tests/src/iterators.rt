@@ -4,6 +4,7 @@ use bit_addressing::{Lsb0, Msb0};
 use bit_containers_array::{BitArray, IntoIter};
 use bit_slice_views::Bits;
 use bit_slice_writes::BitsMut;
+use std::alloc::AllocError;
 use std::process::Abort;
 
 #[test]
@@ -22,14 +23,15 @@ fn bits_come_from_both_ends(rt: HostRuntime) {
 }
 
 #[test]
-fn a_copy_goes_on_by_itself(rt: HostRuntime) {
+fn a_copy_goes_on_by_itself(rt: HostRuntime) -> Result<(), AllocError> {
     let mut bits = IntoIter::new(BitArray::<[u8; 2], Lsb0>::new([0x01, 0x80]));
     assert!(rt; bits.next() == Some(true));
-    let Ok(mut copy) = bits.clone() else { return };
+    let mut copy = bits.clone()?;
     assert!(rt;
         bits.next_back() == Some(true) && copy.len() == 15 && copy.next_back() == Some(true)
     );
     assert!(rt; bits.len() == 14 && bits.all(|bit| !bit) && copy.all(|bit| !bit));
+    Ok(())
 }
 
 #[test]

@@ -1,4 +1,4 @@
-//! Each call of a box from each head on, compared with a plain list of bits.
+//! Calls of a box from each head on, compared with a plain list of bits.
 
 use crate::plain::{BYTES, List, Plain, lists, shows, start, start_list};
 use bit_addressing::{Lsb0, Msb0};

@@ -50,11 +50,11 @@ fn words_in_boxes_become_boxes(rt: HostRuntime) -> Result<(), AllocError> {
     let words: BoxedSlice<u16> = BoxedSlice::from(bits);
     assert!(rt; words.as_slice() == [0x0180u16, 0x8001].as_slice());
     let Ok(bits) = BitBox::<u16, Lsb0>::try_from_boxed_slice(words) else {
-        return Ok(())
+        return Err(AllocError)
     };
     assert!(rt; bits.len() == 32 && bits[7] && bits[8] && bits[16] && bits[31]);
     let Ok(again) = BitBox::<u16, Lsb0>::try_from(bits.into_boxed_slice()) else {
-        return Ok(())
+        return Err(AllocError)
     };
     assert!(rt; again.as_raw_slice() == [0x0180u16, 0x8001].as_slice());
     Ok(())

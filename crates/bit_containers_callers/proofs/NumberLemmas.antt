@@ -6,7 +6,6 @@ use Rattle.std.proofs.lemmas.List.{get_or_append_left, get_or-append_right, get_
 use Rattle.std.proofs.lemmas.List.Quantifiers.{position-Some}
 use Rattle.std.proofs.lemmas.List.Sums.{fails_before_first}
 use Rattle.std.proofs.lemmas.Simd.{get_or-zip2, length-zip2}
-use Rattle.bit_addressing.specs.Memory.{piece}
 use Rattle.bit_slice_scans.specs.Found.{is_bit}
 use Rattle.bit_slice_views.proofs.EndLemmas.{found_none}
 use Rattle.bit_slice_writes.specs.Combined.{combined, fitted}
@@ -70,10 +69,5 @@ pub all_present : (xs : List Bool) → position (is_bit false) xs ≡ None
 all_present xs e k low =
     let none = found_none (is_bit false) xs e in
     not_false (get_or xs k false) (fails_before_first (is_bit false) xs k false (omega arith))
-
--- a piece is no longer than was asked
-pub piece_most : (xs : List Bool) (h n : ℕ) → length (piece xs h n) ≤ n
-unfolding piece
-piece_most xs h n = grind (arith, places)
 
 pub ruleset numbers = (padded, united)

@@ -9,3 +9,5 @@ mod lent;
 mod made;
 #[cfg(test)]
 mod plain;
+#[cfg(test)]
+mod readme;

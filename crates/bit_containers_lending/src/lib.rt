@@ -1,4 +1,4 @@
-//! What a container of bits lends of itself: its words, and its list as windows.
+//! What an array of bits lends of itself: its words, and its list as windows.
 #![tactic(auto)]
 
 mod owned;

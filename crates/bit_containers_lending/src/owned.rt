@@ -1,4 +1,4 @@
-//! What every container of bits lends.
+//! What an array of bits lends. Boxes and vectors have calls of their own of the same names.
 
 ghost use Rattle.std.specs.Prelude.{◌≡◌, ℕ, List, length};
 ghost use Rattle.std.specs.Borrow.{Array, Lends, follows, sem};

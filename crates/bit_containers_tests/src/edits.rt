@@ -1,6 +1,7 @@
-//! Each edit of a vector, from each head on, against the same edit of a plain list.
+//! Edits of a vector, from each head on, against the same edit of a plain list.
 
-use crate::plain::{EDITS, Edit, List, Plain, edited, fits, repeated, taken};
+use crate::heads::come_in_turn;
+use crate::plain::{EDITS, Edit, FEW, List, MANY, Plain, edited, fits, listed, repeated, taken};
 use crate::vectors::{STARTS, Start, mixed, shows};
 use bit_addressing::{BitOrder, Lsb0, Msb0};
 use bit_containers_vector::BitVec;
@@ -41,6 +42,86 @@ fn extend<T: BitStore, O: BitOrder<T>>(
             }
             vector.extend_from_raw_slice(words)?;
         }
+    }
+    Ok(true)
+}
+
+// Takes a part of the list out, and reads it from both ends: whether its bits are those of the list.
+fn drains<T: BitStore, O: BitOrder<T>>(
+    vector: &mut BitVec<T, O>,
+    from: usize,
+    upto: usize,
+    list: &List,
+) -> bool {
+    if from > upto || upto > vector.len() {
+        return false;
+    }
+    come_in_turn(vector.drain(from..upto), &list.cut(from, upto - from))
+}
+
+// The first and the last of the bits from `from` up to `upto`, where there are two.
+fn ends(list: &List, from: usize, upto: usize) -> (Option<bool>, Option<bool>) {
+    if upto <= from {
+        return (None, None);
+    }
+    let first = Some(list.at(from));
+    if upto - from < 2 {
+        return (first, None);
+    }
+    (first, Some(list.at(upto - 1)))
+}
+
+// Puts bits in the place of a part of the list, or leaves it out: whether its ends are those of the list.
+fn splices<T: BitStore, O: BitOrder<T>>(
+    vector: &mut BitVec<T, O>,
+    edit: Edit,
+    list: &List,
+) -> Result<bool, AllocError> {
+    let len = vector.len();
+    match edit {
+        Edit::Splice(from, upto) if from <= upto && upto <= len && len <= 100 => {
+            let mut gone = vector.splice(from..upto, MANY.into_iter());
+            let sized = gone.len() == upto - from;
+            let ends_of = (gone.next(), gone.next_back());
+            gone.finish()?;
+            Ok(sized && ends_of == ends(list, from, upto))
+        }
+        Edit::SpliceFew(from, upto) if from <= upto && upto <= len && len <= 100 => {
+            let mut gone = vector.splice(from..upto, FEW.into_iter());
+            let hint = gone.size_hint() == (upto - from, Some(upto - from));
+            let ends_of = (gone.next(), gone.next_back());
+            gone.finish()?;
+            Ok(hint && ends_of == ends(list, from, upto))
+        }
+        Edit::Leave(from, upto) if from <= upto && upto <= len => {
+            let mut gone = vector.splice(from..upto, MANY.into_iter());
+            Ok((gone.next(), gone.next_back()) == ends(list, from, upto))
+        }
+        _ => Ok(false),
+    }
+}
+
+// Makes an edit that takes bits or words from an iterator or a closure, or moves them.
+fn edit_items<T: BitStore, O: BitOrder<T>>(
+    alloc: Global,
+    vector: &mut BitVec<T, O>,
+    edit: Edit,
+) -> Result<bool, AllocError> {
+    let len = vector.len();
+    let words = mixed::<T>(alloc, 9)?;
+    if len > 100 || words.len().saturating_mul(T::BITS as usize) > 1000 {
+        return Ok(false);
+    }
+    match edit {
+        Edit::ExtendItems => vector.extend(MANY.into_iter())?,
+        Edit::ExtendElements => vector.extend_elements(words.into_iter())?,
+        Edit::ResizeWith(wanted) if wanted <= 100 => {
+            vector.resize_with(wanted, |index| index % 3 == 0)?
+        }
+        Edit::Move(from, to, count) if count <= len && from <= len - count && to <= len - count => {
+            vector.move_within(from, to, count);
+        }
+        _ => return Ok(false),
     }
     Ok(true)
 }
@@ -116,6 +197,12 @@ pub fn make<T: BitStore, O: BitOrder<T> + Plain>(
             extend(alloc, vector, edit)
         }
         Edit::SplitOff(index) => split(vector, index, list),
+        Edit::Drain(from, upto) => Ok(drains(vector, from, upto, list)),
+        Edit::Splice(_, _) | Edit::SpliceFew(_, _) | Edit::Leave(_, _) => {
+            splices(vector, edit, list)
+        }
+        Edit::ExtendItems | Edit::ExtendElements | Edit::ResizeWith(_) | Edit::Move(_, _, _) =>
+            edit_items(alloc, vector, edit),
         Edit::Reserve(_) | Edit::ReserveExact(_) | Edit::Shrink | Edit::Align | Edit::Beside(_) => {
             edit_beside(vector, edit)?;
             Ok(true)
@@ -127,7 +214,10 @@ pub fn make<T: BitStore, O: BitOrder<T> + Plain>(
 /// The bits that an edit appends which takes them from elsewhere.
 pub fn added<T: BitStore, O: Plain>(alloc: Global, edit: Edit) -> Result<List, AllocError> {
     match edit {
-        Edit::ExtendWords => Ok(List::of::<T, O>(mixed::<T>(alloc, 9)?.as_slice())),
+        Edit::ExtendWords | Edit::ExtendElements => {
+            Ok(List::of::<T, O>(mixed::<T>(alloc, 9)?.as_slice()))
+        }
+        Edit::ExtendItems => Ok(listed(&MANY)),
         _ => Ok(List::of::<u16, Msb0>(&others()).cut(5, 13)),
     }
 }

@@ -8,6 +8,8 @@ mod compared;
 #[cfg(test)]
 mod edits;
 #[cfg(test)]
+mod heads;
+#[cfg(test)]
 mod memory;
 #[cfg(test)]
 mod plain;

@@ -78,6 +78,18 @@ impl List {
     }
 }
 
+/// These bits.
+pub fn listed(items: &[bool]) -> List {
+    let mut bits = [false; 160];
+    for k in 0..160usize {
+        bits[k] = k < items.len() && items[k];
+    }
+    List {
+        bits,
+        len: items.len(),
+    }
+}
+
 /// One bit, so often.
 pub fn repeated(bit: bool, len: usize) -> List {
     let mut bits = [false; 160];
@@ -104,6 +116,14 @@ pub enum Edit {
     ExtendSlice,
     ExtendWords,
     ExtendWithin(usize, usize),
+    ExtendItems,
+    ExtendElements,
+    ResizeWith(usize),
+    Drain(usize, usize),
+    Splice(usize, usize),
+    SpliceFew(usize, usize),
+    Leave(usize, usize),
+    Move(usize, usize, usize),
     Reserve(usize),
     ReserveExact(usize),
     Shrink,
@@ -111,8 +131,15 @@ pub enum Edit {
     Beside(bool),
 }
 
+/// More bits than an edit takes out, and fewer.
+pub const MANY: [bool; 11] = [
+    true, false, true, true, false, false, true, false, true, true, true,
+];
+
+pub const FEW: [bool; 2] = [false, true];
+
 /// Each edit, at several indices.
-pub const EDITS: [Edit; 40] = [
+pub const EDITS: [Edit; 63] = [
     Edit::Push(true),
     Edit::Push(false),
     Edit::Insert(0, true),
@@ -148,6 +175,29 @@ pub const EDITS: [Edit; 40] = [
     Edit::ExtendWithin(0, 5),
     Edit::ExtendWithin(2, 5),
     Edit::ExtendWithin(3, 13),
+    Edit::ExtendItems,
+    Edit::ExtendElements,
+    Edit::ResizeWith(2),
+    Edit::ResizeWith(30),
+    Edit::Drain(0, 0),
+    Edit::Drain(0, 1),
+    Edit::Drain(1, 4),
+    Edit::Drain(2, 13),
+    Edit::Drain(5, 12),
+    Edit::Splice(0, 0),
+    Edit::Splice(0, 1),
+    Edit::Splice(1, 5),
+    Edit::Splice(3, 13),
+    Edit::Splice(13, 13),
+    Edit::SpliceFew(0, 0),
+    Edit::SpliceFew(1, 5),
+    Edit::SpliceFew(2, 12),
+    Edit::Leave(0, 5),
+    Edit::Leave(4, 5),
+    Edit::Leave(3, 13),
+    Edit::Move(0, 0, 5),
+    Edit::Move(0, 3, 10),
+    Edit::Move(5, 1, 8),
     Edit::Reserve(40),
     Edit::ReserveExact(3),
     Edit::Shrink,
@@ -160,7 +210,12 @@ pub fn fits(edit: Edit, len: usize) -> bool {
     match edit {
         Edit::Insert(index, _) | Edit::SplitOff(index) => index <= len,
         Edit::Remove(index) | Edit::SwapRemove(index) => index < len,
-        Edit::ExtendWithin(from, upto) => from <= upto && upto <= len,
+        Edit::ExtendWithin(from, upto)
+        | Edit::Drain(from, upto)
+        | Edit::Splice(from, upto)
+        | Edit::SpliceFew(from, upto)
+        | Edit::Leave(from, upto) => from <= upto && upto <= len,
+        Edit::Move(from, to, count) => from.max(to).wrapping_add(count) <= len,
         _ => true,
     }
 }
@@ -170,6 +225,33 @@ fn joined(list: &List, others: &List) -> List {
     let mut all = *list;
     all.len = list.len.wrapping_add(others.len);
     all.with(list.len, others)
+}
+
+// The list with others in the place of the bits from `from` up to `upto`.
+fn replaced(list: &List, from: usize, upto: usize, others: &List) -> List {
+    let front = joined(&list.cut(0, from), others);
+    joined(&front, &list.cut(upto, list.len.wrapping_sub(upto)))
+}
+
+// The list after an edit that fits of a part of it, or of its length.
+fn edited_inside(edit: Edit, list: &List) -> List {
+    match edit {
+        Edit::ResizeWith(wanted) if wanted <= list.len => list.cut(0, wanted),
+        Edit::ResizeWith(wanted) => {
+            let mut all = joined(list, &repeated(false, wanted - list.len));
+            for k in list.len..160usize {
+                all.bits[k] = k < wanted && k % 3 == 0;
+            }
+            all
+        }
+        Edit::Drain(from, upto) | Edit::Leave(from, upto) => {
+            replaced(list, from, upto, &repeated(false, 0))
+        }
+        Edit::Splice(from, upto) => replaced(list, from, upto, &listed(&MANY)),
+        Edit::SpliceFew(from, upto) => replaced(list, from, upto, &listed(&FEW)),
+        Edit::Move(from, to, count) => list.with(to, &list.cut(from, count)),
+        _ => *list,
+    }
 }
 
 /// The list after an edit that fits. `others` are the bits that are appended.
@@ -195,9 +277,14 @@ pub fn edited(edit: Edit, list: &List, others: &List) -> List {
         Edit::Resize(wanted, _) if wanted <= len => list.cut(0, wanted),
         Edit::Resize(wanted, bit) => joined(list, &repeated(bit, wanted - len)),
         Edit::SplitOff(index) => list.cut(0, index),
-        Edit::Append | Edit::Extend | Edit::ExtendSlice | Edit::ExtendWords => joined(list, others),
+        Edit::Append
+        | Edit::Extend
+        | Edit::ExtendSlice
+        | Edit::ExtendWords
+        | Edit::ExtendItems
+        | Edit::ExtendElements => joined(list, others),
         Edit::ExtendWithin(from, upto) => joined(list, &list.cut(from, upto.wrapping_sub(from))),
-        _ => *list,
+        _ => edited_inside(edit, list),
     }
 }
 

@@ -1,8 +1,8 @@
 //! Bits that are taken out of a vector, others in their place, and what iterators, closures and words give.
 
 use crate::rows::{has, vector};
-use bit_addressing::{BitOrder, Lsb0, Msb0};
-use bit_containers_vector::BitVec;
+use bit_addressing::{BitOrder, BitSpanError, Lsb0, Msb0};
+use bit_containers_vector::{BitVec, SliceFault};
 use bit_slice_stores::BitStore;
 use bit_slice_views::{BitSlice, Bits};
 use bit_slice_writes::BitsMut;
@@ -146,6 +146,12 @@ fn words_of_conversions(rt: HostRuntime) -> Result<(), Fail> {
     let words = [0x1234u16, 0x5678];
     let tried = BitVec::<u16, Msb0>::try_from_slice(alloc, &words);
     assert!(rt; tried.map_or(false, |bits| bits.into_vec().as_slice() == words.as_slice()));
+    let too_long = SliceFault::Span(BitSpanError::TooLong(7));
+    let told = format!(in alloc; "{too_long}")?;
+    assert!(rt; told.as_str() == "span of 7 bits is too long");
+    let want = SliceFault::Memory;
+    let told = format!(in alloc; "{want}")?;
+    assert!(rt; told.as_str() == "no memory");
     let tried = BitVec::<u16, Lsb0>::try_from(Vec::from_slice(alloc, &words)?);
     assert!(rt; tried.map_or(false, |bits| Vec::from(bits).as_slice() == words.as_slice()));
     let bits = BitVec::<u8, Msb0>::from_place(Vec::from_slice(alloc, &[0b1011_0101, 0xff])?, 2, 4);

@@ -86,8 +86,8 @@ impl Start {
     }
 }
 
-// The bits of a window of mixed words.
-fn window<T: BitStore, O: BitOrder<T>>(
+/// The bits of a window of mixed words.
+pub fn window<T: BitStore, O: BitOrder<T>>(
     alloc: Global,
     head: usize,
     len: usize,

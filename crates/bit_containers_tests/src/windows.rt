@@ -11,7 +11,7 @@ use bit_slice_views::{BitSlice, Bits};
 use bit_slice_writes::BitsMut;
 use std::alloc::{AllocError, Global};
 
-// Twelve bits, 0, 1 by turns, from the head 3 on, which are the digits of 0xaaa.
+// Twelve bits, 0, 1 by turns, which are the digits of 0xaaa.
 fn turns<T: BitStore, O: BitOrder<T>>(alloc: Global) -> Result<BitVec<T, O>, AllocError> {
     let mut bits = BitVec::<T, O>::new(alloc);
     bits.resize(12, false)?;

@@ -19,7 +19,15 @@ fn whole<T: BitStore>(bits: usize) -> usize {
 fn words_after<T: BitStore>(edit: Edit, head: usize, words: &List, list: &List) -> Option<List> {
     let size = whole::<T>(head.wrapping_add(list.len));
     match edit {
-        Edit::Insert(_, _) | Edit::Remove(_) | Edit::SwapRemove(_) | Edit::Align => None,
+        Edit::Insert(_, _)
+        | Edit::Remove(_)
+        | Edit::SwapRemove(_)
+        | Edit::ResizeWith(_)
+        | Edit::Drain(_, _)
+        | Edit::Splice(_, _)
+        | Edit::SpliceFew(_, _)
+        | Edit::Leave(_, _)
+        | Edit::Align => None,
         Edit::Beside(bit) => Some(repeated(bit, size).with(head, list)),
         _ => Some(words.cut(0, size).with(head, list)),
     }

@@ -11,3 +11,5 @@ pub mod EditLemmas
 pub mod DrainLemmas
 pub mod ElementLemmas
 pub mod AnswerLemmas
+pub mod ExtendLemmas
+pub mod CallerLemmas

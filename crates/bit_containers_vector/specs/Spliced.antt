@@ -1,7 +1,8 @@
 -- Bits of a vector that others take the place of, as contracts see them.
 --
 -- What a `Splice` has: `splice_vector` (the vector as it is now), `splice_loan`, `splice_place`, `splice_items`, and the
--- bits that are gone and still to come, `gone_bits`. How it goes on: `CanStep`, `Steps`, `StepsBack`.
+-- bits that are gone and still to come, `gone_bits`, `splice_left` of them. How it goes on: `CanStep`, `Steps`,
+-- `StepsBack`.
 use Rattle.std.specs.Prelude.{ℕ, ◌≡◌, ◌-◌, ◌*◌, ◌≤◌, ◌++◌, ◌∷◌, [], Bool, List, length, Option, MatchOption}
 use Rattle.bit_addressing.specs.Memory.{Reading, memory, piece}
 use Rattle.bit_containers_vector.specs.Vector.{vec_words}
@@ -21,6 +22,10 @@ module _ {T O I : Type 0} {g : _} where
 
   abbrev pub splice_items : Splice T O I g → I
   splice_items splice = splice.items
+
+  -- how many bits are still to come: as many as `gone_bits` has, where these lie in the vector's words
+  abbrev pub splice_left : Splice T O I g → ℕ
+  splice_left splice = splice.back - splice.front
 
   module _ (reading : Reading T) where
     abbrev pub gone_bits : Splice T O I g → List Bool

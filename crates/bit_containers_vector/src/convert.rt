@@ -53,8 +53,9 @@ impl<T: BitStore, O: BitOrder<T>> TryFrom<Vec<T>> for BitVec<T, O> {
     type Error = Vec<T>;
 
     ghost try_from_gives = { λ words made. (IsOk made ↔ (length words.items * T.BITS ≤ MAX_BITS))
-        × IfOk made (λ vector. vec_bits (read_by T.BitRegister O.position) vector
+        × IfOk made (λ vector. (vec_bits (read_by T.BitRegister O.position) vector
         ≡ memory (read_by T.BitRegister O.position) words.items)
+        × (vec_head vector ≡ 0) × (vec_words vector ≡ words.items))
         × IfErr made (λ back. back ≡ words) };
 
     fn try_from(words: Vec<T>) -> Result<BitVec<T, O>, Vec<T>> {

@@ -5,6 +5,7 @@ ghost use Rattle.std.specs.Iterator.{Drains, Yields, IsFinite, size};
 ghost use Rattle.bit_addressing.specs.Memory.{memory, read_by};
 ghost use Rattle.bit_addressing_span.specs.declared.span.TheConstants.{MAX_BITS};
 ghost use Rattle.bit_containers_vector.specs.Answers.{Answers};
+ghost use Rattle.bit_containers_vector.specs.Grown.{Extends};
 ghost use Rattle.bit_containers_vector.specs.Vector.{vec_bits, vec_head, room, HasRoomFor, IsAsBefore};
 
 use crate::vector::BitVec;
@@ -16,7 +17,7 @@ use std::alloc::{AllocError, Global};
 impl<T: BitStore, O: BitOrder<T>> BitVec<T, O> {
     // ---- bits of an iterator
 
-    /// Adds the bits that an iterator gives at the end.
+    /// Adds the bits that an iterator gives at the end. A word that comes to sight is zero beside them.
     ///
     /// At a refusal the list has the first of them behind its own.
     pub fn extend<I: Iterator<Item = bool>>(&mut self, items: I) -> Result<(), AllocError>
@@ -31,6 +32,7 @@ impl<T: BitStore, O: BitOrder<T>> BitVec<T, O> {
             × (vec_bits (read_by T.BitRegister O.position) self.new
             ≡ vec_bits (read_by T.BitRegister O.position) self.old ++ xs)) }
         ensures head { vec_head self.new ≡ vec_head self.old }
+        ensures words { (xs : List Bool) × Extends (read_by T.BitRegister O.position) self.old self.new xs }
         ensures room { room (read_by T.BitRegister O.position) self.old
             ≤ room (read_by T.BitRegister O.position) self.new }
     {
@@ -59,7 +61,7 @@ impl<T: BitStore, O: BitOrder<T>> BitVec<T, O> {
 
     // ---- words of an iterator
 
-    /// Adds all bits of the words that an iterator gives at the end.
+    /// Adds all bits of the words that an iterator gives at the end. A word that comes to sight is zero beside them.
     ///
     /// At a refusal the list has those of the first words behind its own.
     pub fn extend_elements<I: Iterator<Item = T>>(&mut self, items: I) -> Result<(), AllocError>
@@ -74,6 +76,7 @@ impl<T: BitStore, O: BitOrder<T>> BitVec<T, O> {
             × (vec_bits (read_by T.BitRegister O.position) self.new
             ≡ vec_bits (read_by T.BitRegister O.position) self.old ++ memory (read_by T.BitRegister O.position) xs)) }
         ensures head { vec_head self.new ≡ vec_head self.old }
+        ensures words { (xs : List Bool) × Extends (read_by T.BitRegister O.position) self.old self.new xs }
         ensures room { room (read_by T.BitRegister O.position) self.old
             ≤ room (read_by T.BitRegister O.position) self.new }
     {

@@ -1,12 +1,13 @@
 //! Bits of a vector that others take the place of.
 
-ghost use Rattle.std.specs.Prelude.{◌≡◌, ℕ, ◌+◌, ◌-◌, ◌*◌, ◌<◌, ◌≤◌, ◌++◌, List, Bool, length, take, drop, OnErr, OnOk};
-ghost use Rattle.std.specs.Iterator.{Drains, Yields, IsFinite, at_most, size};
+ghost use Rattle.std.specs.Prelude.{◌≡◌, ℕ, ◌+◌, ◌-◌, ◌*◌, ◌<◌, ◌≤◌, ◌++◌, List, Bool, length, take, drop, IfSome, Some, OnErr, OnOk};
+ghost use Rattle.std.specs.Iterator.{Drains, Yields, IsFinite, UpTo, at_most, size};
+ghost use Rattle.std.specs.Iterator.SizeHint.{IsWithinCount};
 ghost use Rattle.bit_addressing.specs.Memory.{entry, piece, read_by};
 ghost use Rattle.bit_addressing_span.specs.declared.span.TheConstants.{MAX_BITS};
 ghost use Rattle.bit_containers_vector.specs.Drained.{IsCut};
 ghost use Rattle.bit_containers_vector.specs.Spliced.{gone_bits, CanStep, Steps, StepsBack};
-ghost use Rattle.bit_containers_vector.specs.Spliced.{splice_items, splice_place, splice_vector, splice_loan};
+ghost use Rattle.bit_containers_vector.specs.Spliced.{splice_items, splice_left, splice_place, splice_vector, splice_loan};
 ghost use Rattle.bit_containers_vector.specs.Vector.{vec_bits, vec_head, vec_words, room};
 
 use crate::vector::BitVec;
@@ -14,8 +15,10 @@ use bit_addressing::{BitOrder, BitRegister, read_entry};
 use bit_slice_stores::BitStore;
 use bit_slice_views::{BitRange, Bits};
 use std::alloc::AllocError;
+use std::iter::FusedIterator;
 
-/// The bits of a range that a vector no longer has: read from both ends, each once. `finish` puts others in their place.
+/// The bits of a range that a vector no longer has: read from both ends, each once, and then `None` for good. `finish`
+/// puts others in their place.
 ///
 /// The vector has the bits before the range and those behind it from the beginning, and keeps these where `finish` is not
 /// called.
@@ -74,7 +77,7 @@ impl<'a, T: BitStore + 'a, O: BitOrder<T>, I: Iterator<Item = bool>> Iterator
 
     ghost next_gives = { Steps (read_by T.BitRegister O.position) };
 
-    ghost remaining = { λ splice. at_most (splice.back - splice.front) };
+    ghost remaining = { λ splice. at_most (splice_left splice) };
 
     fn next(&mut self) -> Option<bool> {
         if self.front < self.back {
@@ -84,6 +87,18 @@ impl<'a, T: BitStore + 'a, O: BitOrder<T>, I: Iterator<Item = bool>> Iterator
         } else {
             None
         }
+    }
+
+    fn size_hint(&self) -> (usize, Option<usize>)
+        ensures lower { IsWithinCount result.0 (at_most (splice_left self.now)) }
+        ensures upper { IfSome result.1 (UpTo (at_most (splice_left self.now))) }
+        ensures exact { CanStep (read_by T.BitRegister O.position) self.now → result ≡ (
+          length (gone_bits (read_by T.BitRegister O.position) self.now),
+          Some (length (gone_bits (read_by T.BitRegister O.position) self.now)),
+        ) }
+    {
+        let left = self.len();
+        (left, Some(left))
     }
 }
 
@@ -105,10 +120,18 @@ impl<'a, T: BitStore + 'a, O: BitOrder<T>, I: Iterator<Item = bool>> DoubleEnded
 
 impl<'a, T: BitStore + 'a, O: BitOrder<T>, I: Iterator<Item = bool>> ExactSizeIterator
     for Splice<'a, T, O, I> {
-    fn len(&self) -> usize {
+    fn len(&self) -> usize
+        ensures finite { IsFinite (at_most (splice_left self.now)) }
+        ensures value { result ≡ splice_left self.now }
+        ensures exact { CanStep (read_by T.BitRegister O.position) self.now
+            → result ≡ length (gone_bits (read_by T.BitRegister O.position) self.now) }
+    {
         self.back.saturating_sub(self.front)
     }
 }
+
+impl<'a, T: BitStore + 'a, O: BitOrder<T>, I: Iterator<Item = bool>> FusedIterator
+    for Splice<'a, T, O, I> {}
 
 impl<T: BitStore, O: BitOrder<T>> BitVec<T, O> {
     /// Takes the bits of a range out, and answers them; `finish` of the answer puts the bits that an iterator gives in

@@ -41,3 +41,16 @@ pub use Rattle.bit_table_script.specs.declared.streams.Input
 pub use Rattle.bit_table_script.specs.declared.streams.Output
 pub use Rattle.bit_table_store.specs.View
 pub use Rattle.bit_table_store.specs.declared.table.Table
+pub use Rattle.bit_table_store.specs.Moved
+pub use Rattle.bit_table_digits.specs.Windows
+pub use Rattle.bit_table_moves.specs.RowMoves
+pub use Rattle.bit_table_moves.specs.RowsKept
+pub use Rattle.bit_table_choice.specs.Choices
+pub use Rattle.bit_table_choice.specs.Options
+-- of vectors, windows, word paths, memories and sweeps
+pub use Rattle.bit_containers_vector.specs.Vector
+pub use Rattle.bit_slice_views.specs.View as BitsView
+pub use Rattle.bit_slice_paths.specs.Steps
+pub use Rattle.bit_addressing.specs.Memory
+pub use Rattle.bit_addressing.specs.Sweep
+pub use Rattle.bit_addressing.specs.Ways as SweepWays

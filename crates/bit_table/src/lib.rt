@@ -4,6 +4,15 @@
 mod script_run;
 mod session;
 
+pub use bit_addressing::{
+    BitIdx, BitOrder, BitRegister, LocalBits, Lsb0, Msb0, OrderCandidate, Sweep, Way, way_for,
+};
+pub use bit_containers_vector::BitVec;
+pub use bit_slice_paths::{Steps, WordPaths, by_bits};
+pub use bit_slice_stores::{BitStore, BitViewSized};
+pub use bit_slice_views::{BitSlice, Bits};
+pub use bit_slice_writes::{BitSliceMut, BitsMut};
+pub use bit_table_choice::{Choice, Order, Word, choose};
 pub use bit_table_commands::{
     Command, ImageBytes, Items, Numbers, Reply, RowNumbers, Test, Values,
     cutting_off_changes_nothing,

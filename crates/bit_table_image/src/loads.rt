@@ -4,6 +4,7 @@ ghost use Rattle.std.specs.Prelude.{◌≡◌, ◌↔◌, ◌⊎◌, ◌*◌, �
 ghost use Rattle.std.specs.Prelude.{IsErrOf};
 ghost use Rattle.bit_addressing.specs.Memory.{read_by};
 ghost use Rattle.bit_containers_vector.specs.Vector.{vec_bits, vec_head};
+ghost use Rattle.bit_table_layout.specs.Images.{HasOnlyNumbers};
 ghost use Rattle.bit_table_layout.specs.Layouts.{row_width};
 ghost use Rattle.bit_table_layout.specs.Loads.{bits_of_bytes, is_image, rows_in_bytes};
 ghost use Rattle.bit_table_layout.specs.Rows.{field_bits, table_bits};
@@ -34,6 +35,10 @@ pub fn read<T: BitStore, O: BitOrder<T>>(
     ensures bits { IfOk result (λ bits. vec_bits (read_by T.BitRegister O.position) bits
         ≡ take (rows * row_width layout.now.fields) (bits_of_bytes layout.now.rule bytes.now)) }
     ensures head { IfOk result (λ bits. vec_head bits ≡ 0) }
+
+    // The rows with these bytes have no other numbers.
+    ensures only { IfOk result (λ _. HasOnlyNumbers layout.now rows bytes.now
+        (rows_in_bytes layout.now rows bytes.now)) }
     ensures taken { IfOk result (λ bits. (rows * row_width layout.now.fields ≤ MAX_BITS)
         × (is_image layout.now rows bytes.now ≡ true)) }
     ensures full { IsErrOf result (Fault.Refused Cause.Full) ↔ (MAX_BITS < rows * row_width layout.now.fields) }

@@ -1,28 +1,17 @@
 -- The lists of letters, by their bits.
-use Rattle.std.proofs.Common.{◌≡◌, ◌≢◌, ℕ, ◌+◌, ◌*◌, ◌<◌, ◌≤◌, ◌⊎◌, inl, inr, ◌++◌, Bool, List, [], ◌∷◌, length, map}
-use Rattle.std.proofs.Common.{set as put, get_or, drop, refl, sym, ap, ◌∙◌, subst, arith}
+use Rattle.std.proofs.Common.{◌≡◌, ◌≢◌, ℕ, ◌+◌, ◌<◌, ◌≤◌, ◌⊎◌, inl, inr, ◌++◌, Bool, List, [], ◌∷◌, length, map}
+use Rattle.std.proofs.Common.{set as put, get_or, refl, sym, ap, ◌∙◌, subst, arith}
 use Rattle.std.proofs.lemmas.Bool.{cases_eq}
-use Rattle.std.proofs.Math.Nat.{mul-le-mul_right}
-use Rattle.std.proofs.lemmas.List.{get_or-map, get_or-set_same, get_or-set_other, length-map, length-set, length-take}
+use Rattle.std.proofs.lemmas.List.{get_or-map, get_or-set_same, get_or-set_other, length-map, length-set}
 use Rattle.std.proofs.lemmas.List.{map-set, same_lists}
-use Rattle.bit_addressing.specs.declared.BitRegister.{Ghosts}
-use Rattle.bit_addressing.specs.Memory.{Reading, memory, piece, read_by}
+use Rattle.bit_addressing.specs.Memory.{Reading}
 use Rattle.bit_addressing_span.specs.declared.span.TheConstants.{MAX_BITS}
-use Rattle.bit_containers_vector.specs.Vector.{vec_bits, HasRoomFor}
+use Rattle.bit_containers_vector.specs.Vector.{vec_bits}
 use Rattle.bit_containers_vector.specs.declared.vector.BitVec.{BitVec}
 use Rattle.bit_table_letters.specs.Lists.{HasBits, IsColumn, AreColumns}
 use Rattle.bit_table_letter.specs.Marks.{letter_count}
 use Rattle.bit_table_letters.specs.Marks.{list_of}
 use Rattle.bit_table_letters.specs.Walk.{Becomes, ChangesAt, EachHas}
-
--- a list has room for its own bits
-pub room_holds : {T O : Type 0} {g : Ghosts T} (position : ℕ → ℕ) (v : BitVec T O g)
-    → HasRoomFor (read_by g position) v 0
-unfolding piece
-room_holds {g} position v =
-    let words : length v.words.items * g.BITS ≤ v.words.cap * g.BITS =
-    mul-le-mul_right g.BITS (omega (arith, v.words.ok.0, v.words.ok.1)) in
-    omega (arith, words, v.fits, length-take v.len (drop v.head (memory (read_by g position) v.words.items)))
 
 -- no bit at all
 pub none_of : (xs : List Bool) → length xs ≡ 0 → xs ≡ []

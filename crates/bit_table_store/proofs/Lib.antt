@@ -2,3 +2,4 @@ pub mod LetteredLemmas
 pub mod MarkedLemmas
 pub mod NumberLemmas
 pub mod TableLemmas
+pub mod MovedLemmas

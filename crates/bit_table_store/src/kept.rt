@@ -3,7 +3,7 @@
 ghost use Rattle.std.specs.Prelude.{◌≡◌, ◌≤◌, length, IfOk};
 ghost use Rattle.bit_addressing.specs.Memory.{read_by};
 ghost use Rattle.bit_addressing_span.specs.declared.span.TheConstants.{MAX_BITS};
-ghost use Rattle.bit_containers_vector.specs.Vector.{vec_bits};
+ghost use Rattle.bit_containers_vector.specs.Vector.{vec_bits, vec_head};
 
 use bit_addressing::{BitOrder, BitRegister};
 use bit_containers_vector::BitVec;
@@ -23,9 +23,10 @@ pub(crate) struct Kept<A: BitViewSized, O: WordPaths<A::Store> + Digits<A::Store
 }
 
 impl<A: BitViewSized, O: WordPaths<A::Store> + Digits<A::Store>> Model for Kept<A, O> {
+    ghost use Rattle.std.specs.Prelude.{◌≡◌};
     ghost use Rattle.std.specs.Coded.{codes};
     ghost use Rattle.bit_addressing.specs.Memory.{read_by};
-    ghost use Rattle.bit_containers_vector.specs.Vector.{vec_bits};
+    ghost use Rattle.bit_containers_vector.specs.Vector.{vec_bits, vec_head};
     ghost use Rattle.bit_table_letter.specs.Marks.{letters_code};
     ghost use Rattle.bit_table_store.specs.View.{StoredRows};
 
@@ -38,6 +39,8 @@ impl<A: BitViewSized, O: WordPaths<A::Store> + Digits<A::Store>> Model for Kept<
       bits = vec_bits (read_by A.Store.BitRegister O.position) k.bits;
       letters = k.letters;
     } };
+
+    ghost invariant = { λ k. vec_head k.bits ≡ 0 };
 }
 
 impl<A: BitViewSized, O: WordPaths<A::Store> + Digits<A::Store>> Kept<A, O> {
@@ -79,20 +82,22 @@ impl<A: BitViewSized, O: WordPaths<A::Store> + Digits<A::Store>> Kept<A, O> {
     pub(crate) fn into_parts(self) -> (usize, BitVec<A::Store, O>, Letters<A::Store, O>)
         ensures rows { result.0 ≡ self.rows }
         ensures bits { vec_bits (read_by A.Store.BitRegister O.position) result.1 ≡ self.bits }
+        ensures head { vec_head result.1 ≡ 0 }
         ensures letters { result.2 ≡ self.letters }
     {
         (self.rows, self.bits, self.letters)
     }
 }
 
-// The same bits in words of any width and order.
+// The same bits in words of any width and order, from the first bit of the first word on.
 pub(crate) fn copy_of<T: BitStore, O: BitOrder<T>, Q: BitStore, P: BitOrder<Q>>(
     alloc: Global,
     bits: &BitVec<Q, P>,
 ) -> Result<BitVec<T, O>, AllocError>
     requires { length (vec_bits (read_by Q.BitRegister P.position) bits.now) ≤ MAX_BITS }
-    ensures { IfOk result (λ copy. vec_bits (read_by T.BitRegister O.position) copy
+    ensures bits { IfOk result (λ copy. vec_bits (read_by T.BitRegister O.position) copy
         ≡ vec_bits (read_by Q.BitRegister P.position) bits.now) }
+    ensures head { IfOk result (λ copy. vec_head copy ≡ 0) }
 {
     let mut copy = BitVec::<T, O>::new(alloc);
     copy.extend_from_bitslice(bits)?;

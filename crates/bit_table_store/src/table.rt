@@ -1,6 +1,6 @@
 //! A table: rows of a layout, packed bit by bit in words of any width and order.
 
-ghost use Rattle.std.specs.Prelude.{◌≡◌, ◌≢◌, ◌*◌, ◌≤◌, ◌∷◌, Bool, false, true, length, map, replicate, take, None, Some};
+ghost use Rattle.std.specs.Prelude.{◌≡◌, ◌≢◌, ◌+◌, ◌-◌, ◌*◌, ◌≤◌, ◌∷◌, Bool, false, true, length, map, replicate, take, None, Some};
 ghost use Rattle.std.specs.Prelude.{is_some, IfOk, IsOk, OnOk, OnErr, IsOkUnless, IsTrue, MatchOption};
 ghost use Rattle.bit_addressing.specs.Memory.{read_by};
 ghost use Rattle.bit_containers_array.specs.Array.{array_bits};
@@ -15,6 +15,7 @@ ghost use Rattle.bit_table_commands.specs.Edits.{edit, reply_to};
 ghost use Rattle.bit_table_commands.specs.Marks.{row_bears};
 ghost use Rattle.bit_table_commands.specs.declared.reply.Reply.TheVariants.{Done};
 ghost use Rattle.bit_table_commands.specs.Tables.{new_table, IsTable};
+ghost use Rattle.bit_table_store.specs.Moved.{AreMoved, Moved};
 ghost use Rattle.bit_table_store.specs.View.{may_want_memory};
 
 use super::kept::{Kept, copy_of};
@@ -59,7 +60,7 @@ impl<A: BitViewSized, O: WordPaths<A::Store> + Digits<A::Store>> Model for Table
     ghost use Rattle.std.specs.Coded.{codes};
     ghost use Rattle.bit_addressing.specs.Memory.{read_by};
     ghost use Rattle.bit_addressing_span.specs.declared.span.TheConstants.{MAX_BITS};
-    ghost use Rattle.bit_containers_vector.specs.Vector.{vec_bits};
+    ghost use Rattle.bit_containers_vector.specs.Vector.{vec_bits, vec_head};
     ghost use Rattle.bit_table_layout.specs.Layouts.{is_layout, row_width};
     ghost use Rattle.bit_table_letter.specs.Marks.{letters_code};
     ghost use Rattle.bit_table_store.specs.View.{table_from, AreStored, StoredRows, TableView};
@@ -84,7 +85,8 @@ impl<A: BitViewSized, O: WordPaths<A::Store> + Digits<A::Store>> Model for Table
           letters = t.letters;
         })
         × IfSome t.kept (AreStored t.layout)
-        × (256 ≤ A.COUNT * A.Store.BITS) };
+        × (256 ≤ A.COUNT * A.Store.BITS)
+        × (vec_head t.bits ≡ 0) };
 }
 
 impl<A: BitViewSized, O: WordPaths<A::Store> + Digits<A::Store>> Table<A, O> {
@@ -141,7 +143,8 @@ impl<A: BitViewSized, O: WordPaths<A::Store> + Digits<A::Store>> Table<A, O> {
     }
 
     /// How many words the moves of the last edit that moved rows wrote: those of the rows' list first, then those of
-    /// the lists of the letters `a` to `z`. Insertions, deletions and `Drop` move rows so; all are 0 before the first.
+    /// the lists of the letters `a` to `z`. Insertions, deletions and `Drop` move rows so, and `apply` bounds the numbers;
+    /// all are 0 before the first.
     pub fn moved(&self) -> [usize; 27]
         ensures { result ≡ self.now.moved }
     {
@@ -208,12 +211,14 @@ impl<A: BitViewSized, O: WordPaths<A::Store> + Digits<A::Store>> Table<A, O> {
     // ---- letters
 
     /// Makes letter `x` of each row what an operation makes of it and letter `y`, which may be the same. Its word steps
-    /// are counted: for two letters of `n` rows, a step for each `O::SPAN` rows at most, and one for each 64 at least.
+    /// are counted: for two letters of `n` rows, a step for each `O::SPAN` rows at most, and one for each 64 at least; for a
+    /// letter and itself none.
     pub fn combine(&mut self, op: BoolOp, x: Letter, y: Letter, steps: &mut Steps)
         ensures shape { self.new.shape ≡ edit self.old.shape (Command.Combine op x y) }
         ensures moved { self.new.moved ≡ self.old.moved }
         ensures steps { x ≢ y → Takes steps.old steps.new (groups (length self.old.shape.rows) 64)
             (groups (length self.old.shape.rows) O.SPAN) }
+        ensures alone { x ≡ y → steps.new ≡ steps.old }
     {
         self.letters.combine(op, x.index(), y.index(), steps);
     }
@@ -237,6 +242,10 @@ impl<A: BitViewSized, O: WordPaths<A::Store> + Digits<A::Store>> Table<A, O> {
         ensures reply { IfOk result (λ reply. reply ≡ reply_to self.old.shape command.now) }
         ensures err { OnErr result (self.new ≡ self.old) }
 
+        // An insertion, a deletion or `Drop` writes at most the words that the rows which move touch at their new places,
+        // in the rows' list and in each letter's, and none in that of the letter that is dropped by.
+        ensures moved { OnOk result (Moved A.Store.BITS self.old command.now self.new) }
+
         // The rows with this image have the table's numbers.
         ensures image { HasOnlyNumbers self.old.shape.layout (length self.old.shape.rows)
             (image_bytes self.old.shape.layout self.old.shape.rows) self.old.shape.rows }
@@ -257,6 +266,7 @@ impl<A: BitViewSized, O: WordPaths<A::Store> + Digits<A::Store>> Table<A, O> {
         ensures ok { OnOk result (self.new.shape ≡ edit self.old.shape command.now) }
         ensures reply { IfOk result (λ reply. reply ≡ reply_to self.old.shape command.now) }
         ensures err { OnErr result (self.new ≡ self.old) }
+        ensures moved { OnOk result (Moved A.Store.BITS self.old command.now self.new) }
     {
         match command {
             Command::Insert { place, values } => self.insert(*place, values.as_slice()),
@@ -310,6 +320,8 @@ impl<A: BitViewSized, O: WordPaths<A::Store> + Digits<A::Store>> Table<A, O> {
         ensures ok { OnOk result (self.new.shape ≡ edit self.old.shape (Command.Insert place values.now)) }
         ensures reply { IfOk result (λ reply. reply ≡ Done) }
         ensures err { OnErr result (self.new ≡ self.old) }
+        ensures moved { OnOk result (AreMoved A.Store.BITS (row_width self.old.shape.layout.fields) (place + 1)
+            (length self.old.shape.rows - place) self.new.moved) }
     {
         let width = self.layout.row_bits();
         let row = row_of::<A, O>(&self.layout, values);
@@ -327,6 +339,8 @@ impl<A: BitViewSized, O: WordPaths<A::Store> + Digits<A::Store>> Table<A, O> {
         requires { IsAccepted self.old.shape (Command.Delete start upto) }
         ensures shape { self.new.shape ≡ edit self.old.shape (Command.Delete start upto) }
         ensures reply { result ≡ Done }
+        ensures moved { AreMoved A.Store.BITS (row_width self.old.shape.layout.fields) start
+            (length self.old.shape.rows - upto) self.new.moved }
     {
         let width = self.layout.row_bits();
         let (start, upto) = (start as usize, upto as usize);
@@ -341,6 +355,7 @@ impl<A: BitViewSized, O: WordPaths<A::Store> + Digits<A::Store>> Table<A, O> {
         requires { IsAccepted self.old.shape (Command.Set row (Some field) value) }
         ensures shape { self.new.shape ≡ edit self.old.shape (Command.Set row (Some field) value) }
         ensures reply { result ≡ Done }
+        ensures moved { self.new.moved ≡ self.old.moved }
     {
         let at = row as usize * self.layout.row_bits() + bits_before(&self.layout, field);
         let width = self.layout.fields()[field].width();
@@ -361,6 +376,7 @@ impl<A: BitViewSized, O: WordPaths<A::Store> + Digits<A::Store>> Table<A, O> {
         requires { IsAccepted self.old.shape (Command.Copy start upto place) }
         ensures shape { self.new.shape ≡ edit self.old.shape (Command.Copy start upto place) }
         ensures reply { result ≡ Done }
+        ensures moved { self.new.moved ≡ self.old.moved }
     {
         let width = self.layout.row_bits();
         let (start, upto, place) = (start as usize, upto as usize, place as usize);
@@ -375,6 +391,7 @@ impl<A: BitViewSized, O: WordPaths<A::Store> + Digits<A::Store>> Table<A, O> {
         requires { IsAccepted self.old.shape (Command.Swap row other) }
         ensures shape { self.new.shape ≡ edit self.old.shape (Command.Swap row other) }
         ensures reply { result ≡ Done }
+        ensures moved { self.new.moved ≡ self.old.moved }
     {
         let width = self.layout.row_bits();
         let (row, other) = (row as usize, other as usize);
@@ -387,6 +404,7 @@ impl<A: BitViewSized, O: WordPaths<A::Store> + Digits<A::Store>> Table<A, O> {
         requires { IsAccepted self.old.shape (Command.Rotate start upto amount) }
         ensures shape { self.new.shape ≡ edit self.old.shape (Command.Rotate start upto amount) }
         ensures reply { result ≡ Done }
+        ensures moved { self.new.moved ≡ self.old.moved }
     {
         let width = self.layout.row_bits();
         let (start, upto) = (start as usize, upto as usize);
@@ -407,6 +425,7 @@ impl<A: BitViewSized, O: WordPaths<A::Store> + Digits<A::Store>> Table<A, O> {
         ensures ok { OnOk result (self.new.shape ≡ edit self.old.shape (Command.Dup start upto)) }
         ensures reply { IfOk result (λ reply. reply ≡ Done) }
         ensures err { OnErr result (self.new ≡ self.old) }
+        ensures moved { OnOk result (self.new.moved ≡ self.old.moved) }
     {
         let width = self.layout.row_bits();
         let (start, upto) = (start as usize, upto as usize);
@@ -423,6 +442,7 @@ impl<A: BitViewSized, O: WordPaths<A::Store> + Digits<A::Store>> Table<A, O> {
         ensures ok { OnOk result (self.new.shape ≡ edit self.old.shape (Command.Load rows bytes.now)) }
         ensures reply { IfOk result (λ reply. reply ≡ Done) }
         ensures err { OnErr result (self.new ≡ self.old) }
+        ensures moved { OnOk result (self.new.moved ≡ self.old.moved) }
     {
         let bits = match read::<A::Store, O>(self.alloc, &self.layout, rows, bytes) {
             Ok(bits) => bits,
@@ -441,6 +461,7 @@ impl<A: BitViewSized, O: WordPaths<A::Store> + Digits<A::Store>> Table<A, O> {
         requires { IsAccepted self.old.shape (Command.Mark letter field test value) }
         ensures shape { self.new.shape ≡ edit self.old.shape (Command.Mark letter field test value) }
         ensures reply { result ≡ Done }
+        ensures moved { self.new.moved ≡ self.old.moved }
     {
         // A field that the layout lacks is a cause.
         let Some(field) = field else {
@@ -462,6 +483,7 @@ impl<A: BitViewSized, O: WordPaths<A::Store> + Digits<A::Store>> Table<A, O> {
     fn invert(&mut self, letter: Letter) -> Reply
         ensures shape { self.new.shape ≡ edit self.old.shape (Command.Not letter) }
         ensures reply { result ≡ Done }
+        ensures moved { self.new.moved ≡ self.old.moved }
     {
         self.letters.invert(letter.index());
         Reply::Done
@@ -483,6 +505,7 @@ impl<A: BitViewSized, O: WordPaths<A::Store> + Digits<A::Store>> Table<A, O> {
     fn drop_marked(&mut self, letter: Letter) -> Reply
         ensures shape { self.new.shape ≡ edit self.old.shape (Command.Drop letter) }
         ensures reply { result ≡ Done }
+        ensures moved { Moved A.Store.BITS self.old (Command.Drop letter) self.new }
     {
         let width = self.layout.row_bits();
         let letter = letter.index();

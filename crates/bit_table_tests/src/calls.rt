@@ -8,7 +8,7 @@ use bit_slice_stores::BitViewSized;
 use bit_slice_views::Bits;
 use bit_table::{
     Cause, Command, Digits, Fault, HiLo, Input, Layout, Output, Reply, Rule, Table, Values,
-    cutting_off_changes_nothing, image, run,
+    cutting_off_changes_nothing, image, loads_take_images, run,
 };
 use bit_table_samples::answer_whole;
 use std::alloc::{AllocError, Global};
@@ -195,5 +195,6 @@ fn a_script_is_answered_whole(rt: HostRuntime) -> Result<(), Fail> {
 #[test]
 fn laws_return() {
     image::images_tell_numbers();
+    loads_take_images();
     cutting_off_changes_nothing();
 }

@@ -3,6 +3,7 @@ use Rattle.std.proofs.Math.Nat.{div-lt_iff_lt-mul}
 use Rattle.bit_table_layout.specs.declared.layout.TheConstants.{MAX_BITS}
 use Rattle.bit_table_layout.specs.Loads.{bits_of_bytes, is_image}
 use Rattle.bit_table_layout.proofs.CallerLemmas.{row_width-bounds, length-is_image, table_bits-rows_in_bytes}
+use Rattle.bit_table_image.proofs.LoadedLemmas.{only_loaded}
 use Rattle.bit_table_image.proofs.loads.read.Goals as goal
 
 -- more rows than so many bits have, by the width: more bits
@@ -40,3 +41,9 @@ returns-in-Ok-clause-rows g c =
     let image : is_image l c.args.rows c.args.bytes.now ≡ true = sym c.is_image.ensures ∙ c.if-not-is_image.false in
     c.in-Ok.ensures.bits ∙ ap₂ (λ n rule. take n (bits_of_bytes rule c.args.bytes.now)) bits c.rule.ensures
     ∙ sym (table_bits-rows_in_bytes l c.args.rows c.args.bytes.now c.row_bits-width.ensures.lawful image)
+
+pub returns-in-Ok-clause-only : goal.returns-in-Ok-clause-only
+returns-in-Ok-clause-only g c =
+    let l = c.args.layout.now in
+    let image : is_image l c.args.rows c.args.bytes.now ≡ true = sym c.is_image.ensures ∙ c.if-not-is_image.false in
+    only_loaded l c.args.rows c.args.bytes.now c.row_bits-width.ensures.lawful image

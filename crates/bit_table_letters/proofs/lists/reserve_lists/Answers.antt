@@ -2,9 +2,9 @@ use Rattle.std.proofs.Common.{◌≡◌, ◌<◌, length, get_or, ◌∙◌, sub
 use Rattle.std.proofs.lemmas.Bool.{false≢true}
 use Rattle.std.proofs.lemmas.List.{get_or_default}
 use Rattle.bit_addressing.specs.Memory.{read_by}
+use Rattle.bit_containers_vector.proofs.CallerLemmas.{room_holds}
 use Rattle.bit_containers_vector.specs.Vector.{HasRoomFor}
 use Rattle.bit_table_letters.specs.Lists.{HasBits}
-use Rattle.bit_table_letters.proofs.ColumnLemmas.{room_holds}
 use Rattle.bit_table_letters.proofs.WalkLemmas.{holds_goes_on, walk_goes_on}
 use Rattle.bit_table_letters.proofs.lists.reserve_lists.Goals as goal
 

@@ -1,6 +1,7 @@
 use Rattle.std.proofs.Common.{◌≡◌, ◌≤◌, ◌+◌, ◌++◌, length}
 use Rattle.bit_addressing.specs.Memory.{read_by}
 use Rattle.bit_addressing_span.specs.declared.span.TheConstants.{MAX_BITS}
+use Rattle.bit_containers_vector.specs.Grown.{Extends}
 use Rattle.bit_containers_vector.specs.Vector.{vec_bits, vec_head, room}
 use Rattle.bit_containers_vector.proofs.vector.BitVec.extend.Given as goal
 
@@ -13,5 +14,6 @@ invariant-loop-item g l =
       bits : list l.self ≡ list l.initial.self ++ l.yielded;
       most : length (list l.self) + (goal.iterator-loop-item g).remaining l.item-iterator ≤ MAX_BITS;
       head : vec_head l.self ≡ vec_head l.initial.self;
+      words : Extends reading l.initial.self l.self l.yielded;
       room : room reading l.initial.self ≤ room reading l.self;
     }

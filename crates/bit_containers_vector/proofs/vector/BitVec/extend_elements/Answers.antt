@@ -1,9 +1,10 @@
-use Rattle.std.proofs.Common.{◌+◌, ◌≤◌, arith, rules, refl, ◌∙◌}
+use Rattle.std.proofs.Common.{◌+◌, ◌<◌, ◌≤◌, ◌++◌, [], arith, rules, refl, ◌∙◌}
 use Rattle.std.specs.Iterator.{size}
-use Rattle.bit_addressing.specs.Memory.{read_by}
+use Rattle.bit_addressing.specs.Memory.{memory, read_by}
 use Rattle.bit_addressing_span.specs.declared.span.TheConstants.{MAX_BITS}
 use Rattle.bit_containers_vector.specs.Vector.{vec_bits}
 use Rattle.bit_containers_vector.proofs.ElementLemmas.{no_words, one_word, one_less}
+use Rattle.bit_containers_vector.proofs.ExtendLemmas.{extends_none, extends_more}
 use Rattle.bit_containers_vector.proofs.vector.BitVec.extend_elements.Goals as goal
 
 pub loop-word-init : goal.loop-word-init
@@ -16,6 +17,7 @@ loop-word-init g c =
       bits = no_words reading (vec_bits reading c.args.self.now);
       most = search (rules, same, c.requires.most);
       head = refl;
+      words = ([], extends_none reading c.args.self.now);
       room = omega arith;
     }
 
@@ -39,5 +41,11 @@ loop-word-preserved g c =
           c.from_ref.result.now c.in-Some.word (size (g.I.Iterator.remaining c.loop-word.word-iterator))
           (size (g.I.Iterator.remaining c.next.new.self)) MAX_BITS grown.bits c.from_ref.ensures.value less was.most;
       head = grown.head ∙ was.head;
+      words =
+          let some : 0 < g.T.BitRegister.BITS = omega (arith, g.met.T.BitRegister.least_bits) in (
+            was.words.0 ++ memory reading c.from_ref.result.now,
+            extends_more reading c.args.self.now c.loop-word.self c.extend_from_raw_slice.new.self was.words.0 _ some
+                c.args.self.now.fits c.loop-word.self.fits c.extend_from_raw_slice.new.self.fits was.words.1 grown,
+          );
       room = omega (arith, was.room, c.extend_from_raw_slice.ensures.room);
     }

@@ -1,6 +1,7 @@
-use Rattle.std.proofs.Common.{◌≡◌, ◌≤◌, ◌+◌, ◌*◌, ◌++◌, length}
+use Rattle.std.proofs.Common.{◌≡◌, ◌≤◌, ◌+◌, ◌*◌, ◌++◌, Bool, List, length}
 use Rattle.bit_addressing.specs.Memory.{memory, read_by}
 use Rattle.bit_addressing_span.specs.declared.span.TheConstants.{MAX_BITS}
+use Rattle.bit_containers_vector.specs.Grown.{Extends}
 use Rattle.bit_containers_vector.specs.Vector.{vec_bits, vec_head, room}
 use Rattle.bit_containers_vector.proofs.vector.BitVec.extend_elements.Given as goal
 
@@ -13,5 +14,6 @@ invariant-loop-word g l =
       bits : list l.self ≡ list l.initial.self ++ memory reading l.yielded;
       most : length (list l.self) + (goal.iterator-loop-word g).remaining l.word-iterator * g.T.BitRegister.BITS ≤ MAX_BITS;
       head : vec_head l.self ≡ vec_head l.initial.self;
+      words : (xs : List Bool) × Extends reading l.initial.self l.self xs;
       room : room reading l.initial.self ≤ room reading l.self;
     }

@@ -21,3 +21,6 @@ returns-clause-steps g c =
     let steps = rw (c.index.ensures.index, c.index-2.ensures.index, h.1.marked) at c.combine.ensures.steps in
     let count = count_is _ t.layout _ _ _ c.self.view_is h.0 h.1 h.2 in
     λ differ. rw (sym count) (steps differ)
+
+pub returns-clause-alone : goal.returns-clause-alone
+returns-clause-alone g c = rw (c.index.ensures.index, c.index-2.ensures.index) at c.combine.ensures.alone

@@ -6,6 +6,7 @@ use Rattle.bit_table_letters.specs.declared.edit.RowEdit.TheVariants as edits
 use Rattle.bit_table_row_lists.proofs.CallerLemmas.{rows_after_delete}
 use Rattle.bit_table_layout.specs.Layouts.{row_width}
 use Rattle.bit_table_layout.specs.declared.layout.TheConstants.{MAX_BITS}
+use Rattle.bit_table_store.proofs.MovedLemmas.{are_moved}
 use Rattle.bit_table_store.proofs.TableLemmas.{few_marks, in_range, less_room, lies_in, marked_after, rows_edited, shape_after}
 use Rattle.bit_table_store.proofs.table.Table.delete.Goals as goal
 
@@ -45,6 +46,7 @@ invariant_of-self g c =
       },
       h.2,
       h.3,
+      c.delete_rows-rows.ensures.head ∙ h.4,
     )
 
 pub returns-clause-shape : goal.returns-clause-shape
@@ -58,3 +60,12 @@ returns-clause-shape g c =
     (rows_edited _ t.layout _ _ _ c.self.view_is h.0 h.1 h.2 (edits.Delete c.args.start c.args.upto) (new_row []) _ r
     (ap (rows_from t.layout (t.rows - (c.args.upto - c.args.start))) bits
     ∙ rows_after_delete t.layout t.rows _ h.1.fits c.args.start c.args.upto r.0 r.1) letters) refl
+
+pub returns-clause-moved : goal.returns-clause-moved
+returns-clause-moved g c =
+    let t = c.self.inside in
+    let h = c.self.invariant in
+    let few = rw c.row_bits-width.ensures.bits at c.delete_rows-rows.ensures.writes in
+    let letters = rw c.unwrap-letters.ensures at c.edit.ensures.writes in
+    are_moved _ t.layout _ _ _ c.self.view_is h.0 h.1 h.2 _ c.args.start c.args.upto _ _ _ _ c.all_writes-self-inside.ensures h.4 few
+    letters

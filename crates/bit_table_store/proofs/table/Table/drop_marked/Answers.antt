@@ -3,9 +3,13 @@ use Rattle.std.proofs.Math.Nat.{mul-le-mul_right}
 use Rattle.std.proofs.lemmas.List.{length-map}
 use Rattle.std.proofs.lemmas.List.Sums.{count_by-le-length}
 use Rattle.bit_table_layout.specs.Layouts.{row_width}
+use Rattle.bit_table_layout.specs.Readings.{rows_from}
+use Rattle.bit_table_layout.proofs.RowLemmas.{length-rows_from}
 use Rattle.bit_table_letter.specs.Marks.{bears}
 use Rattle.bit_table_commands.specs.declared.command.Command.TheVariants.{Drop}
+use Rattle.bit_table_store.proofs.LetteredLemmas.{length-lettered}
 use Rattle.bit_table_store.proofs.MarkedLemmas.{count-staying}
+use Rattle.bit_table_store.proofs.MovedLemmas.{are_together}
 use Rattle.bit_table_store.proofs.TableLemmas.{rows_staying, shape_after}
 use Rattle.bit_table_store.proofs.table.Table.drop_marked.Goals as goal
 
@@ -30,6 +34,7 @@ invariant_of-self g c =
       },
       h.2,
       h.3,
+      c.keep_rows_of-left.ensures.head ∙ h.4,
     )
 
 pub returns-clause-shape : goal.returns-clause-shape
@@ -43,3 +48,18 @@ returns-clause-shape g c =
     let letters = rw same at c.drop_rows-letters.ensures.rows in
     shape_after _ t.layout _ _ _ c.self.view_is h.0 h.1 h.2 (Drop x) _ _
     (rows_staying t.layout _ h.1 x _ count bits letters) refl
+
+pub returns-clause-moved : goal.returns-clause-moved
+returns-clause-moved g c =
+    let t = c.self.inside in
+    let h = c.self.invariant in
+    let off = map (bears c.index-letter.result) t.letters in
+    let left = c.keep_rows_of-left.result.0 in
+    let count : left ≡ count_by not off =
+    c.keep_rows_of-left.ensures.count ∙ ap (count_by not) c.list-marked.ensures in
+    let all = length-lettered (rows_from t.layout left _) _ ∙ length-rows_from t.layout left _ in
+    let marks = ap length c.drop_rows-letters.ensures.rows ∙ count-staying c.index-letter.result t.letters ∙ sym count in
+    let few = rw c.row_bits-width.ensures.bits at c.keep_rows_of-left.ensures.writes in
+    let own = rw c.index-letter.ensures.index at c.drop_rows-letters.ensures.own in
+    are_together _ t.layout _ _ _ c.self.view_is h.0 h.1 h.2 _ _ _ left _ _ c.args.letter _ _
+    c.all_writes-self-inside.ensures h.4 (sym all) (marks ∙ sym all) few c.drop_rows-letters.ensures.writes own

@@ -79,6 +79,7 @@ invariant_of-self-2 g c =
       record { fits = rw c.row_bits-width.ensures.bits at made; room = all; marked = omega (arith, count) },
       h.2,
       h.3,
+      c.dup_rows.ensures.head ∙ c.reserve.ensures.same.head ∙ h.4,
     )
 
 pub returns-clause-ok : goal.returns-clause-ok

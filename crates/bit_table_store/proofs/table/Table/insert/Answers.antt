@@ -11,6 +11,7 @@ use Rattle.bit_table_letters.specs.declared.edit.RowEdit.TheVariants as edits
 use Rattle.bit_table_rows.specs.RowEdits.{inserted}
 use Rattle.bit_table_rows.proofs.PlaceLemmas.{place_next}
 use Rattle.bit_table_row_lists.proofs.CallerLemmas.{rows_after_insert}
+use Rattle.bit_table_store.proofs.MovedLemmas.{are_moved}
 use Rattle.bit_table_store.proofs.TableLemmas.{few_rows, front_is, in_range, length-one_more, length-stored, lies_in}
 use Rattle.bit_table_store.proofs.TableLemmas.{marked_after, most_rows, room_is, rows_edited, shape_after, values_are}
 use Rattle.bit_table_store.proofs.table.Table.insert.Goals as goal
@@ -82,6 +83,7 @@ invariant_of-self-2 g c =
       record { fits = rw c.row_bits-width.ensures.bits at made; room = all; marked = omega (arith, count) },
       h.2,
       h.3,
+      c.insert_row.ensures.head ∙ c.reserve.ensures.same.head ∙ h.4,
     )
 
 pub returns-clause-ok : goal.returns-clause-ok
@@ -108,3 +110,12 @@ returns-clause-ok g c =
     (ap (rows_from t.layout (t.rows + 1)) (bits ∙ ap (inserted _ (c.args.place * w)) row)
     ∙ rows_after_insert t.layout t.rows _ h.1.fits c.args.place c.args.values.now h.0 its.taken r)
     (c.in_ok-letters.ensures).ok) refl
+
+pub returns-clause-moved : goal.returns-clause-moved
+returns-clause-moved g c =
+    let t = c.self.inside in
+    let h = c.self.invariant in
+    let wrote = rw c.unwrap-rows.ensures at c.insert_row.ensures.writes in
+    let few = rw c.row_bits-width.ensures.bits at wrote in
+    are_moved _ t.layout _ _ _ c.self.view_is h.0 h.1 h.2 _ (c.args.place + 1) c.args.place _ _ _ _ c.all_writes-self-inside.ensures
+    (c.reserve.ensures.same.head ∙ h.4) few (c.in_ok-letters.ensures).writes

@@ -24,6 +24,7 @@ invariant_of-self g c =
       },
       h.2,
       h.3,
+      c.in-Ok.ensures.head,
     )
 
 pub returns-clause-ok : goal.returns-clause-ok

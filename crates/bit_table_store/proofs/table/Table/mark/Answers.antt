@@ -19,6 +19,7 @@ invariant_of-self g c =
       },
       h.2,
       h.3,
+      h.4,
     )
 
 pub returns-clause-shape : goal.returns-clause-shape

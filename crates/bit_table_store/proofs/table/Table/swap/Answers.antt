@@ -4,6 +4,7 @@ use Rattle.bit_table_layout.specs.Rows.{new_row}
 use Rattle.bit_table_commands.specs.declared.command.Command.TheVariants.{Swap}
 use Rattle.bit_table_letters.specs.declared.edit.RowEdit.TheVariants as edits
 use Rattle.bit_table_row_lists.proofs.CallerLemmas.{rows_after_swap}
+use Rattle.bit_table_store.proofs.MovedLemmas.{same_place}
 use Rattle.bit_table_store.proofs.TableLemmas.{few_marks, in_range, lies_in, marked_after, rows_edited, shape_after}
 use Rattle.bit_table_store.proofs.table.Table.swap.Goals as goal
 
@@ -36,8 +37,13 @@ invariant_of-self g c =
     let r = in_range _ t.layout _ _ _ c.self.view_is h.0 h.1 h.2
     (Swap c.args.row c.args.other) c.requires in
     let letters = rw c.unwrap.ensures at c.edit.ensures.ok in
-    let count = marked_after t.layout _ h.0 h.1 (edits.Swap c.args.row c.args.other) c.edit.new.self r letters in
-    (h.0, record { fits = c.swap_rows.ensures.len ∙ h.1.fits; room = h.1.room; marked = omega (arith, count) }, h.2, h.3)
+    let count = marked_after t.layout _ h.0 h.1 (edits.Swap c.args.row c.args.other) c.edit.new.self r letters in (
+      h.0,
+      record { fits = c.swap_rows.ensures.len ∙ h.1.fits; room = h.1.room; marked = omega (arith, count) },
+      h.2,
+      h.3,
+      same_place c.swap_rows.ensures.frame ∙ h.4,
+    )
 
 pub returns-clause-shape : goal.returns-clause-shape
 returns-clause-shape g c =

@@ -17,6 +17,7 @@ pub use bit_containers_vector::{BitVec, Drain, SliceFault, Splice};
 pub use bit_slice_access::{
     BitMut, BitRangeMut, BitSliceIndexMut, BitsAccess, BitsCopy, BitsCut, BitsFill, BitsParts, Part,
 };
+pub use bit_slice_edits::BitsEdits;
 pub use bit_slice_iterators::{
     BitRefIter, BitValIter, BitsIter, Indices, Iter, IterOnes, IterZeros, Ones, Sought, Zeros,
 };

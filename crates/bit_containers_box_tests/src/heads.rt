@@ -1,6 +1,6 @@
 //! Calls of a box from each head on, compared with a plain list of bits.
 
-use crate::plain::{BYTES, List, Plain, lists, shows, start, start_list};
+use crate::plain::{BYTES, List, Plain, lists, repeated, shows, start, start_list};
 use bit_addressing::{Lsb0, Msb0};
 use bit_containers_box::BitBox;
 use bit_containers_vector::BitVec;
@@ -203,8 +203,96 @@ fn are_combined<O: WordPaths<u8> + Plain>(
     Ok(both && either && other)
 }
 
-// Whether a call holds from each head on, of each number of bits up to 8, in both orders.
-fn holds<F: Fn(usize, usize) -> Result<bool, AllocError>>(call: F) -> Result<bool, AllocError>
+// Whether a box is combined so by value, and its dead bits stay.
+fn are_combined_by_value<O: WordPaths<u8> + Plain>(
+    alloc: Global,
+    head: usize,
+    len: usize,
+) -> Result<bool, AllocError> {
+    let list = start_list::<O>(head, len);
+    let others = List::of::<O>(&BYTES, 5, 6);
+    let right = BitSlice::<u8, O>::from_parts(&BYTES, 5, 6);
+    let anded = start::<O>(alloc, head, len, true)? & right;
+    let both = shows(&anded, head, &list.combined(&others, |a, b| a && b), true);
+    let ored = start::<O>(alloc, head, len, false)? | start::<O>(alloc, 5, 6, true)?;
+    let either = shows(&ored, head, &list.combined(&others, |a, b| a || b), false);
+    let xored = start::<O>(alloc, head, len, true)?
+        ^ BitVec::<u8, O>::from_bitslice(alloc, BitSlice::from_parts(&BYTES, 5, 6))?;
+    let other = shows(&xored, head, &list.combined(&others, |a, b| a != b), true);
+    Ok(both && either && other)
+}
+
+// Whether bits are moved inside a box, overlap or not, and the dead bits stay.
+fn are_moved<O: WordPaths<u8> + Plain>(
+    alloc: Global,
+    head: usize,
+    len: usize,
+) -> Result<bool, AllocError> {
+    let list = start_list::<O>(head, len);
+    for from in 0..9usize {
+        for to in 0..9usize {
+            let mut made = start::<O>(alloc, head, len, true)?;
+            let all = made.len();
+            if from <= all && to <= all {
+                let count = all - from.max(to);
+                made.move_within(from, to, count);
+                if !shows(&made, head, &list.with(to, &list.cut(from, count)), true) {
+                    return Ok(false);
+                }
+            }
+        }
+    }
+    Ok(true)
+}
+
+// Whether bits are moved off the ends, and zeros come in.
+fn are_shifted<O: WordPaths<u8> + Plain>(
+    alloc: Global,
+    head: usize,
+    len: usize,
+) -> Result<bool, AllocError> {
+    let list = start_list::<O>(head, len);
+    for by in 0..10usize {
+        let rest = list.len.saturating_sub(by);
+        let zeros = repeated(false, list.len);
+        let mut made = start::<O>(alloc, head, len, true)?;
+        made.shift_left(by);
+        let left = shows(&made, head, &zeros.with(0, &list.cut(by, rest)), true);
+        let mut made = start::<O>(alloc, head, len, true)?;
+        made.shift_right(by);
+        if !left || !shows(&made, head, &zeros.with(by, &list.cut(0, rest)), true) {
+            return Ok(false);
+        }
+    }
+    Ok(true)
+}
+
+// Whether each bit is replaced, and exchanged with the first one.
+fn are_replaced<O: WordPaths<u8> + Plain>(
+    alloc: Global,
+    head: usize,
+    len: usize,
+) -> Result<bool, AllocError> {
+    let list = start_list::<O>(head, len);
+    for i in 0..list.len {
+        let mut made = start::<O>(alloc, head, len, true)?;
+        if i >= made.len() {
+            return Ok(false);
+        }
+        let was = made.replace(i, !list.at(i));
+        let turned = list.with(i, &list.flipped().cut(i, 1));
+        let replaced = was == list.at(i) && shows(&made, head, &turned, true);
+        made.swap(0, i);
+        let swapped = turned.with(0, &turned.cut(i, 1)).with(i, &turned.cut(0, 1));
+        if !replaced || !shows(&made, head, &swapped, true) {
+            return Ok(false);
+        }
+    }
+    Ok(true)
+}
+
+/// Whether a call holds from each head on, of each number of bits up to 8.
+pub fn holds<F: Fn(usize, usize) -> Result<bool, AllocError>>(call: F) -> Result<bool, AllocError>
     requires { F.IsAlwaysCallable call }
 {
     for head in 0..8usize {
@@ -256,6 +344,18 @@ fn bits_are_changed_in_place(rt: HostRuntime) -> Result<(), AllocError> {
     let alloc = rt.alloc();
     assert!(rt; holds(|head, len| are_changed::<Lsb0>(alloc, head, len))?);
     assert!(rt; holds(|head, len| are_changed::<Msb0>(alloc, head, len))?);
+    assert!(rt; holds(|head, len| are_replaced::<Lsb0>(alloc, head, len))?);
+    assert!(rt; holds(|head, len| are_replaced::<Msb0>(alloc, head, len))?);
+    Ok(())
+}
+
+#[test]
+fn bits_are_moved_and_shifted(rt: HostRuntime) -> Result<(), AllocError> {
+    let alloc = rt.alloc();
+    assert!(rt; holds(|head, len| are_moved::<Lsb0>(alloc, head, len))?);
+    assert!(rt; holds(|head, len| are_moved::<Msb0>(alloc, head, len))?);
+    assert!(rt; holds(|head, len| are_shifted::<Lsb0>(alloc, head, len))?);
+    assert!(rt; holds(|head, len| are_shifted::<Msb0>(alloc, head, len))?);
     Ok(())
 }
 
@@ -272,5 +372,7 @@ fn boxes_are_combined_with_others(rt: HostRuntime) -> Result<(), AllocError> {
     let alloc = rt.alloc();
     assert!(rt; holds(|head, len| are_combined::<Lsb0>(alloc, head, len))?);
     assert!(rt; holds(|head, len| are_combined::<Msb0>(alloc, head, len))?);
+    assert!(rt; holds(|head, len| are_combined_by_value::<Lsb0>(alloc, head, len))?);
+    assert!(rt; holds(|head, len| are_combined_by_value::<Msb0>(alloc, head, len))?);
     Ok(())
 }

@@ -1,6 +1,7 @@
 //! The bits of boxes, one after another.
 
-use crate::plain::{List, Plain, lists, start, start_list};
+use crate::heads::holds;
+use crate::plain::{List, Plain, lists, repeated, start, start_list};
 use bit_addressing::{BitOrder, Lsb0, Msb0};
 use bit_containers_box::{BitBox, IntoIter};
 use bit_slice_views::Bits;
@@ -8,12 +9,13 @@ use bit_slice_writes::BitsMut;
 use std::alloc::{AllocError, Global};
 use std::process::Abort;
 
-// Whether bits come one by one, two from the front for each from the back, and then none for good.
-fn come_in_turn<O: BitOrder<u8>>(bits: IntoIter<u8, O>, list: &List) -> bool {
+/// Whether bits come one by one, two from the front for each from the back, and then none for good.
+pub fn come_in_turn<O: BitOrder<u8>>(bits: IntoIter<u8, O>, list: &List) -> bool {
     let mut bits = bits;
     let mut left = *list;
     for k in 0..16usize {
-        if bits.len() != left.len || !lists(&bits.as_bitslice(), &left) {
+        let shown = lists(&bits.as_bitslice(), &left) && lists(&bits.as_slice(), &left);
+        if !shown || bits.len() != left.len || bits.size_hint() != (left.len, Some(left.len)) {
             return false;
         }
         let Some(fewer) = left.len.checked_sub(1) else {
@@ -65,6 +67,34 @@ fn bits_come_from_both_ends(rt: HostRuntime) -> Result<(), AllocError> {
             );
         }
     }
+    Ok(())
+}
+
+// Whether the bits between the first and the last one are written through windows, and then come so.
+fn are_left_written<O: BitOrder<u8> + Plain>(
+    alloc: Global,
+    head: usize,
+    len: usize,
+) -> Result<bool, AllocError> {
+    let list = start_list::<O>(head, len);
+    let left = list.cut(1, list.len.saturating_sub(2));
+    let mut bits = start::<O>(alloc, head, len, true)?.into_iter();
+    let ends = bits.next().is_some() == (list.len > 0)
+        && bits.next_back().is_some() == (list.len > 1);
+    let mut copy = bits.clone()?;
+    let mut window = bits.as_mut_bitslice();
+    let lent = lists(&window, &left);
+    window.invert();
+    copy.as_mut_slice().fill(true);
+    let inverted = come_in_turn(bits, &left.flipped());
+    Ok(ends && lent && inverted && come_in_turn(copy, &repeated(true, left.len)))
+}
+
+#[test]
+fn what_is_left_is_written_from_each_head(rt: HostRuntime) -> Result<(), AllocError> {
+    let alloc = rt.alloc();
+    assert!(rt; holds(|head, len| are_left_written::<Lsb0>(alloc, head, len))?);
+    assert!(rt; holds(|head, len| are_left_written::<Msb0>(alloc, head, len))?);
     Ok(())
 }
 

@@ -10,6 +10,12 @@ mod iterators;
 #[cfg(test)]
 mod lent;
 #[cfg(test)]
+mod loans;
+#[cfg(test)]
 mod made;
 #[cfg(test)]
 mod plain;
+#[cfg(test)]
+mod texts;
+#[cfg(test)]
+mod words;

@@ -86,6 +86,17 @@ impl List {
         List { bits, len }
     }
 
+    /// The list with the bits of another in the place of its own from an index on.
+    pub fn with(&self, from: usize, others: &List) -> List {
+        let mut list = *self;
+        for k in 0..16usize {
+            if from <= k && k - from < others.len {
+                list.bits[k] = others.at(k - from);
+            }
+        }
+        list
+    }
+
     /// As many bits, each turned round.
     pub fn flipped(&self) -> List {
         let mut list = *self;
@@ -94,6 +105,15 @@ impl List {
         }
         list
     }
+}
+
+/// One bit, so often.
+pub fn repeated(bit: bool, len: usize) -> List {
+    let mut bits = [false; 16];
+    for k in 0..16usize {
+        bits[k] = k < len && bit;
+    }
+    List { bits, len }
 }
 
 /// Whether bits are those of a list.
@@ -129,6 +149,18 @@ pub fn shows<O: BitOrder<u8> + Plain>(
     lists(bits, list)
 }
 
+/// Whether the bits of the visible bytes of a box are those of a list, and its own the `len` bits from a head on.
+pub fn has_words<O: BitOrder<u8> + Plain>(
+    bits: &BitBox<u8, O>,
+    head: usize,
+    len: usize,
+    words: &List,
+) -> bool {
+    let bytes = bits.as_raw_slice();
+    let all = List::of::<O>(bytes, 0, bytes.len().wrapping_mul(8));
+    all == *words && bits.first_place() == head && lists(bits, &words.cut(head, len))
+}
+
 /// A box of `len % 9` bits from the head `head % 8` on, beside which all bits are this one.
 pub fn start<O: BitOrder<u8>>(
     alloc: Global,
@@ -145,4 +177,10 @@ pub fn start<O: BitOrder<u8>>(
 /// Its bits as a plain list.
 pub fn start_list<O: Plain>(head: usize, len: usize) -> List {
     List::of::<O>(&BYTES, head % 8, len % 9)
+}
+
+/// The bits of its bytes, with this one beside its own.
+pub fn start_words<O: Plain>(head: usize, len: usize, dead: bool) -> List {
+    let size = (head % 8 + len % 9).div_ceil(8) * 8;
+    repeated(dead, size).with(head % 8, &start_list::<O>(head, len))
 }

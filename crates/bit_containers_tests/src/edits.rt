@@ -2,7 +2,7 @@
 
 use crate::heads::come_in_turn;
 use crate::plain::{EDITS, Edit, FEW, List, MANY, Plain, edited, fits, listed, repeated, taken};
-use crate::vectors::{STARTS, Start, mixed, shows};
+use crate::vectors::{STARTS, Start, lists, mixed, shows};
 use bit_addressing::{BitOrder, Lsb0, Msb0};
 use bit_containers_vector::BitVec;
 use bit_slice_stores::BitStore;
@@ -46,7 +46,7 @@ fn extend<T: BitStore, O: BitOrder<T>>(
     Ok(true)
 }
 
-// Takes a part of the list out, and reads it from both ends: whether its bits are those of the list.
+// Takes a part of the list out, and reads it whole and from both ends: whether its bits are those of the list.
 fn drains<T: BitStore, O: BitOrder<T>>(
     vector: &mut BitVec<T, O>,
     from: usize,
@@ -56,7 +56,10 @@ fn drains<T: BitStore, O: BitOrder<T>>(
     if from > upto || upto > vector.len() {
         return false;
     }
-    come_in_turn(vector.drain(from..upto), &list.cut(from, upto - from))
+    let gone = vector.drain(from..upto);
+    let wanted = list.cut(from, upto - from);
+    let whole = lists(&gone.as_bitslice(), &wanted) && lists(&gone.as_slice(), &wanted);
+    whole && come_in_turn(gone, &wanted)
 }
 
 // The first and the last of the bits from `from` up to `upto`, where there are two.

@@ -1,9 +1,10 @@
 //! Vectors read, copied and combined, from each head on, against plain lists.
 
-use crate::plain::{List, Plain, repeated};
-use crate::vectors::{STARTS, Start, mixed, shows, visible, window};
+use crate::plain::{List, Plain, combined, repeated};
+use crate::vectors::{STARTS, Start, lists, mixed, shows, visible, whole, window};
 use bit_addressing::{BitOrder, Lsb0, Msb0};
 use bit_containers_vector::BitVec;
+use bit_slice_access::BitsParts;
 use bit_slice_iterators::BitsIter;
 use bit_slice_paths::WordPaths;
 use bit_slice_stores::BitStore;
@@ -22,7 +23,7 @@ pub fn come_in_turn<I: DoubleEndedIterator<Item = bool> + ExactSizeIterator>(
     let mut bits = bits;
     let mut left = *list;
     for k in 0..24usize {
-        if bits.len() != left.len {
+        if bits.len() != left.len || bits.size_hint() != (left.len, Some(left.len)) {
             return false;
         }
         let Some(fewer) = left.len.checked_sub(1) else {
@@ -64,8 +65,30 @@ fn is_read<T: BitStore, O: BitOrder<T> + Plain>(
     }
     let window = vector.as_bitslice();
     let other = vector.as_slice();
-    let lent = window.len() == list.len && window.eq_bits(&other);
+    let lent = lists(&window, &list) && lists(&other, &list) && window.eq_bits(&other);
     Ok(listed == list.len && lent && come_in_turn(vector.iter().by_vals(), &list))
+}
+
+// Whether each bit and the part from it on are answered by index, and nothing behind the end.
+fn is_got<T: BitStore, O: BitOrder<T> + Plain>(
+    alloc: Global,
+    start: Start,
+) -> Result<bool, AllocError> {
+    let list = start.list::<T, O>(alloc)?;
+    let vector = start.vector::<T, O>(alloc)?;
+    for k in 0..list.len {
+        let Some(bit) = vector.get(k) else {
+            return Ok(false)
+        };
+        let Some(part) = vector.get(k..) else {
+            return Ok(false)
+        };
+        if *bit != list.at(k) || !lists(&part, &list.cut(k, list.len - k)) {
+            return Ok(false);
+        }
+    }
+    let behind = list.len.wrapping_add(1);
+    Ok(vector.get(list.len).is_none() && vector.get(..behind).is_none())
 }
 
 // Whether a copy has the head, and dead bits that are 0.
@@ -75,29 +98,13 @@ fn is_copied<T: BitStore, O: BitOrder<T> + Plain>(
 ) -> Result<bool, AllocError> {
     let list = start.list::<T, O>(alloc)?;
     let copy = start.vector::<T, O>(alloc)?.clone()?;
-    let width = T::BITS as usize;
-    let size = start
-        .head
-        .wrapping_add(start.len)
-        .div_ceil(width)
-        .wrapping_mul(width);
+    let size = whole::<T>(start.head.wrapping_add(start.len));
     let same = shows(&copy, start.head, &list);
     Ok(same && visible(copy) == repeated(false, size).with(start.head, &list))
 }
 
-// As many bits, each what a function makes of it and of that at its index in another list.
-fn combined<F: Fn(bool, bool) -> bool>(list: &List, others: &List, how: F) -> List
-    requires { F.IsAlwaysCallable how }
-{
-    let mut all = *list;
-    for k in 0..160usize {
-        all.bits[k] = k < list.len && how(list.at(k), others.at(k));
-    }
-    all
-}
-
-// Whether a vector shows a list, and beside it what other words had.
-fn has_beside<T: BitStore, O: BitOrder<T> + Plain>(
+/// Whether a vector shows a list, and beside it what other words had.
+pub fn has_beside<T: BitStore, O: BitOrder<T> + Plain>(
     vector: BitVec<T, O>,
     head: usize,
     list: &List,
@@ -113,7 +120,7 @@ fn is_combined<T: BitStore, O: WordPaths<T> + Plain>(
     start: Start,
 ) -> Result<bool, AllocError> {
     let list = start.list::<T, O>(alloc)?;
-    let words = visible(start.vector::<T, O>(alloc)?);
+    let words = start.words::<T, O>(alloc)?;
     let head = start.head;
     let others = List::of::<T, O>(mixed::<T>(alloc, 3)?.as_slice()).cut(5, 9);
     let mask = window::<T, O>(alloc, 5, 9)?;
@@ -142,7 +149,7 @@ fn is_written<T: BitStore, O: BitOrder<T> + Plain>(
     start: Start,
 ) -> Result<bool, AllocError> {
     let list = start.list::<T, O>(alloc)?;
-    let words = visible(start.vector::<T, O>(alloc)?);
+    let words = start.words::<T, O>(alloc)?;
     let mut turned = start.vector::<T, O>(alloc)?;
     turned.reverse();
     let mut back = list;
@@ -165,6 +172,8 @@ fn vectors_are_read_from_each_head(rt: HostRuntime) -> Result<(), AllocError> {
         let start = Start::nth(k);
         assert!(rt; is_read::<u8, Lsb0>(rt.alloc(), start)?);
         assert!(rt; is_read::<u8, Msb0>(rt.alloc(), start)?);
+        assert!(rt; is_got::<u8, Lsb0>(rt.alloc(), start)?);
+        assert!(rt; is_got::<u8, Msb0>(rt.alloc(), start)?);
         assert!(rt; is_copied::<u8, Lsb0>(rt.alloc(), start)?);
         assert!(rt; is_copied::<u8, Msb0>(rt.alloc(), start)?);
     }

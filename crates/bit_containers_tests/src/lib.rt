@@ -10,6 +10,10 @@ mod edits;
 #[cfg(test)]
 mod heads;
 #[cfg(test)]
+mod lent;
+#[cfg(test)]
+mod made;
+#[cfg(test)]
 mod memory;
 #[cfg(test)]
 mod plain;
@@ -18,8 +22,12 @@ mod rows;
 #[cfg(test)]
 mod taken;
 #[cfg(test)]
+mod texts;
+#[cfg(test)]
 mod vectors;
 #[cfg(test)]
 mod windows;
 #[cfg(test)]
 mod words;
+#[cfg(test)]
+mod written;

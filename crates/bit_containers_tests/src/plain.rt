@@ -99,6 +99,17 @@ pub fn repeated(bit: bool, len: usize) -> List {
     List { bits, len }
 }
 
+/// As many bits as the first list has, each what a function makes of it and of that at its index in another list.
+pub fn combined<F: Fn(bool, bool) -> bool>(list: &List, others: &List, how: F) -> List
+    requires { F.IsAlwaysCallable how }
+{
+    let mut all = *list;
+    for k in 0..160usize {
+        all.bits[k] = k < list.len && how(list.at(k), others.at(k));
+    }
+    all
+}
+
 /// An edit of a list of bits.
 #[derive(Clone, Copy)]
 pub enum Edit {
@@ -220,8 +231,8 @@ pub fn fits(edit: Edit, len: usize) -> bool {
     }
 }
 
-// Some bits with others behind them.
-fn joined(list: &List, others: &List) -> List {
+/// Some bits with others behind them.
+pub fn joined(list: &List, others: &List) -> List {
     let mut all = *list;
     all.len = list.len.wrapping_add(others.len);
     all.with(list.len, others)

@@ -195,9 +195,9 @@ fn words_are_taken_over(rt: HostRuntime) -> Result<(), AllocError> {
     Ok(())
 }
 
-// A vector in groups of bits: the holes of a format string take no other form.
+/// A vector in groups of three bits: the holes of a format string take no other form.
 #[derive(Drop)]
-struct InOctal<'a, T>(&'a T);
+pub struct InOctal<'a, T>(pub &'a T);
 
 impl<'a, T: fmt::Octal> fmt::Display for InOctal<'a, T> {
     fn fmt<W: fmt::Write>(&self, f: &mut fmt::Formatter<W>) -> fmt::Result {
@@ -205,8 +205,9 @@ impl<'a, T: fmt::Octal> fmt::Display for InOctal<'a, T> {
     }
 }
 
+/// The same bit by bit.
 #[derive(Drop)]
-struct InBinary<'a, T>(&'a T);
+pub struct InBinary<'a, T>(pub &'a T);
 
 impl<'a, T: fmt::Binary> fmt::Display for InBinary<'a, T> {
     fn fmt<W: fmt::Write>(&self, f: &mut fmt::Formatter<W>) -> fmt::Result {
@@ -214,8 +215,9 @@ impl<'a, T: fmt::Binary> fmt::Display for InBinary<'a, T> {
     }
 }
 
+/// The same in groups of four bits.
 #[derive(Drop)]
-struct InLowerHex<'a, T>(&'a T);
+pub struct InLowerHex<'a, T>(pub &'a T);
 
 impl<'a, T: fmt::LowerHex> fmt::Display for InLowerHex<'a, T> {
     fn fmt<W: fmt::Write>(&self, f: &mut fmt::Formatter<W>) -> fmt::Result {
@@ -223,8 +225,9 @@ impl<'a, T: fmt::LowerHex> fmt::Display for InLowerHex<'a, T> {
     }
 }
 
+/// The same with capital letters.
 #[derive(Drop)]
-struct InUpperHex<'a, T>(&'a T);
+pub struct InUpperHex<'a, T>(pub &'a T);
 
 impl<'a, T: fmt::UpperHex> fmt::Display for InUpperHex<'a, T> {
     fn fmt<W: fmt::Write>(&self, f: &mut fmt::Formatter<W>) -> fmt::Result {
@@ -232,8 +235,12 @@ impl<'a, T: fmt::UpperHex> fmt::Display for InUpperHex<'a, T> {
     }
 }
 
-// Whether a value is written so.
-fn is_written<T: fmt::Display>(alloc: Global, shown: &T, text: &str) -> Result<bool, AllocError> {
+/// Whether a value is written so.
+pub fn is_written<T: fmt::Display>(
+    alloc: Global,
+    shown: &T,
+    text: &str,
+) -> Result<bool, AllocError> {
     let found = format!(in alloc; "{shown}")?;
     Ok(found.as_str() == text)
 }

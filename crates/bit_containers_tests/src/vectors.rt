@@ -4,7 +4,7 @@ ghost use Rattle.std.specs.Prelude.{◌≤◌, length, IfOk};
 ghost use Rattle.bit_addressing.specs.Memory.{read_by};
 ghost use Rattle.bit_containers_vector.specs.Vector.{vec_bits};
 
-use crate::plain::{List, Plain};
+use crate::plain::{List, Plain, repeated};
 use bit_addressing::BitOrder;
 use bit_containers_vector::BitVec;
 use bit_slice_stores::BitStore;
@@ -68,6 +68,20 @@ impl Start {
         Ok(List::of::<T, O>(words.as_slice()).cut(self.head, self.len))
     }
 
+    /// The bits of the words that are visible then, of up to 32 bits each: zeros beside the list, or ones beside it, or
+    /// ones behind it alone.
+    pub fn words<T: BitStore, O: Plain>(self, alloc: Global) -> Result<List, AllocError> {
+        let list = self.list::<T, O>(alloc)?;
+        let size = whole::<T>(self.head.wrapping_add(self.len));
+        let (before, behind) = match self.past {
+            Past::Made => (false, false),
+            Past::Beside => (true, true),
+            Past::Longer => (false, true),
+        };
+        let beside = repeated(behind, size).with(0, &repeated(before, self.head));
+        Ok(beside.with(self.head, &list))
+    }
+
     /// A vector that begins so.
     pub fn vector<T: BitStore, O: BitOrder<T>>(
         self,
@@ -84,6 +98,12 @@ impl Start {
         }
         Ok(vector)
     }
+}
+
+/// How many bits the words have that so many bits take.
+pub fn whole<T: BitStore>(bits: usize) -> usize {
+    let width = T::BITS as usize;
+    bits.div_ceil(width).wrapping_mul(width)
 }
 
 /// The bits of a window of mixed words.
@@ -109,14 +129,19 @@ pub fn window<T: BitStore, O: BitOrder<T>>(
 /// How many `nth` has.
 pub const STARTS: usize = 120;
 
-/// Whether a vector shows these bits from this head on.
-pub fn shows<T: BitStore, O: BitOrder<T>>(vector: &BitVec<T, O>, head: usize, list: &List) -> bool {
-    for k in 0..vector.len() {
-        if vector.bit(k) != list.at(k) {
+/// Whether bits are those of a list.
+pub fn lists<V: Bits>(bits: &V, list: &List) -> bool {
+    for k in 0..bits.len() {
+        if bits.bit(k) != list.at(k) {
             return false;
         }
     }
-    vector.len() == list.len && vector.first_place() == head
+    bits.len() == list.len
+}
+
+/// Whether a vector shows these bits from this head on.
+pub fn shows<T: BitStore, O: BitOrder<T>>(vector: &BitVec<T, O>, head: usize, list: &List) -> bool {
+    lists(vector, list) && vector.first_place() == head
 }
 
 /// The bits of the visible words.

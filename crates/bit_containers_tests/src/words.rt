@@ -1,19 +1,14 @@
 //! The visible words, dead bits too, after each edit that says what they are.
 
 use crate::edits::{added, make};
-use crate::plain::{EDITS, Edit, List, Plain, edited, fits, repeated};
-use crate::vectors::{STARTS, Start, shows, visible};
+use crate::plain::{EDITS, Edit, List, Plain, edited, fits, joined, repeated};
+use crate::vectors::{Past, STARTS, Start, shows, visible, whole};
 use bit_addressing::{BitOrder, Lsb0, Msb0};
 use bit_containers_vector::BitVec;
 use bit_slice_stores::BitStore;
 use bit_slice_views::Bits;
+use bit_slice_writes::BitsMut;
 use std::alloc::{AllocError, Global};
-
-// How many bits the words have that so many bits take.
-fn whole<T: BitStore>(bits: usize) -> usize {
-    let width = T::BITS as usize;
-    bits.div_ceil(width).wrapping_mul(width)
-}
 
 // The bits of the visible words after an edit that says what they are: those visible before stay, new ones are zero.
 fn words_after<T: BitStore>(edit: Edit, head: usize, words: &List, list: &List) -> Option<List> {
@@ -40,7 +35,7 @@ fn has_words<T: BitStore, O: BitOrder<T> + Plain>(
     edit: Edit,
 ) -> Result<bool, AllocError> {
     let list = start.list::<T, O>(alloc)?;
-    let words = visible(start.vector::<T, O>(alloc)?);
+    let words = start.words::<T, O>(alloc)?;
     let mut vector = start.vector::<T, O>(alloc)?;
     let answered = make(alloc, &mut vector, edit, &list)?;
     let after = edited(edit, &list, &added::<T, O>(alloc, edit)?);
@@ -77,7 +72,7 @@ fn all_written<T: BitStore, O: BitOrder<T> + Plain>(
     start: Start,
 ) -> Result<bool, AllocError> {
     let list = start.list::<T, O>(alloc)?;
-    let words = visible(start.vector::<T, O>(alloc)?);
+    let words = start.words::<T, O>(alloc)?;
     let flipped = !start.vector::<T, O>(alloc)?;
     let shown = shows(&flipped, start.head, &list.flipped());
     let mut set = start.vector::<T, O>(alloc)?;
@@ -106,5 +101,73 @@ fn dead_bits_come_into_the_list(rt: HostRuntime) -> Result<(), AllocError> {
     bits.set_len(3);
     bits.set_len(8);
     assert!(rt; bits.into_vec().as_slice() == [0xa5].as_slice());
+    Ok(())
+}
+
+// Whether a list that ends at each of the visible bits has these, and no word but theirs is visible.
+fn are_set_in_length<T: BitStore, O: BitOrder<T> + Plain>(
+    alloc: Global,
+    start: Start,
+) -> Result<bool, AllocError> {
+    let words = start.words::<T, O>(alloc)?;
+    for len in 0..50usize {
+        let end = start.head.wrapping_add(len);
+        if end > words.len {
+            return Ok(len > start.len);
+        }
+        let mut vector = start.vector::<T, O>(alloc)?;
+        let most = vector.as_raw_slice().len().saturating_mul(T::BITS as usize);
+        let head = vector.first_place();
+        if head + len > most {
+            return Ok(false);
+        }
+        vector.set_len(len);
+        let shown = shows(&vector, start.head, &words.cut(start.head, len));
+        if !shown || visible(vector) != words.cut(0, whole::<T>(end)) {
+            return Ok(false);
+        }
+    }
+    Ok(false)
+}
+
+#[test]
+fn lists_end_at_each_visible_bit(rt: HostRuntime) -> Result<(), AllocError> {
+    for k in 0..STARTS {
+        let start = Start::nth(k);
+        assert!(rt; are_set_in_length::<u8, Lsb0>(rt.alloc(), start)?);
+        assert!(rt; are_set_in_length::<u8, Msb0>(rt.alloc(), start)?);
+    }
+    Ok(())
+}
+
+// Whether the words that a vector gives are the visible ones, and all that it holds those of a longer list before.
+fn are_given<T: BitStore, O: BitOrder<T> + Plain>(
+    alloc: Global,
+    start: Start,
+) -> Result<bool, AllocError> {
+    let list = start.list::<T, O>(alloc)?;
+    let words = start.words::<T, O>(alloc)?;
+    let given = visible(start.vector::<T, O>(alloc)?) == words;
+    let vector = start.vector::<T, O>(alloc)?;
+    let seen = List::of::<T, O>(vector.as_raw_slice()) == words;
+    let held = List::of::<T, O>(vector.into_words().as_slice());
+    let wanted = match start.past {
+        Past::Longer => {
+            let ones = repeated(true, 40usize.wrapping_sub(start.len));
+            let zeros = repeated(false, whole::<T>(start.head.wrapping_add(40)));
+            zeros.with(start.head, &joined(&list, &ones))
+        }
+        _ => words,
+    };
+    Ok(given && seen && held == wanted)
+}
+
+#[test]
+fn all_words_are_given(rt: HostRuntime) -> Result<(), AllocError> {
+    for k in 0..STARTS {
+        let start = Start::nth(k);
+        assert!(rt; are_given::<u8, Lsb0>(rt.alloc(), start)?);
+        assert!(rt; are_given::<u8, Msb0>(rt.alloc(), start)?);
+    }
     Ok(())
 }

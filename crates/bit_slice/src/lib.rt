@@ -42,6 +42,7 @@ pub use bit_slice_domains::BitDomainMut;
 pub use bit_slice_domains::BitsDomains;
 pub use bit_slice_domains::Halves;
 pub use bit_slice_domains::WindowDomainMut;
+pub use bit_slice_edits::BitsEdits;
 pub use bit_slice_fields::BitField;
 pub use bit_slice_fields::BitFieldMut;
 pub use bit_slice_fields::FieldOrder;

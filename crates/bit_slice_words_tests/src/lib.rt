@@ -6,6 +6,8 @@ mod by_words;
 #[cfg(test)]
 mod commands;
 #[cfg(test)]
+mod parts;
+#[cfg(test)]
 mod shared;
 #[cfg(test)]
 mod stores;

@@ -1,10 +1,12 @@
 -- What callers of loads and stores need: n bits hold each number of n digits, and no other.
 --
--- A number that was stored is loaded: `held_back`, `loaded_back`. What was loaded is a number of so many digits, and
--- stored again gives the bits back: `held_fits`, `held_bits`.
-use Rattle.std.proofs.Common.{◌≡◌, ℕ, ◌≤◌, Bool, true, List, [], ◌∷◌, length, ℤ, le-leb}
+-- A number that was stored is loaded: `held_back`, `loaded_back`, of a part of a list by `part_stored`. What was loaded
+-- is a number of so many digits, and stored again gives the bits back: `held_fits`, `held_bits`.
+use Rattle.std.proofs.Common.{◌≡◌, ℕ, ◌+◌, ◌≤◌, Bool, true, List, [], ◌∷◌, length, ℤ, arith, le-leb}
 use Rattle.std.specs.Prelude.{nat_le}
 use Rattle.std.proofs.lemmas.Bool.{and_from}
+use Rattle.std.proofs.lemmas.List.{places, same_lists}
+use Rattle.bit_addressing.specs.Memory.{piece, with_piece}
 use Rattle.bit_table_layout.specs.declared.layout.Rule.{Rule}
 use Rattle.bit_table_layout.specs.Fields.{FieldShape, is_field}
 use Rattle.bit_table_layout.specs.Rows.{field_bits}
@@ -37,3 +39,9 @@ pub loaded_back : (rule : Rule) (signed : Bool) (n m : ℕ) (v stored : ℤ) (bi
     → bits ≡ field_bits rule n stored → stored ≡ v → is_held signed n v ≡ true → number_held rule signed m bits ≡ v
 loaded_back rule signed n m v stored bits some narrow size same is fits =
     rw (size, same, is) (held_back rule signed n v some narrow fits)
+
+-- a part that was written over holds what was written
+pub part_stored : (xs ys : List Bool) (a n : ℕ) → length ys ≡ n → a + n ≤ length xs
+    → piece (with_piece xs a ys) a n ≡ ys
+unfolding piece with_piece
+part_stored xs ys a n size fits = same_lists _ _ (grind (arith, places)) (λ k d h. grind (arith, places))

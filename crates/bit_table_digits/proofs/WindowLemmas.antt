@@ -1,16 +1,18 @@
--- A field's bits in a window, bit by bit: what a loop has stored, and what it has read.
+-- A field's bits in a list, bit by bit: what a loop has stored, and what it has read.
 --
--- Stored: `get_or-field_bits`, `stored_field`. Read: `so_far`, `so_far_none`, `so_far_more`, `so_far_all`,
--- `so_far_small`.
-use Rattle.std.proofs.Common.{◌≡◌, ℕ, ◌+◌, ◌-◌, ◌*◌, ◌^◌, ◌<◌, ◌≤◌, Bool, true, false, List, length, cond}
-use Rattle.std.proofs.Common.{get_or, take, drop, reverse, ℤ, sym, refl, ap, ◌∙◌, arith, length-take, pow_mono}
+-- Stored: `get_or-field_bits`, `none_written`, `digit_stored`, `all_stored`, `whole_stored`. Read: `so_far`, `so_far_none`,
+-- `so_far_more`, `so_far_all`, `so_far_small`.
+use Rattle.std.proofs.Common.{◌≡◌, ℕ, ◌+◌, ◌-◌, ◌*◌, ◌^◌, ◌<◌, ◌≤◌, Bool, true, false, List, [], length, cond, inl, inr}
+use Rattle.std.proofs.Common.{get_or, take, drop, reverse, ℤ, sym, refl, ap, ap₂, ◌∙◌, arith, length-set, length-take}
+use Rattle.std.proofs.Common.{get_or-set_same, get_or-set_other, pow_mono}
+use Rattle.std.specs.Prelude.{slice_set}
 use Rattle.std.specs.List.{range_with_len}
-use Rattle.std.proofs.lemmas.List.{take_all, drop_all, get_or-map, get_or-reverse, length-reverse}
+use Rattle.std.proofs.lemmas.Bool.{cases_eq}
+use Rattle.std.proofs.lemmas.List.{take_all, drop_all, get_or-map, get_or-reverse, length-reverse, places, same_lists}
 use Rattle.std.proofs.lemmas.List.{length-drop}
 use Rattle.std.proofs.lemmas.List.FromFn.{length-range_with_len, get_or-range_with_len, get_or-map-range_with_len}
 use mir.Val.{bool_byte}
-use Rattle.bit_addressing.specs.Memory.{Reading, memory, piece, Overwrites}
-use Rattle.bit_slice_changes.proofs.ListLemmas.{overwritten_list}
+use Rattle.bit_addressing.specs.Memory.{with_piece}
 use Rattle.bit_table_layout.specs.declared.layout.Rule.{Rule}
 use Rattle.bit_table_layout.specs.declared.layout.Rule.TheVariants.{Low, High}
 use Rattle.bit_table_layout.specs.Digits.{has_digit, binary}
@@ -37,14 +39,46 @@ get_or-field_bits High n v i low =
     ∙ omega arith in
     get_or-map (has_digit v) (reverse places) i 0 false inside ∙ ap (has_digit v) place
 
--- a window whose bits were all made digits is the field
-pub stored_field : {R : Type 0} (reading : Reading R) (before after : List R) (place n : ℕ) (rule : Rule) (v : ℤ)
-    → 0 < reading.bits → place + n ≤ length before * reading.bits
-    → Overwrites reading before after place n (λ k. has_digit v (digit_place rule n k))
-    → piece (memory reading after) place n ≡ field_bits rule n v
-stored_field reading before after place n rule v some fits is =
-    overwritten_list reading before after place n some fits (λ k. has_digit v (digit_place rule n k))
-    (field_bits rule n v) (length-field_bits rule n v) (λ k low. sym (get_or-field_bits rule n v k low)) is
+-- nothing written
+pub none_written : (xs : List Bool) (a : ℕ) → a ≤ length xs → with_piece xs a [] ≡ xs
+unfolding with_piece
+none_written xs a within = same_lists _ _ (grind (arith, places)) (λ k d h. grind (arith, places))
+
+-- one bit more of a list written over another
+written_more : (xs ys : List Bool) (a k : ℕ) → a + length ys ≤ length xs → k < length ys
+    → slice_set (with_piece xs a (take k ys)) (a + k) (get_or ys k false) ≡ with_piece xs a (take (k + 1) ys)
+unfolding with_piece
+written_more xs ys a k fits low =
+    let now = with_piece xs a (take k ys) in
+    let bit = get_or ys k false in
+    same_lists _ _ (grind (arith, places, length-set now (a + k) bit)) (λ j d h. elim (cases_eq j (a + k)) [
+      | inl same ↦ rw same (grind (arith, places, get_or-set_same now (a + k) bit d))
+      | inr other ↦ grind (arith, places, get_or-set_other now (a + k) j bit d other)
+    ])
+
+-- one digit more stored
+pub digit_stored : (rule : Rule) (n : ℕ) (v : ℤ) (a k : ℕ) (old now new : List Bool) (bit : Bool) → k < n
+    → a + n ≤ length old → now ≡ with_piece old a (take k (field_bits rule n v))
+    → bit ≡ has_digit v (digit_place rule n k) → new ≡ slice_set now (a + k) bit
+    → new ≡ with_piece old a (take (k + 1) (field_bits rule n v))
+digit_stored rule n v a k old now new bit low fits before is wrote =
+    let ys = field_bits rule n v in
+    let size = length-field_bits rule n v in
+    wrote
+    ∙ ap₂ (λ xs b. slice_set xs (a + k) b) before (is ∙ sym (get_or-field_bits rule n v k low))
+    ∙ written_more old ys a k (omega arith) (omega arith)
+
+-- a number stored in all bits of a list
+pub whole_stored : (rule : Rule) (n : ℕ) (v : ℤ) (xs : List Bool) → n ≡ length xs
+    → with_piece xs 0 (field_bits rule n v) ≡ field_bits rule (length xs) v
+unfolding with_piece
+whole_stored rule n v xs all =
+    let size = length-field_bits rule n v in
+    same_lists _ _ (grind (arith, places)) (λ k d h. grind (arith, places)) ∙ ap (λ m. field_bits rule m v) all
+
+-- all digits stored
+pub all_stored : (rule : Rule) (n : ℕ) (v : ℤ) (k : ℕ) → k ≡ n → take k (field_bits rule n v) ≡ field_bits rule n v
+all_stored rule n v k all = take_all k (field_bits rule n v) (omega (arith, length-field_bits rule n v))
 
 -- ---- read
 

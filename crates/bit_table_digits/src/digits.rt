@@ -4,10 +4,9 @@
 //! functions of the same names in `digits_by_bits`. Users make the calls over windows.
 
 ghost use Rattle.std.specs.Prelude.{◌≡◌, ℕ, ◌+◌, ◌*◌, ◌^◌, ◌<◌, ◌≤◌, Bool, true, false, length};
-ghost use Rattle.bit_addressing.specs.Memory.{memory, piece, read_by};
+ghost use Rattle.bit_addressing.specs.Memory.{memory, piece, read_by, with_piece};
 ghost use Rattle.bit_slice_paths.specs.Steps.{Takes};
 ghost use Rattle.bit_slice_views.specs.View.{view_bits, view_head};
-ghost use Rattle.bit_slice_writes.specs.Frame.{KeepsBeside};
 ghost use Rattle.bit_table_digits.specs.Windows.{most_for, number_held};
 ghost use Rattle.bit_table_layout.specs.Rows.{field_bits};
 ghost use Rattle.bit_table_layout.specs.declared.layout.Rule.TheVariants.{Low, High};
@@ -18,7 +17,6 @@ use bit_addressing::{BitOrder, BitRegister, Lsb0, Msb0};
 use bit_slice_paths::Steps;
 use bit_slice_views::{BitSlice, Bits};
 use bit_slice_writes::BitsMut;
-use std::mem;
 
 /// What an order does to move a number into a window and back: the digits lie in it from the lowest on, or from the
 /// highest on. A window has 1 to 64 bits, whatever the words and wherever it begins.
@@ -47,17 +45,22 @@ pub trait Digits<R: BitRegister>: BitOrder<R> {
             (piece (memory (read_by R.BitRegister Self.position) words.now) place width) }
         ensures steps { Takes steps.old steps.new 1 (most_for LOW_WORDS R.BITS place width) };
 
-    /// Makes the `width` bits from `place` on digits of a number, the lowest first: its `width` lowest. Every other
-    /// bit of the words stays.
-    fn store_low_at(words: &mut [R], place: usize, width: u32, value: i128, steps: &mut Steps)
+    /// Makes the `width` bits from `at` on digits of a number, the lowest first: its `width` lowest. Every other bit
+    /// stays. A number has 1 to 64 bits.
+    fn store_low_at<V: BitsMut<Store = R, Order = Self>>(
+        view: &mut V,
+        at: usize,
+        width: u32,
+        value: i128,
+        steps: &mut Steps,
+    )
         requires some { 1 ≤ width }
         requires narrow { width ≤ 64 }
-        requires within { place + width ≤ length words.old * R.BITS }
-        requires ends { place + width < 2 ^ 64 }
-        ensures list { piece (memory (read_by R.BitRegister Self.position) words.new) place width
-            ≡ field_bits Low width value }
-        ensures beside { KeepsBeside (read_by R.BitRegister Self.position) words.old words.new place width }
-        ensures steps { Takes steps.old steps.new 1 (most_for LOW_WORDS R.BITS place width) };
+        requires within { at + width ≤ length (V.bits view.old) }
+        ensures bits { V.bits view.new ≡ with_piece (V.bits view.old) at (field_bits Low width value) }
+        ensures len { length (V.bits view.new) ≡ length (V.bits view.old) }
+        ensures frame { V.frame view.new ≡ V.frame view.old }
+        ensures steps { Takes steps.old steps.new 1 (most_for LOW_WORDS R.BITS (V.place view.old + at) width) };
 
     /// The number whose digits the `width` bits from `place` on hold, the highest first. Where `signed`, the highest
     /// digit is the sign's.
@@ -70,17 +73,22 @@ pub trait Digits<R: BitRegister>: BitOrder<R> {
             (piece (memory (read_by R.BitRegister Self.position) words.now) place width) }
         ensures steps { Takes steps.old steps.new 1 (most_for HIGH_WORDS R.BITS place width) };
 
-    /// Makes the `width` bits from `place` on digits of a number, the highest first: its `width` lowest. Every other
-    /// bit of the words stays.
-    fn store_high_at(words: &mut [R], place: usize, width: u32, value: i128, steps: &mut Steps)
+    /// Makes the `width` bits from `at` on digits of a number, the highest first: its `width` lowest. Every other bit
+    /// stays. A number has 1 to 64 bits.
+    fn store_high_at<V: BitsMut<Store = R, Order = Self>>(
+        view: &mut V,
+        at: usize,
+        width: u32,
+        value: i128,
+        steps: &mut Steps,
+    )
         requires some { 1 ≤ width }
         requires narrow { width ≤ 64 }
-        requires within { place + width ≤ length words.old * R.BITS }
-        requires ends { place + width < 2 ^ 64 }
-        ensures list { piece (memory (read_by R.BitRegister Self.position) words.new) place width
-            ≡ field_bits High width value }
-        ensures beside { KeepsBeside (read_by R.BitRegister Self.position) words.old words.new place width }
-        ensures steps { Takes steps.old steps.new 1 (most_for HIGH_WORDS R.BITS place width) };
+        requires within { at + width ≤ length (V.bits view.old) }
+        ensures bits { V.bits view.new ≡ with_piece (V.bits view.old) at (field_bits High width value) }
+        ensures len { length (V.bits view.new) ≡ length (V.bits view.old) }
+        ensures frame { V.frame view.new ≡ V.frame view.old }
+        ensures steps { Takes steps.old steps.new 1 (most_for HIGH_WORDS R.BITS (V.place view.old + at) width) };
 
     /// The number whose digits a window of 1 to 64 bits holds, the lowest first. Where `signed`, the highest digit is
     /// the sign's.
@@ -99,7 +107,6 @@ pub trait Digits<R: BitRegister>: BitOrder<R> {
 
     /// Makes the bits of a window of 1 to 64 bits digits of a number, the lowest first: as many of its lowest. Every
     /// bit beside the window stays.
-    #[tactic(auto, using(bit_slice_writes::proofs::FrameLemmas::frames))]
     final fn store_low<V: BitsMut<Store = R, Order = Self>>(
         view: &mut V,
         value: i128,
@@ -113,10 +120,8 @@ pub trait Digits<R: BitRegister>: BitOrder<R> {
         ensures steps { Takes steps.old steps.new 1 (most_for LOW_WORDS R.BITS (V.place view.old)
             (length (V.bits view.old))) }
     {
-        let place = view.first_place();
         let width = view.len() as u32;
-        let counted = mem::replace(steps, Steps::new());
-        *steps = view.write(|words| low_stored::<R, Self>(words, place, width, value, counted));
+        Self::store_low_at::<V>(view, 0, width, value, steps);
     }
 
     /// The number whose digits a window of 1 to 64 bits holds, the highest first. Where `signed`, the highest digit is
@@ -136,7 +141,6 @@ pub trait Digits<R: BitRegister>: BitOrder<R> {
 
     /// Makes the bits of a window of 1 to 64 bits digits of a number, the highest first: as many of its lowest. Every
     /// bit beside the window stays.
-    #[tactic(auto, using(bit_slice_writes::proofs::FrameLemmas::frames))]
     final fn store_high<V: BitsMut<Store = R, Order = Self>>(
         view: &mut V,
         value: i128,
@@ -150,55 +154,9 @@ pub trait Digits<R: BitRegister>: BitOrder<R> {
         ensures steps { Takes steps.old steps.new 1 (most_for HIGH_WORDS R.BITS (V.place view.old)
             (length (V.bits view.old))) }
     {
-        let place = view.first_place();
         let width = view.len() as u32;
-        let counted = mem::replace(steps, Steps::new());
-        *steps = view.write(|words| high_stored::<R, Self>(words, place, width, value, counted));
+        Self::store_high_at::<V>(view, 0, width, value, steps);
     }
-}
-
-// `Digits::store_low_at` with a count that is handed in and back.
-fn low_stored<R: BitRegister, O: Digits<R>>(
-    words: &mut [R],
-    place: usize,
-    width: u32,
-    value: i128,
-    counted: Steps,
-) -> Steps
-    requires some { 1 ≤ width }
-    requires narrow { width ≤ 64 }
-    requires within { place + width ≤ length words.old * R.BITS }
-    requires ends { place + width < 2 ^ 64 }
-    ensures list { piece (memory (read_by R.BitRegister O.position) words.new) place width
-        ≡ field_bits Low width value }
-    ensures beside { KeepsBeside (read_by R.BitRegister O.position) words.old words.new place width }
-    ensures steps { Takes counted result 1 (most_for O.LOW_WORDS R.BITS place width) }
-{
-    let mut steps = counted;
-    O::store_low_at(words, place, width, value, &mut steps);
-    steps
-}
-
-// `Digits::store_high_at` with a count that is handed in and back.
-fn high_stored<R: BitRegister, O: Digits<R>>(
-    words: &mut [R],
-    place: usize,
-    width: u32,
-    value: i128,
-    counted: Steps,
-) -> Steps
-    requires some { 1 ≤ width }
-    requires narrow { width ≤ 64 }
-    requires within { place + width ≤ length words.old * R.BITS }
-    requires ends { place + width < 2 ^ 64 }
-    ensures list { piece (memory (read_by R.BitRegister O.position) words.new) place width
-        ≡ field_bits High width value }
-    ensures beside { KeepsBeside (read_by R.BitRegister O.position) words.old words.new place width }
-    ensures steps { Takes counted result 1 (most_for O.HIGH_WORDS R.BITS place width) }
-{
-    let mut steps = counted;
-    O::store_high_at(words, place, width, value, &mut steps);
-    steps
 }
 
 impl<R: BitRegister> Digits<R> for Lsb0 {
@@ -224,12 +182,24 @@ impl<R: BitRegister> Digits<R> for Lsb0 {
         digits_by_bits::load_high_at::<R, Lsb0>(words, place, width, signed, steps)
     }
 
-    fn store_low_at(words: &mut [R], place: usize, width: u32, value: i128, steps: &mut Steps) {
-        digits_by_bits::store_low_at::<R, Lsb0>(words, place, width, value, steps);
+    fn store_low_at<V: BitsMut<Store = R, Order = Lsb0>>(
+        view: &mut V,
+        at: usize,
+        width: u32,
+        value: i128,
+        steps: &mut Steps,
+    ) {
+        digits_by_bits::store_low_at::<V>(view, at, width, value, steps);
     }
 
-    fn store_high_at(words: &mut [R], place: usize, width: u32, value: i128, steps: &mut Steps) {
-        digits_by_bits::store_high_at::<R, Lsb0>(words, place, width, value, steps);
+    fn store_high_at<V: BitsMut<Store = R, Order = Lsb0>>(
+        view: &mut V,
+        at: usize,
+        width: u32,
+        value: i128,
+        steps: &mut Steps,
+    ) {
+        digits_by_bits::store_high_at::<V>(view, at, width, value, steps);
     }
 }
 
@@ -256,12 +226,24 @@ impl<R: BitRegister> Digits<R> for Msb0 {
         digits_by_bits::load_high_at::<R, Msb0>(words, place, width, signed, steps)
     }
 
-    fn store_low_at(words: &mut [R], place: usize, width: u32, value: i128, steps: &mut Steps) {
-        digits_by_bits::store_low_at::<R, Msb0>(words, place, width, value, steps);
+    fn store_low_at<V: BitsMut<Store = R, Order = Msb0>>(
+        view: &mut V,
+        at: usize,
+        width: u32,
+        value: i128,
+        steps: &mut Steps,
+    ) {
+        digits_by_bits::store_low_at::<V>(view, at, width, value, steps);
     }
 
-    fn store_high_at(words: &mut [R], place: usize, width: u32, value: i128, steps: &mut Steps) {
-        digits_by_bits::store_high_at::<R, Msb0>(words, place, width, value, steps);
+    fn store_high_at<V: BitsMut<Store = R, Order = Msb0>>(
+        view: &mut V,
+        at: usize,
+        width: u32,
+        value: i128,
+        steps: &mut Steps,
+    ) {
+        digits_by_bits::store_high_at::<V>(view, at, width, value, steps);
     }
 }
 
@@ -288,11 +270,23 @@ impl<R: BitRegister> Digits<R> for HiLo {
         digits_by_bits::load_high_at::<R, HiLo>(words, place, width, signed, steps)
     }
 
-    fn store_low_at(words: &mut [R], place: usize, width: u32, value: i128, steps: &mut Steps) {
-        digits_by_bits::store_low_at::<R, HiLo>(words, place, width, value, steps);
+    fn store_low_at<V: BitsMut<Store = R, Order = HiLo>>(
+        view: &mut V,
+        at: usize,
+        width: u32,
+        value: i128,
+        steps: &mut Steps,
+    ) {
+        digits_by_bits::store_low_at::<V>(view, at, width, value, steps);
     }
 
-    fn store_high_at(words: &mut [R], place: usize, width: u32, value: i128, steps: &mut Steps) {
-        digits_by_bits::store_high_at::<R, HiLo>(words, place, width, value, steps);
+    fn store_high_at<V: BitsMut<Store = R, Order = HiLo>>(
+        view: &mut V,
+        at: usize,
+        width: u32,
+        value: i128,
+        steps: &mut Steps,
+    ) {
+        digits_by_bits::store_high_at::<V>(view, at, width, value, steps);
     }
 }

@@ -1,9 +1,8 @@
 //! Numbers in windows bit by bit, one step a bit: what an order calls whose two constants of `Digits` are false.
 
-ghost use Rattle.std.specs.Prelude.{◌≡◌, ℕ, ◌+◌, ◌-◌, ◌*◌, ◌^◌, ◌<◌, ◌≤◌, length};
-ghost use Rattle.bit_addressing.specs.Memory.{memory, piece, read_by, Overwrites};
+ghost use Rattle.std.specs.Prelude.{◌≡◌, ◌+◌, ◌-◌, ◌*◌, ◌^◌, ◌<◌, ◌≤◌, length};
+ghost use Rattle.bit_addressing.specs.Memory.{memory, piece, read_by, with_piece};
 ghost use Rattle.bit_slice_paths.specs.Steps.{Takes};
-ghost use Rattle.bit_slice_writes.specs.Frame.{KeepsBeside};
 ghost use Rattle.bit_table_digits.specs.Places.{digit_place};
 ghost use Rattle.bit_table_digits.specs.Windows.{number_held};
 ghost use Rattle.bit_table_layout.specs.Digits.{has_digit};
@@ -11,8 +10,10 @@ ghost use Rattle.bit_table_layout.specs.Readings.{number_from_digits};
 ghost use Rattle.bit_table_layout.specs.Rows.{field_bits};
 ghost use Rattle.bit_table_layout.specs.declared.layout.Rule.TheVariants.{Low, High};
 
-use bit_addressing::{BitOrder, BitRegister, read_entry, write_entry};
+use bit_addressing::{BitOrder, BitRegister};
 use bit_slice_paths::Steps;
+use bit_slice_views::{BitSlice, Bits};
+use bit_slice_writes::BitsMut;
 use bit_table_layout::Rule;
 
 /// `Digits::load_low_at`, a step a bit.
@@ -26,12 +27,12 @@ pub fn load_low_at<R: BitRegister, O: BitOrder<R>>(
     requires some { 1 ≤ width }
     requires narrow { width ≤ 64 }
     requires within { place + width ≤ length words.now * R.BITS }
-    requires ends { place + width < 2 ^ 64 }
     ensures value { result ≡ number_held Low signed width
         (piece (memory (read_by R.BitRegister O.position) words.now) place width) }
     ensures steps { Takes steps.old steps.new width width }
 {
-    load::<R, O>(Rule::Low, words, place, width, signed, steps)
+    let view = BitSlice::<R, O>::from_place(words, place, width as usize);
+    load(Rule::Low, &view, signed, steps)
 }
 
 /// `Digits::load_high_at`, a step a bit.
@@ -45,52 +46,42 @@ pub fn load_high_at<R: BitRegister, O: BitOrder<R>>(
     requires some { 1 ≤ width }
     requires narrow { width ≤ 64 }
     requires within { place + width ≤ length words.now * R.BITS }
-    requires ends { place + width < 2 ^ 64 }
     ensures value { result ≡ number_held High signed width
         (piece (memory (read_by R.BitRegister O.position) words.now) place width) }
     ensures steps { Takes steps.old steps.new width width }
 {
-    load::<R, O>(Rule::High, words, place, width, signed, steps)
+    let view = BitSlice::<R, O>::from_place(words, place, width as usize);
+    load(Rule::High, &view, signed, steps)
 }
 
 /// `Digits::store_low_at`, a step a bit.
-pub fn store_low_at<R: BitRegister, O: BitOrder<R>>(
-    words: &mut [R],
-    place: usize,
-    width: u32,
-    value: i128,
-    steps: &mut Steps,
-)
-    requires some { 1 ≤ width }
+pub fn store_low_at<V: BitsMut>(view: &mut V, at: usize, width: u32, value: i128, steps: &mut Steps)
     requires narrow { width ≤ 64 }
-    requires within { place + width ≤ length words.old * R.BITS }
-    requires ends { place + width < 2 ^ 64 }
-    ensures list { piece (memory (read_by R.BitRegister O.position) words.new) place width
-        ≡ field_bits Low width value }
-    ensures beside { KeepsBeside (read_by R.BitRegister O.position) words.old words.new place width }
+    requires within { at + width ≤ length (V.bits view.old) }
+    ensures bits { V.bits view.new ≡ with_piece (V.bits view.old) at (field_bits Low width value) }
+    ensures len { length (V.bits view.new) ≡ length (V.bits view.old) }
+    ensures frame { V.frame view.new ≡ V.frame view.old }
     ensures steps { Takes steps.old steps.new width width }
 {
-    store::<R, O>(Rule::Low, words, place, width, value, steps);
+    store(Rule::Low, view, at, width, value, steps);
 }
 
 /// `Digits::store_high_at`, a step a bit.
-pub fn store_high_at<R: BitRegister, O: BitOrder<R>>(
-    words: &mut [R],
-    place: usize,
+pub fn store_high_at<V: BitsMut>(
+    view: &mut V,
+    at: usize,
     width: u32,
     value: i128,
     steps: &mut Steps,
 )
-    requires some { 1 ≤ width }
     requires narrow { width ≤ 64 }
-    requires within { place + width ≤ length words.old * R.BITS }
-    requires ends { place + width < 2 ^ 64 }
-    ensures list { piece (memory (read_by R.BitRegister O.position) words.new) place width
-        ≡ field_bits High width value }
-    ensures beside { KeepsBeside (read_by R.BitRegister O.position) words.old words.new place width }
+    requires within { at + width ≤ length (V.bits view.old) }
+    ensures bits { V.bits view.new ≡ with_piece (V.bits view.old) at (field_bits High width value) }
+    ensures len { length (V.bits view.new) ≡ length (V.bits view.old) }
+    ensures frame { V.frame view.new ≡ V.frame view.old }
     ensures steps { Takes steps.old steps.new width width }
 {
-    store::<R, O>(Rule::High, words, place, width, value, steps);
+    store(Rule::High, view, at, width, value, steps);
 }
 
 // The digit of a field that is bit `index` of it, and the bit that is digit `index`.
@@ -127,73 +118,44 @@ fn number_of(digits: u128, width: u32, signed: bool) -> i128
     }
 }
 
-// The number that a window holds, from its highest digit on.
-fn load<R: BitRegister, O: BitOrder<R>>(
-    rule: Rule,
-    words: &[R],
-    place: usize,
-    width: u32,
-    signed: bool,
-    steps: &mut Steps,
-) -> i128
-    requires some { 1 ≤ width }
-    requires narrow { width ≤ 64 }
-    requires within { place + width ≤ length words.now * R.BITS }
-    requires ends { place + width < 2 ^ 64 }
-    ensures value { result ≡ number_held rule signed width
-        (piece (memory (read_by R.BitRegister O.position) words.now) place width) }
-    ensures steps { Takes steps.old steps.new width width }
+// The number that a list holds, from its highest digit on.
+fn load<V: Bits>(rule: Rule, view: &V, signed: bool, steps: &mut Steps) -> i128
+    requires some { 1 ≤ length (V.bits view.now) }
+    requires narrow { length (V.bits view.now) ≤ 64 }
+    ensures value { result ≡ number_held rule signed (length (V.bits view.now)) (V.bits view.now) }
+    ensures steps { Takes steps.old steps.new (length (V.bits view.now)) (length (V.bits view.now)) }
 {
+    let width = view.len() as u32;
     let mut digits = 0u128;
     for k in 0..width {
         let index = place_of(rule, width, width - 1 - k);
-        let bit = read_entry::<R, O>(words, place + index as usize);
-        digits = 2 * digits + u128::from(bit);
+        digits = 2 * digits + u128::from(view.bit(index as usize));
         steps.step();
     }
     number_of(digits, width, signed)
 }
 
-// Makes each bit of a window the digit that stands there.
-fn put_digits<R: BitRegister, O: BitOrder<R>>(
+// Makes each of the bits from `at` on the digit that stands there.
+fn store<V: BitsMut>(
     rule: Rule,
-    words: &mut [R],
-    place: usize,
+    view: &mut V,
+    at: usize,
     width: u32,
     value: i128,
     steps: &mut Steps,
 )
     requires narrow { width ≤ 64 }
-    requires within { place + width ≤ length words.old * R.BITS }
-    requires ends { place + width < 2 ^ 64 }
-    ensures stored { Overwrites (read_by R.BitRegister O.position) words.old words.new place width
-        (λ k. has_digit value (digit_place rule width k)) }
+    requires within { at + width ≤ length (V.bits view.old) }
+    ensures bits { V.bits view.new ≡ with_piece (V.bits view.old) at (field_bits rule width value) }
+    ensures len { length (V.bits view.new) ≡ length (V.bits view.old) }
+    ensures frame { V.frame view.new ≡ V.frame view.old }
     ensures steps { Takes steps.old steps.new width width }
 {
+    // As many bits as a `usize` counts, and so each digit's place is one.
+    let _bits = view.len();
     for k in 0..width {
         let bit = digit_at(value, place_of(rule, width, k));
-        write_entry::<R, O>(words, place + k as usize, bit);
+        view.set(at + k as usize, bit);
         steps.step();
     }
-}
-
-// The same, said by the list.
-#[tactic(auto, using(bit_slice_writes::proofs::FrameLemmas::overwritten_beside))]
-fn store<R: BitRegister, O: BitOrder<R>>(
-    rule: Rule,
-    words: &mut [R],
-    place: usize,
-    width: u32,
-    value: i128,
-    steps: &mut Steps,
-)
-    requires narrow { width ≤ 64 }
-    requires within { place + width ≤ length words.old * R.BITS }
-    requires ends { place + width < 2 ^ 64 }
-    ensures list { piece (memory (read_by R.BitRegister O.position) words.new) place width
-        ≡ field_bits rule width value }
-    ensures beside { KeepsBeside (read_by R.BitRegister O.position) words.old words.new place width }
-    ensures steps { Takes steps.old steps.new width width }
-{
-    put_digits::<R, O>(rule, words, place, width, value, steps);
 }

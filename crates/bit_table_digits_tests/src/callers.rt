@@ -1,7 +1,7 @@
 //! What a user of `Digits` proves from its contracts alone.
 
 ghost use Rattle.std.specs.Prelude.{◌≡◌, ℕ, ◌+◌, ◌-◌, ◌*◌, ◌^◌, ◌<◌, ◌≤◌, true, length};
-ghost use Rattle.bit_addressing.specs.Memory.{memory, piece, read_by};
+ghost use Rattle.bit_addressing.specs.Memory.{memory, piece, read_by, with_piece};
 ghost use Rattle.bit_slice_writes.specs.Frame.{KeepsBeside};
 ghost use Rattle.bit_table_digits.specs.Windows.{is_held};
 ghost use Rattle.bit_table_layout.specs.Rows.{field_bits};
@@ -55,30 +55,32 @@ fn back_high<R: BitRegister, O: Digits<R>, V: BitsMut<Store = R, Order = O>>(
     O::load_high(view.as_bitslice(), signed, &mut steps)
 }
 
-// Stores a number in words from a place on and loads it again, in no more than two steps a bit.
+// Stores a number in a part of a list and loads it again: it is the same one.
 #[tactic(auto, using(bit_table_digits::proofs::CallerLemmas::held_back))]
-fn back_at<R: BitRegister, O: Digits<R>>(
-    words: &mut [R],
-    place: usize,
+fn back_at<R: BitRegister, O: Digits<R>, V: BitsMut<Store = R, Order = O>>(
+    view: &mut V,
+    at: usize,
     width: u32,
     value: i128,
 ) -> i128
     requires some { 1 ≤ width }
     requires narrow { width ≤ 64 }
-    requires within { place + width ≤ length words.old * R.BITS }
-    requires ends { place + width < 2 ^ 64 }
+    requires within { at + width ≤ length (V.bits view.old) }
     requires held { is_held true width value ≡ true }
     ensures same { result ≡ value }
-    ensures list { piece (memory (read_by R.BitRegister O.position) words.new) place width
-        ≡ field_bits Low width value }
-    ensures beside { KeepsBeside (read_by R.BitRegister O.position) words.old words.new place width }
+    ensures bits { V.bits view.new ≡ with_piece (V.bits view.old) at (field_bits Low width value) }
+    ensures frame { V.frame view.new ≡ V.frame view.old }
 {
     let mut steps = Steps::new();
-    O::store_low_at(words, place, width, value, &mut steps);
-    O::load_low_at(words, place, width, true, &mut steps)
+    O::store_low_at::<V>(view, at, width, value, &mut steps);
+    O::load_low(
+        view.as_bitslice().part(at, width as usize),
+        true,
+        &mut steps,
+    )
 }
 
-// The same in a window of one's own words.
+// Stores a number in a window of one's own words and loads it again.
 #[tactic(auto, using(bit_slice_writes::proofs::FrameLemmas::frames))]
 fn back_in<R: BitRegister, O: Digits<R>>(
     words: &mut [R],
@@ -100,14 +102,14 @@ fn back_in<R: BitRegister, O: Digits<R>>(
     back_high(&mut view, value, true)
 }
 
-// Twelve bits of three bytes, the lowest digit first.
+// Twelve bits of three bytes, the highest digit first.
 fn in_bytes(words: &mut [u8; 3], value: i128) -> i128
     requires held { is_held true 12 value ≡ true }
     ensures same { result ≡ value }
     ensures list { piece (memory (read_by ⟦<u8 as BitRegister>⟧ (⟦<Lsb0 as BitOrder<u8>>⟧.position)) words.new) 5 12
-        ≡ field_bits Low 12 value }
+        ≡ field_bits High 12 value }
 {
-    back_at::<u8, Lsb0>(words, 5, 12, value)
+    back_in::<u8, Lsb0>(words, 5, 12, value)
 }
 
 // Thirty-three bits of three words of 16, the highest digit first.
@@ -150,6 +152,8 @@ fn a_number_comes_back(rt: HostRuntime) {
     assert!(rt; in_words(&mut words, 0x7654_3210) == 0x7654_3210);
     let mut view = BitSliceMut::<u8, Lsb0>::from_place_mut(&mut bytes, 1, 7);
     assert!(rt; back_low(&mut view, 77, false) == 77);
+    let mut part = BitSliceMut::<u8, Lsb0>::from_place_mut(&mut bytes, 2, 20);
+    assert!(rt; back_at(&mut part, 3, 9, -200) == -200);
 }
 
 #[test]

@@ -7,6 +7,7 @@ use bit_addressing::{
     BitOrder, BitRegister, OrderCandidate, Positions, mask_from_at, select_from_at,
 };
 use bit_slice_paths::Steps;
+use bit_slice_writes::BitsMut;
 use bit_table_digits::{Digits, digits_by_bits};
 
 /// Goes by steps of three from position 1, round the word.
@@ -65,11 +66,23 @@ impl<R: BitRegister> Digits<R> for ThirdStep {
         digits_by_bits::load_high_at::<R, ThirdStep>(words, place, width, signed, steps)
     }
 
-    fn store_low_at(words: &mut [R], place: usize, width: u32, value: i128, steps: &mut Steps) {
-        digits_by_bits::store_low_at::<R, ThirdStep>(words, place, width, value, steps);
+    fn store_low_at<V: BitsMut<Store = R, Order = ThirdStep>>(
+        view: &mut V,
+        at: usize,
+        width: u32,
+        value: i128,
+        steps: &mut Steps,
+    ) {
+        digits_by_bits::store_low_at::<V>(view, at, width, value, steps);
     }
 
-    fn store_high_at(words: &mut [R], place: usize, width: u32, value: i128, steps: &mut Steps) {
-        digits_by_bits::store_high_at::<R, ThirdStep>(words, place, width, value, steps);
+    fn store_high_at<V: BitsMut<Store = R, Order = ThirdStep>>(
+        view: &mut V,
+        at: usize,
+        width: u32,
+        value: i128,
+        steps: &mut Steps,
+    ) {
+        digits_by_bits::store_high_at::<V>(view, at, width, value, steps);
     }
 }

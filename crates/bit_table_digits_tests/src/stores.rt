@@ -31,6 +31,29 @@ fn store<R: BitRegister, O: Digits<R>>(
     steps.taken()
 }
 
+// The same bit by bit, inside a window that begins before the number, and answers how many steps that took.
+fn store_inside<R: BitRegister, O: Digits<R>>(
+    words: &mut [R; 24],
+    place: usize,
+    width: u32,
+    value: i128,
+    high: bool,
+) -> u64
+    requires place { place ≤ 16 }
+    requires narrow { width ≤ 64 }
+{
+    let first = place / 2;
+    let at = place - first;
+    let mut steps = Steps::new();
+    let mut view = BitSliceMut::<R, O>::from_place_mut(words, first, at + width as usize);
+    if high {
+        digits_by_bits::store_high_at(&mut view, at, width, value, &mut steps);
+    } else {
+        digits_by_bits::store_low_at(&mut view, at, width, value, &mut steps);
+    }
+    steps.taken()
+}
+
 // Whether a number is stored as the list says, and leaves the bits beside it.
 fn stores<R: BitRegister, O: Digits<R> + Plain>(
     words: &mut [R; 24],
@@ -68,19 +91,17 @@ fn stores_by_bits<R: BitRegister, O: Digits<R> + Plain>(
 {
     fill(words);
     let before = listed::<R, O>(words);
-    let mut steps = Steps::new();
-    digits_by_bits::store_low_at::<R, O>(words, place, width, value, &mut steps);
+    let low_steps = store_inside::<R, O>(words, place, width, value, false);
     let low = listed::<R, O>(words);
-    let first = steps.taken();
-    digits_by_bits::store_high_at::<R, O>(words, place, width, value, &mut steps);
+    let high_steps = store_inside::<R, O>(words, place, width, value, true);
     let high = listed::<R, O>(words);
     let wanted = lowest(value, width, false);
     number(&low, place, width, false, false) == wanted
         && number(&high, place, width, true, false) == wanted
         && beside(&before, &low, place, width)
         && beside(&before, &high, place, width)
-        && first == width as u64
-        && steps.taken() == 2 * width as u64
+        && low_steps == width as u64
+        && high_steps == width as u64
 }
 
 // Numbers of more digits than the fields have, below zero too, in fields of each width up to 16 at each head, and in

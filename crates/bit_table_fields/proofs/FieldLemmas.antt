@@ -45,11 +45,6 @@ pub written_behind : (xs ys zs : List Bool) (a b : ℕ) → b ≡ a + length ys 
 unfolding with_piece
 written_behind xs ys zs a b is fits = same_lists _ _ (grind (arith, places)) (λ k d h. grind (arith, places))
 
--- nothing written
-pub none_written : (xs : List Bool) (a : ℕ) → a ≤ length xs → with_piece xs a [] ≡ xs
-unfolding with_piece
-none_written xs a within = same_lists _ _ (grind (arith, places)) (λ k d h. grind (arith, places))
-
 -- one field more was stored
 pub stored_more : (rule : Rule) (fs : List FieldShape) (vs : List ℤ) (i a place w : ℕ) (v : ℤ) (f : FieldShape)
     (old now new : List Bool) → i < length fs → length vs ≡ length fs → w ≡ (get_or fs i f).width

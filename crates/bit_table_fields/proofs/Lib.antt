@@ -1,2 +1,1 @@
-pub mod WindowLemmas
 pub mod FieldLemmas

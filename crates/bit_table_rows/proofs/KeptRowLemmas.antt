@@ -2,7 +2,7 @@
 --
 -- Of n rows of w bits each, of any kind, what their bits are as rows: `rows_that_stay`. Of a window of words, what lies
 -- beside it: `kept_beside`.
-use Rattle.std.proofs.Common.{◌≡◌, ℕ, zero, suc, ◌+◌, ◌*◌, ◌<◌, ◌≤◌, ◌++◌, Bool, false, List, [], ◌∷◌, length, take}
+use Rattle.std.proofs.Common.{◌≡◌, ℕ, zero, suc, ◌*◌, ◌<◌, ◌≤◌, ◌++◌, Bool, false, List, [], ◌∷◌, length, take}
 use Rattle.std.proofs.Common.{add-one, ap, ap₂, arith, get_or, inl, inr, not, refl, subst, sym, ◌∙◌}
 use Rattle.std.proofs.lemmas.Bool.{cases_Bool}
 use Rattle.std.proofs.lemmas.List.{take_all}

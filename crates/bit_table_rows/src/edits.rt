@@ -8,9 +8,8 @@ ghost use Rattle.bit_table_moves.specs.RowMoves.{rows_moved};
 ghost use Rattle.bit_table_moves.specs.RowsKept.{rows_kept};
 ghost use Rattle.bit_table_rows.specs.RowEdits.{copied, exchanged, turned};
 
-use crate::windows::{
-    keep_window_rows, move_window_rows, swap_window_rows, turn_window, write_window,
-};
+use crate::windows::{keep_window_rows, move_window_rows};
+use bit_slice_edits::BitsEdits;
 use bit_slice_views::{BitSlice, Bits};
 use bit_slice_writes::BitsMut;
 
@@ -71,6 +70,7 @@ pub fn keep_rows_in<V: BitsMut>(
 }
 
 /// Writes a row over row `p` of `n` rows of `w` bits each.
+#[tactic(auto, using(crate::proofs::PlaceLemmas::row_places))]
 pub fn write_row<V: BitsMut, W: Bits>(view: &mut V, n: usize, w: usize, p: usize, row: &W)
     requires rows { length (V.bits view.old) ≡ n * w }
     requires within { p < n }
@@ -79,20 +79,9 @@ pub fn write_row<V: BitsMut, W: Bits>(view: &mut V, n: usize, w: usize, p: usize
     ensures len { length (V.bits view.new) ≡ length (V.bits view.old) }
     ensures frame { V.frame view.new ≡ V.frame view.old }
 {
-    let place = view.first_place();
-    let len = view.len();
-    let (others, head, _) = row.as_bitslice().parts();
-    view.write(|words| {
-        write_window::<V::Store, V::Order, W::Store, W::Order>(
-            words,
-            place,
-            len,
-            p * w,
-            others,
-            head as usize,
-            w,
-        )
-    });
+    // As many bits as a `usize` counts, and so each row's place is one.
+    let _bits = view.len();
+    view.write_part(p * w, row);
 }
 
 /// Copies the rows from `p` up to before `q`, as they were, over the rows from `r` on, of `n` rows of `w` bits each.
@@ -113,6 +102,7 @@ pub fn copy_rows<V: BitsMut>(view: &mut V, n: usize, w: usize, p: usize, q: usiz
 }
 
 /// Exchanges rows `p` and `q` of `n` rows of `w` bits each. They may be the same.
+#[tactic(auto, using(crate::proofs::PlaceLemmas::row_places))]
 pub fn swap_rows<V: BitsMut>(view: &mut V, n: usize, w: usize, p: usize, q: usize)
     requires rows { length (V.bits view.old) ≡ n * w }
     requires first { p < n }
@@ -121,13 +111,18 @@ pub fn swap_rows<V: BitsMut>(view: &mut V, n: usize, w: usize, p: usize, q: usiz
     ensures len { length (V.bits view.new) ≡ length (V.bits view.old) }
     ensures frame { V.frame view.new ≡ V.frame view.old }
 {
-    let place = view.first_place();
-    let len = view.len();
-    view.write(|words| swap_window_rows::<V::Store, V::Order>(words, place, len, p, q, w));
+    // As many bits as a `usize` counts, and so each row's place is one.
+    let _bits = view.len();
+    if p < q {
+        view.swap_parts(p * w, q * w, w);
+    } else if q < p {
+        view.swap_parts(q * w, p * w, w);
+    }
 }
 
 /// Turns the rows from `p` up to before `q` by `k` rows towards the first, of `n` rows of `w` bits each: the first `k`
 /// of them become the last.
+#[tactic(auto, using(crate::proofs::PlaceLemmas::row_places))]
 pub fn rotate_rows<V: BitsMut>(view: &mut V, n: usize, w: usize, p: usize, q: usize, k: usize)
     requires rows { length (V.bits view.old) ≡ n * w }
     requires order { p ≤ q }
@@ -137,10 +132,9 @@ pub fn rotate_rows<V: BitsMut>(view: &mut V, n: usize, w: usize, p: usize, q: us
     ensures len { length (V.bits view.new) ≡ length (V.bits view.old) }
     ensures frame { V.frame view.new ≡ V.frame view.old }
 {
-    let place = view.first_place();
-    let len = view.len();
+    // As many bits as a `usize` counts, and so each row's place is one.
+    let _bits = view.len();
     let first = p * w;
     let count = q * w - first;
-    let by = k * w;
-    view.write(|words| turn_window::<V::Store, V::Order>(words, place, len, first, count, by));
+    view.rotate_part(first, count, k * w);
 }

@@ -1,18 +1,15 @@
-//! Changes of a window of words: by its list, and by what stays beside it.
+//! Moves of rows by one sweep over the words of a window, whose writes are counted: by its list, and by what stays
+//! beside it.
 
 ghost use Rattle.std.specs.Prelude.{◌≡◌, ◌+◌, ◌-◌, ◌*◌, ◌^◌, ◌<◌, ◌≤◌, count_by, length, not};
-ghost use Rattle.bit_addressing.specs.Memory.{memory, piece, read_by, touched, with_piece};
+ghost use Rattle.bit_addressing.specs.Memory.{memory, piece, read_by, touched};
 ghost use Rattle.bit_addressing.specs.Moves.{changed};
 ghost use Rattle.bit_addressing_span.specs.declared.span.TheConstants.{MAX_BITS};
 ghost use Rattle.bit_slice_writes.specs.Frame.{KeepsBeside};
 ghost use Rattle.bit_table_moves.specs.RowMoves.{rows_moved};
 ghost use Rattle.bit_table_moves.specs.RowsKept.{rows_kept};
-ghost use Rattle.bit_table_rows.specs.RowEdits.{exchanged, turned};
 
-use bit_addressing::{
-    BitIdx, BitOrder, BitRegister, Sweep, Way, copy_between, swap_within, way_for,
-};
-use bit_slice_changes::rotate_left_in;
+use bit_addressing::{BitIdx, BitOrder, BitRegister, Sweep, Way, way_for};
 use bit_slice_views::BitSlice;
 use bit_table_moves::{keep_rows, move_rows};
 
@@ -75,70 +72,4 @@ pub(crate) fn keep_window_rows<R: BitRegister, O: BitOrder<R>>(
     let off = BitSlice::<R, O>::from_parts(flags, index, n);
     let kept = keep_rows::<R, O>(&mut sweep, head, n, w, off);
     (kept, sweep.writes())
-}
-
-// Writes bits of another memory over those of a window from `at` on.
-pub(crate) fn write_window<R: BitRegister, O: BitOrder<R>, Q: BitRegister, P: BitOrder<Q>>(
-    words: &mut [R],
-    place: usize,
-    all: usize,
-    at: usize,
-    others: &[Q],
-    source: usize,
-    len: usize,
-)
-    requires within { place + all ≤ length words.old * R.BITS }
-    requires ends { place + all < 2 ^ 64 }
-    requires target { at + len ≤ all }
-    requires source_within { source + len ≤ length others.now * Q.BITS }
-    ensures list { piece (memory (read_by R.BitRegister O.position) words.new) place all
-        ≡ with_piece (piece (memory (read_by R.BitRegister O.position) words.old) place all) at
-        (piece (memory (read_by Q.BitRegister P.position) others.now) source len) }
-    ensures beside { KeepsBeside (read_by R.BitRegister O.position) words.old words.new place all }
-{
-    copy_between::<Q, P, R, O>(others, source, words, place + at, len);
-}
-
-// Exchanges two rows of a window.
-pub(crate) fn swap_window_rows<R: BitRegister, O: BitOrder<R>>(
-    words: &mut [R],
-    place: usize,
-    all: usize,
-    p: usize,
-    q: usize,
-    w: usize,
-)
-    requires within { place + all ≤ length words.old * R.BITS }
-    requires ends { place + all < 2 ^ 64 }
-    requires first { p * w + w ≤ all }
-    requires second { q * w + w ≤ all }
-    ensures list { piece (memory (read_by R.BitRegister O.position) words.new) place all
-        ≡ exchanged (piece (memory (read_by R.BitRegister O.position) words.old) place all) (p * w) (q * w) w }
-    ensures beside { KeepsBeside (read_by R.BitRegister O.position) words.old words.new place all }
-{
-    if p < q {
-        swap_within::<R, O>(words, place + p * w, place + q * w, w);
-    } else if q < p {
-        swap_within::<R, O>(words, place + q * w, place + p * w, w);
-    }
-}
-
-// Turns `len` bits of a window, those from `from` on, by `by` places towards the first of them.
-pub(crate) fn turn_window<R: BitRegister, O: BitOrder<R>>(
-    words: &mut [R],
-    place: usize,
-    all: usize,
-    from: usize,
-    len: usize,
-    by: usize,
-)
-    requires within { place + all ≤ length words.old * R.BITS }
-    requires ends { place + all < 2 ^ 64 }
-    requires part { from + len ≤ all }
-    requires most { by ≤ len }
-    ensures list { piece (memory (read_by R.BitRegister O.position) words.new) place all
-        ≡ turned (piece (memory (read_by R.BitRegister O.position) words.old) place all) from (from + len) by }
-    ensures beside { KeepsBeside (read_by R.BitRegister O.position) words.old words.new place all }
-{
-    rotate_left_in::<R, O>(words, place + from, len, by);
 }

@@ -1,13 +1,10 @@
 use Rattle.std.proofs.Common.{◌≡◌}
-use Rattle.bit_addressing.specs.Memory.{memory, piece, read_by}
 use Rattle.bit_slice_paths.specs.Steps.{Takes}
 use Rattle.bit_table_digits.proofs.WindowLemmas.{so_far}
 use Rattle.bit_table_digits.proofs.digits_by_bits.load.Given as goal
 
 abbrev pub invariant-loop-k : goal.invariant-loop-k
-invariant-loop-k g l =
-    let held = memory (read_by g.R.BitRegister g.O.Positions.position) l.words in
-    record {
-      digits : l.digits ≡ so_far l.rule l.width (piece held l.place l.width) l.k;
-      steps : Takes l.fn.steps l.steps l.k l.k;
-    }
+invariant-loop-k g l = record {
+  digits : l.digits ≡ so_far l.rule l.width (g.V.Bits.bits l.view) l.k;
+  steps : Takes l.fn.steps l.steps l.k l.k;
+}

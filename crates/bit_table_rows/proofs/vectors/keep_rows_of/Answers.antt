@@ -1,4 +1,4 @@
-use Rattle.std.proofs.Common.{arith, ◌*◌, ◌≤◌, ◌≡◌, ◌∙◌, ap, length, not, take, ℕ}
+use Rattle.std.proofs.Common.{arith, ◌*◌, ◌≤◌, ◌∙◌, ap, length, not, take}
 use Rattle.std.proofs.lemmas.List.Sums.{count_by-le-length}
 use Rattle.bit_addressing.specs.Memory.{read_by}
 use Rattle.bit_containers_vector.specs.Vector.{vec_bits}

@@ -1,5 +1,4 @@
-use Rattle.std.proofs.Common.{arith, rules}
-use Rattle.std.proofs.lemmas.Grind.{common_steps}
+use Rattle.std.proofs.Common.{rules}
 use Rattle.bit_addressing.specs.Memory.{read_by}
 use Rattle.bit_addressing.specs.Sweep.{sweep_words}
 use Rattle.bit_slice_views.specs.View.{view_bits}

@@ -1,8 +1,8 @@
 use Rattle.std.proofs.Common.{◌+◌, ◌<◌, ℕ, arith, ap, refl, ◌∙◌}
 use Rattle.bit_addressing.specs.Memory.{memory, piece, read_by, with_piece, entry}
 use Rattle.bit_slice_changes.proofs.ListLemmas.{copied_list}
-use Rattle.bit_table_rows.proofs.EditLemmas.{window_part}
-use Rattle.bit_table_rows.proofs.windows.write_window.Goals as goal
+use Rattle.bit_slice_edits.proofs.PartLemmas.{window_part}
+use Rattle.bit_slice_edits.proofs.windows.write_window.Goals as goal
 
 pub returns-clause-list : goal.returns-clause-list
 returns-clause-list g c =

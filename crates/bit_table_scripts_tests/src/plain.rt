@@ -35,7 +35,7 @@ pub enum Refusal {
 }
 
 impl From<AllocError> for Refusal {
-    ghost use Rattle.bit_table_tests.specs.declared.plain.Refusal.TheVariants.{Memory};
+    ghost use Rattle.bit_table_scripts_tests.specs.declared.plain.Refusal.TheVariants.{Memory};
 
     ghost from_gives = { λ _ e. e ≡ Memory };
 
@@ -45,7 +45,7 @@ impl From<AllocError> for Refusal {
 }
 
 impl<T: Drop> From<AllocFailed<T>> for Refusal {
-    ghost use Rattle.bit_table_tests.specs.declared.plain.Refusal.TheVariants.{Memory};
+    ghost use Rattle.bit_table_scripts_tests.specs.declared.plain.Refusal.TheVariants.{Memory};
 
     ghost from_gives = { λ _ e. e ≡ Memory };
 

@@ -52,6 +52,18 @@ impl<T: BitStore, O: BitOrder<T>> BitVec<T, O> {
         self.as_bitslice()
     }
 
+    /// Another name of `as_mut_bitslice`.
+    pub fn as_mut_slice(&mut self) -> BitSliceMut<'_, T, O>
+        ensures bits { lent_bits (read_by T.BitRegister O.position) result
+            ≡ vec_bits (read_by T.BitRegister O.position) self.old }
+        ensures words { lent_words result ≡ visible (read_by T.BitRegister O.position) self.old }
+        ensures place { lent_place result ≡ vec_head self.old }
+        ensures* lends { sem 𝓛 (follows (the_row T.row O.row T.BitRegister) (Array T.row 0) self.entry.ghost_name
+            (lent_lender result) (with_words self.old)) }
+    {
+        self.as_mut_bitslice()
+    }
+
     /// Lends the visible words, swept in one way, to a function. The dead bits in them are lent too.
     pub fn sweep<F: FnOnce(&mut Sweep<'_, T>)>(&mut self, way: Way, f: F)
         requires callable { (s : _) → IsFresh s.now way

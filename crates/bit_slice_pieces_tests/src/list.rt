@@ -25,3 +25,8 @@ pub fn shows<V: Bits>(view: &V, start: usize, size: usize) -> bool {
     }
     true
 }
+
+/// Whether a bit is 1, wherever it stands.
+pub fn is_one(_index: usize, bit: &bool) -> bool {
+    *bit
+}

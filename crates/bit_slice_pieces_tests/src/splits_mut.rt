@@ -2,6 +2,7 @@
 
 ghost use Rattle.bit_slice_splits_mut.specs.SplitsMut.{parts_callee, LiesIn};
 
+use crate::list::is_one;
 use bit_addressing::{BitRegister, Lsb0};
 use bit_slice_samples::split_callers::{fill_between_ones, ones_by_runs};
 use bit_slice_splits::Way;
@@ -60,21 +61,21 @@ fn clears<V: BitsWindow, F: FnMut(usize, &bool) -> bool + Drop, A: Way>(
 // The lengths of the parts by each way to split, all filled.
 fn filled<V: BitsWindow>(view: &mut V, way: usize) -> usize {
     match way {
-        0 => fills(&mut view.split_mut(|_i, bit| *bit)),
-        1 => fills(&mut view.rsplit_mut(|_i, bit| *bit)),
-        2 => fills(&mut view.split_inclusive_mut(|_i, bit| *bit)),
-        3 => fills_back(&mut view.split_mut(|_i, bit| *bit)),
-        4 => fills_back(&mut view.rsplit_mut(|_i, bit| *bit)),
-        _ => fills_back(&mut view.split_inclusive_mut(|_i, bit| *bit)),
+        0 => fills(&mut view.split_mut(is_one)),
+        1 => fills(&mut view.rsplit_mut(is_one)),
+        2 => fills(&mut view.split_inclusive_mut(is_one)),
+        3 => fills_back(&mut view.split_mut(is_one)),
+        4 => fills_back(&mut view.rsplit_mut(is_one)),
+        _ => fills_back(&mut view.split_inclusive_mut(is_one)),
     }
 }
 
 // The lengths of at most so many parts, from the front or the back, all cleared.
 fn cleared<V: BitsWindow>(view: &mut V, count: usize, back: bool) -> usize {
     if back {
-        clears(&mut view.rsplitn_mut(count, |_i, bit| *bit))
+        clears(&mut view.rsplitn_mut(count, is_one))
     } else {
-        clears(&mut view.splitn_mut(count, |_i, bit| *bit))
+        clears(&mut view.splitn_mut(count, is_one))
     }
 }
 

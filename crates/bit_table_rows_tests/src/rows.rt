@@ -7,9 +7,7 @@ use bit_addressing::{BitOrder, Lsb0, Msb0};
 use bit_containers_vector::BitVec;
 use bit_slice_views::{BitSlice, Bits};
 use bit_slice_writes::BitSliceMut;
-use bit_table_rows::{
-    copy_rows, delete_rows, dup_rows, insert_row, move_rows_in, rotate_rows, swap_rows, write_row,
-};
+use bit_table_rows::{delete_rows, insert_row, move_rows_in, swap_rows, write_row};
 use std::alloc::{AllocError, Global};
 
 // The first `len` bits of some bytes.
@@ -67,51 +65,6 @@ fn the_first_row_goes(rt: HostRuntime) -> Result<(), AllocError> {
     assert!(rt; vector.len() == 21);
     let writes = delete_rows(&mut vector, 3, 7, 0, 1);
     assert!(rt; writes == 2 && has(vector, &[0x10, 0x8c]));
-    Ok(())
-}
-
-#[test]
-fn rows_turn_by_rows(rt: HostRuntime) -> Result<(), AllocError> {
-    let mut three = of::<Msb0>(rt.alloc(), &[0xbe, 0x21, 0x18], 21)?;
-    assert!(rt; three.len() == 21);
-    rotate_rows(&mut three, 3, 7, 0, 3, 1);
-    assert!(rt; three == of::<Msb0>(rt.alloc(), &[0x10, 0x8e, 0xf8], 21)?);
-    rotate_rows(&mut three, 3, 7, 0, 3, 2);
-    assert!(rt; has(three, &[0xbe, 0x21, 0x18]));
-    let mut two = of::<Msb0>(rt.alloc(), &[0xbe, 0x8c], 14)?;
-    assert!(rt; two.len() == 14);
-    rotate_rows(&mut two, 2, 7, 0, 2, 1);
-    assert!(rt; has(two, &[0x47, 0x7c]));
-    Ok(())
-}
-
-#[test]
-fn a_row_comes_once_more(rt: HostRuntime) -> Result<(), AllocError> {
-    let mut vector = of::<Msb0>(rt.alloc(), &[0xbe, 0x8c], 14)?;
-    assert!(rt; vector.len() == 14);
-    dup_rows(&mut vector, 2, 7, 0, 1)?;
-    assert!(rt; has(vector, &[0xbe, 0x8e, 0xf8]));
-    Ok(())
-}
-
-#[test]
-fn a_row_goes_over_another(rt: HostRuntime) -> Result<(), AllocError> {
-    let mut vector = of::<Msb0>(rt.alloc(), &[0xbe, 0x8c], 14)?;
-    assert!(rt; vector.len() == 14);
-    copy_rows(&mut vector, 2, 7, 0, 1, 1);
-    assert!(rt; has(vector, &[0xbf, 0x7c]));
-    Ok(())
-}
-
-#[test]
-fn rows_change_places(rt: HostRuntime) -> Result<(), AllocError> {
-    // 1 and 1, 5 and -1, 2 and 3, 5 and -1
-    let mut vector = of::<Msb0>(rt.alloc(), &[0x23, 0x7d, 0x1d, 0xf0], 28)?;
-    assert!(rt; vector.len() == 28);
-    swap_rows(&mut vector, 4, 7, 1, 2);
-    rotate_rows(&mut vector, 4, 7, 0, 4, 1);
-    copy_rows(&mut vector, 4, 7, 1, 2, 0);
-    assert!(rt; has(vector, &[0xbf, 0x7e, 0xf9, 0x10]));
     Ok(())
 }
 

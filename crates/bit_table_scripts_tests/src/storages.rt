@@ -15,13 +15,22 @@ use std::test::Fail;
 pub type Row = (&'static [u8], &'static [u8]);
 
 // Scripts with their answers, worked by hand. Two rows are 5 and -1, then 2 and 3.
-const ROWS: [Row; 19] = [
+const ROWS: [Row; 21] = [
     (b"", b""),
     (b" \n\t\n\r\n\n \t\r", b""),
     (
         b"insert 0 1\nlow\nlow a:u65\nlow a:u1 a:u1\nlow a:u01\nlow a:u1\nlow a:u1\n\xfe",
         b"refused layout\nrefused layout\nrefused layout\nrefused layout\nrefused layout\nok\nrefused form\n\
           refused form\n",
+    ),
+    (
+        b"high a:u1\nhigh a:u1\nlow a:u1\n",
+        b"ok\nrefused form\nrefused form\n",
+    ),
+    // a layout that is refused leaves the next line to be tried as one
+    (
+        b"low a:u01\nlow a:u3 b:u5\ninsert 0 5 17\nimage",
+        b"refused layout\nok\nok\n1 8d\n",
     ),
     // the first cause that holds is told
     (

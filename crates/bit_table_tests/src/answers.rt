@@ -1,5 +1,5 @@
-//! The text of answers and of faults.
-use bit_table::{Cause, Fault, ImageBytes, Reply, RunError};
+//! The texts of causes, of faults and of image bytes.
+use bit_table::{Cause, Fault, ImageBytes, RunError};
 use std::alloc::Global;
 use std::process::Abort;
 use std::test::Fail;
@@ -50,35 +50,6 @@ fn shows_faults(rt: HostRuntime) -> Result<(), Fail> {
         assert!(rt; format!(in rt.alloc(); "{error}")?.as_str() == text);
     }
     Ok(())
-}
-
-// The bytes and the answer line of an image of so many rows.
-fn check_image(
-    rt: &impl Abort,
-    alloc: Global,
-    rows: usize,
-    bytes: &[u8],
-    line: &[u8],
-) -> Result<(), Fail> {
-    let image = ImageBytes::new(Vec::from_slice(alloc, bytes)?);
-    assert!(rt; image.as_slice() == bytes);
-    let reply = Reply::Image { rows, bytes: image };
-    assert!(rt; reply.line(alloc)?.as_slice() == line);
-    Ok(())
-}
-
-#[test]
-fn writes_replies(rt: HostRuntime) -> Result<(), Fail> {
-    let alloc = rt.alloc();
-    assert!(rt; Reply::Done.line(alloc)?.as_slice() == b"ok\n".as_slice());
-    check_image(
-        &rt,
-        alloc,
-        2,
-        b"\x01\xfe".as_slice(),
-        b"2 01fe\n".as_slice(),
-    )?;
-    check_image(&rt, alloc, 0, b"".as_slice(), b"0\n".as_slice())
 }
 
 #[test]

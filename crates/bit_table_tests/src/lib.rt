@@ -6,8 +6,6 @@ mod answers;
 #[cfg(test)]
 mod calls;
 #[cfg(test)]
-mod commands;
-#[cfg(test)]
 mod image_lines;
 #[cfg(test)]
 mod layout_lines;

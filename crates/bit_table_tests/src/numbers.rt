@@ -1,5 +1,4 @@
 use bit_table::{is_number, number_up_to};
-use std::test::Fail;
 
 #[test]
 fn numbers_are_taken_by_value(rt: HostRuntime) {
@@ -20,17 +19,4 @@ fn numbers_are_taken_by_value(rt: HostRuntime) {
     for word in [b"".as_slice(), b"-1", b"+1", b"1a", b" 1", b"1_000"] {
         assert!(rt; !is_number(word), "at {word:?}");
     }
-}
-
-#[test]
-fn numbers_have_any_length(rt: HostRuntime) -> Result<(), Fail> {
-    let most = 1 << 100;
-    let nines = vec![in rt.alloc(); b'9'; 10_000]?;
-    assert!(rt; is_number(&nines));
-    assert!(rt; number_up_to(&nines, most) == most);
-    let mut one = vec![in rt.alloc(); b'0'; 10_000]?;
-    one.push(b'1')?;
-    assert!(rt; is_number(&one));
-    assert!(rt; number_up_to(&one, most) == 1);
-    Ok(())
 }

@@ -6,7 +6,7 @@ use bit_containers_vector::BitVec;
 use bit_slice_views::{BitSlice, Bits};
 use bit_slice_writes::BitSliceMut;
 use bit_table_digits::{Digits, HiLo};
-use bit_table_fields::{bits_before, load_number, load_row, store_number, store_row};
+use bit_table_fields::{bits_before, load_number, load_row, store_row};
 use bit_table_layout::{Layout, Rule};
 use std::alloc::{AllocError, Global};
 
@@ -91,45 +91,7 @@ fn two_rows_of_two_numbers(rt: HostRuntime) -> Result<(), AllocError> {
     Ok(())
 }
 
-#[test]
-fn numbers_as_wide_as_a_field_may_be(rt: HostRuntime) -> Result<(), AllocError> {
-    let least = [-9_223_372_036_854_775_808i128];
-    let bytes = [0x80u8, 0, 0, 0, 0, 0, 0, 0];
-    let line = b"high n:i64".as_slice();
-    assert!(rt; are_stored::<Msb0>(rt.alloc(), line, &[least.as_slice()], 0xff, &bytes)?);
-    let most = [7i128, 18_446_744_073_709_551_615];
-    let line = b"low p:u3 q:u64".as_slice();
-    let bytes = [0xffu8, 0xff, 0xff, 0xff, 0xff, 0xff, 0xff, 0xff, 0x07];
-    assert!(rt; are_stored::<Lsb0>(rt.alloc(), line, &[most.as_slice()], 0, &bytes)?);
-    Ok(())
-}
-
 // Number a of the second row becomes 7, and no other; its bits lie where its row begins.
-#[test]
-fn one_number_is_written_over(rt: HostRuntime) -> Result<(), AllocError> {
-    let Ok(layout) = Layout::parse(rt.alloc(), b"high a:u3 b:i4".as_slice()) else {
-        return Ok(());
-    };
-    assert!(rt; layout.fields().len() == 2);
-    let first = bits_before(&layout, 0);
-    let second = bits_before(&layout, 1);
-    let all = bits_before(&layout, 2);
-    assert!(rt; first == 0 && second == 3 && all == 7);
-    let mut words = [0xbeu8, 0x8c];
-    {
-        let mut view = BitSliceMut::<u8, Msb0>::from_slice_mut(&mut words);
-        store_number(&mut view, 7, Rule::High, 3, 7);
-    }
-    assert!(rt; words == [0xbf, 0xcc]);
-    let view = BitSlice::<u8, Msb0>::from_slice(&words);
-    assert!(rt; load_number(&view, 7, Rule::High, 3, false) == 7);
-    assert!(rt; load_number(&view, 3, Rule::High, 4, true) == -1);
-    assert!(rt; load_number(&view, 3, Rule::High, 4, false) == 15);
-    assert!(rt; load_number(&view, 10, Rule::High, 4, true) == 3);
-    Ok(())
-}
-
-// The same of a vector of two rows, by its row and its field.
 #[test]
 fn one_number_of_a_vector_is_written_over(rt: HostRuntime) -> Result<(), AllocError> {
     let Ok(layout) = Layout::parse(rt.alloc(), b"high a:u3 b:i4".as_slice()) else {
@@ -139,11 +101,16 @@ fn one_number_of_a_vector_is_written_over(rt: HostRuntime) -> Result<(), AllocEr
     rows.truncate(14);
     let fields = layout.fields();
     assert!(rt; rows.len() == 14 && layout.row_bits() == 7 && fields.len() == 2);
+    let (second, all) = (bits_before(&layout, 1), bits_before(&layout, 2));
+    assert!(rt; bits_before(&layout, 0) == 0 && second == 3 && all == 7);
     assert!(rt; fields[0].takes(7));
     set_number(&mut rows, &layout, 2, 1, 0, 7);
     let first = row_numbers(rt.alloc(), &rows, &layout, 2, 0)?;
     let second = row_numbers(rt.alloc(), &rows, &layout, 2, 1)?;
     assert!(rt; first.as_slice() == [5i128, -1].as_slice());
     assert!(rt; second.as_slice() == [7i128, 3].as_slice());
+    assert!(rt; rows.len() == 14);
+    assert!(rt; load_number(&rows, 3, Rule::High, 4, true) == -1);
+    assert!(rt; load_number(&rows, 3, Rule::High, 4, false) == 15);
     Ok(())
 }

@@ -1,6 +1,6 @@
 //! Calls of letters, worked by hand.
 
-use crate::filled::{filled, shows};
+use crate::filled::shows;
 use bit_addressing::{Lsb0, Msb0};
 use bit_slice_views::Bits;
 use bit_table_letters::{Letters, RowEdit};
@@ -10,13 +10,6 @@ use std::alloc::AllocError;
 fn no_rows_bear_no_letter(rt: HostRuntime) {
     let letters = Letters::<u8, Lsb0>::new(rt.alloc());
     assert!(rt; letters.rows() == 0 && letters.list(25).len() == 0 && shows(&letters, &[]));
-}
-
-#[test]
-fn new_rows_bear_no_letter(rt: HostRuntime) -> Result<(), AllocError> {
-    let letters = Letters::<u16, Msb0>::of_rows(rt.alloc(), 20)?;
-    assert!(rt; shows(&letters, &[0; 20]));
-    Ok(())
 }
 
 // Letters a and z of three rows, put, taken away and turned round.
@@ -33,16 +26,6 @@ fn letters_are_put_and_turned(rt: HostRuntime) -> Result<(), AllocError> {
     assert!(rt; letters.rows() == 3);
     letters.put(0, 2, false);
     assert!(rt; shows(&letters, &[1 << 25, 0, 1 << 25]));
-    Ok(())
-}
-
-// A new row between two that bear letters a and b.
-#[test]
-fn a_new_row_bears_none(rt: HostRuntime) -> Result<(), AllocError> {
-    let mut letters = filled::<u8, Lsb0>(rt.alloc(), &[3, 2])?;
-    assert!(rt; letters.rows() == 2);
-    letters.edit(RowEdit::Insert { place: 1 })?;
-    assert!(rt; shows(&letters, &[3, 0, 2]));
     Ok(())
 }
 

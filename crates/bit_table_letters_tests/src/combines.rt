@@ -5,7 +5,6 @@ use crate::plain::{combined, some_rows};
 use bit_addressing::{Lsb0, Msb0};
 use bit_slice_paths::{Steps, WordPaths};
 use bit_slice_stores::BitStore;
-use bit_slice_views::Bits;
 use bit_table_digits::HiLo;
 use bit_table_letter::BoolOp;
 use std::alloc::{AllocError, Global};
@@ -74,35 +73,5 @@ fn each_operation_in_words_counted_from_the_highest(rt: HostRuntime) -> Result<(
 #[test]
 fn each_operation_in_an_order_of_halves(rt: HostRuntime) -> Result<(), AllocError> {
     assert!(rt; all_combined::<u64, HiLo>(rt.alloc())?);
-    Ok(())
-}
-
-// Letters a and c of four rows: `0011` and `0101`.
-#[test]
-fn two_letters_are_combined(rt: HostRuntime) -> Result<(), AllocError> {
-    let rows = [
-        (BoolOp::And, [0, 4, 0, 5]),
-        (BoolOp::Or, [0, 5, 1, 5]),
-        (BoolOp::Xor, [0, 5, 1, 4]),
-    ];
-    for (op, wanted) in rows {
-        let mut letters = filled::<u8, Msb0>(rt.alloc(), &[0, 4, 1, 5])?;
-        letters.combine(op, 0, 2, &mut Steps::new());
-        assert!(rt; shows(&letters, &wanted));
-    }
-    Ok(())
-}
-
-// A letter differs from itself in no row, and no row goes.
-#[test]
-fn a_letter_and_itself(rt: HostRuntime) -> Result<(), AllocError> {
-    let mut letters = filled::<u8, Lsb0>(rt.alloc(), &[5, 4, 1])?;
-    let mut steps = Steps::new();
-    letters.combine(BoolOp::And, 2, 2, &mut steps);
-    letters.combine(BoolOp::Or, 2, 2, &mut steps);
-    assert!(rt; shows(&letters, &[5, 4, 1]));
-    letters.combine(BoolOp::Xor, 2, 2, &mut steps);
-    assert!(rt; shows(&letters, &[1, 0, 1]) && letters.list(2).len() == 3);
-    assert!(rt; steps.taken() == 0);
     Ok(())
 }

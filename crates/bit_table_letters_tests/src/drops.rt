@@ -63,19 +63,6 @@ fn rows_go_in_an_order_of_halves(rt: HostRuntime) -> Result<(), AllocError> {
     Ok(())
 }
 
-// Rows with letters b, a and b, none, a: those with a go, and b stays with its rows.
-#[test]
-fn the_others_keep_their_letters(rt: HostRuntime) -> Result<(), AllocError> {
-    let mut letters = filled::<u8, Msb0>(rt.alloc(), &[2, 3, 0, 1])?;
-    letters.drop_rows(0);
-    assert!(rt; shows(&letters, &[2, 0]));
-    letters.drop_rows(0);
-    assert!(rt; shows(&letters, &[2, 0]));
-    letters.drop_rows(1);
-    assert!(rt; shows(&letters, &[0]));
-    Ok(())
-}
-
 // Twenty rows in bytes: letter a goes with row 2, and 19 bits of each other list lie in three words; where all rows but
 // the first three bear it, the three that stay lie in one.
 #[test]

@@ -75,37 +75,33 @@ pub fn edited(alloc: Global, rows: &[u32], edit: RowEdit) -> Result<Vec<u32>, Al
 // Row `k` after an edit, where there is one.
 fn row_after(rows: &[u32], edit: RowEdit, k: usize) -> Option<u32> {
     let n = rows.len();
-    let row = |k: usize| rows.get(k).copied();
-    match edit {
-        RowEdit::Insert { place } if k == place => Some(0),
-        RowEdit::Insert { place } if k > place => row(k - 1),
-        RowEdit::Delete { start, upto } if k >= start => {
-            row(k.wrapping_add(upto.wrapping_sub(start)))
-        }
+    let from = match edit {
+        RowEdit::Insert { place } if k == place => return Some(0),
+        RowEdit::Insert { place } if k > place => k - 1,
+        RowEdit::Delete { start, upto } if k >= start => k.wrapping_add(upto.wrapping_sub(start)),
         RowEdit::Copy { start, upto, place }
-            if k >= place && k - place < upto.wrapping_sub(start) => {
-            row(start.wrapping_add(k - place))
-        }
-        RowEdit::Swap { row: p, other } if k == p => row(other),
-        RowEdit::Swap { row: p, other } if k == other => row(p),
+            if k >= place && k - place < upto.wrapping_sub(start) => start.wrapping_add(k - place),
+        RowEdit::Swap { row, other } if k == row => other,
+        RowEdit::Swap { row, other } if k == other => row,
         RowEdit::Rotate {
             start,
             upto,
             amount,
         } if start <= k && k < upto => {
             let there = k.wrapping_add(amount);
-            row(if there < upto {
+            if there < upto {
                 there
             } else {
                 there.wrapping_sub(upto.wrapping_sub(start))
-            })
+            }
         }
         RowEdit::Dup { start, upto } if k >= n => {
             let from = start.wrapping_add(k - n);
-            if from < upto { row(from) } else { None }
+            if from < upto { from } else { n }
         }
-        _ => row(k),
-    }
+        _ => k,
+    };
+    rows.get(from).copied()
 }
 
 /// The rows after letter `x` of each was made what an operation makes of it and letter `y`.

@@ -1,5 +1,4 @@
-//! Runs of lines through a machine, however the reader cuts them, and runs that want of memory ends.
-
+//! Runs of lines through a machine that answers each by itself.
 use bit_table::{Input, Output, RunError, drive};
 use bit_table_samples::{Echo, echoed};
 use std::test::Fail;
@@ -28,11 +27,17 @@ fn want_of_memory_ends_it(rt: HostRuntime) -> Result<(), Fail> {
     Ok(())
 }
 
+// The script in pieces of 1 to 16 bytes, and a line longer than any piece.
 #[test]
 fn is_proved_of_fakes_too(rt: HostRuntime) -> Result<(), Fail> {
-    for most in 1..16 {
+    for most in 1..17 {
         let text = echoed(rt.alloc(), SCRIPT.as_slice(), most)?;
-        assert!(rt; text.as_slice() == ANSWER.as_slice());
+        assert!(rt; text.as_slice() == ANSWER.as_slice(), "in pieces of {most}");
     }
+    let mut long = vec![in rt.alloc(); b'x'; 9000]?;
+    long.extend_from_slice(b"\ny")?;
+    let text = echoed(rt.alloc(), long.as_slice(), 4096)?;
+    long.push(b'\n')?;
+    assert!(rt; text.as_slice() == long.as_slice());
     Ok(())
 }

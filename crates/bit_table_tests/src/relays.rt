@@ -14,11 +14,11 @@ use std::test::Fail;
 fn told<A: BitViewSized, O: WordPaths<A::Store> + Digits<A::Store>>(
     alloc: Global,
     table: &mut Table<A, O>,
-    lines: &[u8],
+    lines: &str,
 ) -> Result<Vec<u8>, Fail> {
     let mut text = Vec::new(alloc);
-    for line in lines.split(|byte| *byte == b'\n') {
-        let command = Command::parse(alloc, table.layout(), line)?;
+    for line in lines.split('\n') {
+        let command = Command::parse(alloc, table.layout(), line.as_bytes())?;
         let reply = table.apply(&command)?;
         text.extend_from_slice(reply.line(alloc)?.as_slice())?;
     }
@@ -29,10 +29,10 @@ fn told<A: BitViewSized, O: WordPaths<A::Store> + Digits<A::Store>>(
 fn tells<A: BitViewSized, O: WordPaths<A::Store> + Digits<A::Store>>(
     alloc: Global,
     table: &mut Table<A, O>,
-    lines: &[u8],
-    answer: &[u8],
+    lines: &str,
+    answer: &str,
 ) -> Result<bool, Fail> {
-    Ok(told(alloc, table, lines)?.as_slice() == answer)
+    Ok(told(alloc, table, lines)?.as_slice() == answer.as_bytes())
 }
 
 // A table of the rows 5 and -1, 2 and 3 under `high`, of which the first bears x.
@@ -46,7 +46,7 @@ fn two_rows<A: BitViewSized, O: WordPaths<A::Store> + Digits<A::Store>>(
     told(
         alloc,
         &mut table,
-        b"insert 0 5 -1\ninsert 1 2 3\nmark x b < 0",
+        "insert 0 5 -1\ninsert 1 2 3\nmark x b < 0",
     )?;
     Ok(table)
 }
@@ -66,18 +66,18 @@ where
     let mut relayed = tells(
         alloc,
         &mut early,
-        b"image\nget 0\nlist x",
-        b"2 be8c\n5 -1\n0\n",
+        "image\nget 0\nlist x",
+        "2 be8c\n5 -1\n0\n",
     )? && !early.back();
-    relayed = tells(alloc, &mut table, b"keep\ndelete 0 2", b"ok\nok\n")? && relayed;
+    relayed = tells(alloc, &mut table, "keep\ndelete 0 2", "ok\nok\n")? && relayed;
     let mut late = table.relay::<A2, O2>()?;
     relayed = late.rows() == 0 && late.moved() == [0; 27] && relayed;
-    relayed = tells(alloc, &mut late, b"back\nimage\nlist x", b"ok\n2 be8c\n0\n")? && relayed;
+    relayed = tells(alloc, &mut late, "back\nimage\nlist x", "ok\n2 be8c\n0\n")? && relayed;
     relayed = tells(
         alloc,
         &mut table,
-        b"image\nback\nimage\nlist x",
-        b"0\nok\n2 be8c\n0\n",
+        "image\nback\nimage\nlist x",
+        "0\nok\n2 be8c\n0\n",
     )? && relayed;
     Ok(relayed && !late.back() && !table.back())
 }
@@ -102,7 +102,7 @@ fn bear<A: BitViewSized, O: WordPaths<A::Store> + Digits<A::Store>>(
     let bits = table.letter_bits(letter);
     let mut same = bits.len() == bears.len();
     for (row, wanted) in bears.iter().enumerate() {
-        same = bits.get(row).is_some_and(|bit| *bit == *wanted) && same;
+        same = matches!(bits.get(row), Some(bit) if *bit == *wanted) && same;
     }
     same
 }
@@ -115,13 +115,13 @@ fn shows_letters<A: BitViewSized, O: WordPaths<A::Store> + Digits<A::Store>>(
 {
     let mut table = two_rows::<A, O>(alloc)?;
     let mut shown = bear(&table, b'x', &[true, false]) && bear(&table, b'y', &[false, false]);
-    told(alloc, &mut table, b"insert 1 0 -8\nor z x\nnot z")?;
+    told(alloc, &mut table, "insert 1 0 -8\nor z x\nnot z")?;
     shown = bear(&table, b'x', &[true, false, false]) && shown;
     shown = bear(&table, b'z', &[false, true, true]) && shown;
-    told(alloc, &mut table, b"dup 0 1\ndelete 1 2")?;
+    told(alloc, &mut table, "dup 0 1\ndelete 1 2")?;
     shown = bear(&table, b'x', &[true, false, true]) && shown;
     shown = bear(&table, b'z', &[false, true, false]) && shown;
-    told(alloc, &mut table, b"drop x")?;
+    told(alloc, &mut table, "drop x")?;
     Ok(shown && bear(&table, b'x', &[false]) && bear(&table, b'z', &[true]))
 }
 
@@ -146,22 +146,25 @@ fn tells_moves<A: BitViewSized, O: WordPaths<A::Store> + Digits<A::Store>>(
     told(
         alloc,
         &mut table,
-        b"insert 0 1\ninsert 1 2\ninsert 2 3\ninsert 3 4\ninsert 4 5\ninsert 0 9",
+        "insert 0 1\ninsert 1 2\ninsert 2 3\ninsert 3 4\ninsert 4 5\ninsert 0 9",
     )?;
     right = table.moved()[0] == 5 && right;
     right = tells(
         alloc,
         &mut table,
-        b"get 5\nswap 0 1\nswap 0 1",
-        b"5\nok\nok\n",
+        "get 5\nswap 0 1\nswap 0 1",
+        "5\nok\nok\n",
     )? && right;
     right = table.moved()[0] == 5 && right;
-    told(alloc, &mut table, b"delete 0 1")?;
+    told(alloc, &mut table, "delete 0 1")?;
     right = table.moved()[0] == 5 && right;
-    told(alloc, &mut table, b"mark c f = 1\nmark e f > 1\ndrop c")?;
+    told(alloc, &mut table, "mark c f = 1\nmark e f > 1\ndrop c")?;
     let moved = table.moved();
-    right = moved[0] == 4 && moved[3] == 0 && moved[1..].iter().all(|count| *count <= 1) && right;
-    right = tells(alloc, &mut table, b"count e\nimage", b"4\n4 02030405\n")? && right;
+    right = moved[0] == 4 && moved[3] == 0 && right;
+    for count in &moved[1..] {
+        right = *count <= 1 && right;
+    }
+    right = tells(alloc, &mut table, "count e\nimage", "4\n4 02030405\n")? && right;
     Ok(right && table.relay::<A, O>()?.moved() == [0; 27])
 }
 
@@ -183,9 +186,9 @@ fn seventy_rows<A: BitViewSized, O: WordPaths<A::Store> + Digits<A::Store>>(
     let mut table = Table::<A, O>::new(alloc, layout);
     for row in 0..70 {
         let line = format!(in alloc; "insert {row} {row}")?;
-        told(alloc, &mut table, line.as_bytes())?;
+        told(alloc, &mut table, line.as_str())?;
     }
-    told(alloc, &mut table, b"mark x f > 20\nmark y f < 50")?;
+    told(alloc, &mut table, "mark x f > 20\nmark y f < 50")?;
     Ok(table)
 }
 
@@ -202,23 +205,19 @@ fn combines<A: BitViewSized, O: WordPaths<A::Store> + Digits<A::Store>>(
     };
     let mut right = true;
     for (op, count) in [
-        (BoolOp::And, b"29\n50\n".as_slice()),
-        (BoolOp::Or, b"70\n50\n".as_slice()),
-        (BoolOp::Xor, b"41\n50\n".as_slice()),
+        (BoolOp::And, "29\n50\n"),
+        (BoolOp::Or, "70\n50\n"),
+        (BoolOp::Xor, "41\n50\n"),
     ] {
         let mut table = seventy_rows::<A, O>(alloc)?;
         let mut steps = Steps::new();
         table.combine(op, x, y, &mut steps);
         right = 2 <= steps.taken() && steps.taken() <= most && right;
-        right = tells(alloc, &mut table, b"count x\ncount y", count)? && right;
+        right = tells(alloc, &mut table, "count x\ncount y", count)? && right;
         let mut alone = Steps::new();
         table.combine(op, y, y, &mut alone);
-        let own = if op == BoolOp::Xor {
-            b"0\n"
-        } else {
-            b"50\n".as_slice()
-        };
-        right = tells(alloc, &mut table, b"count y", own)? && right;
+        let own = if op == BoolOp::Xor { "0\n" } else { "50\n" };
+        right = tells(alloc, &mut table, "count y", own)? && right;
     }
     Ok(right)
 }

@@ -66,6 +66,7 @@ fn lists_at_two_heads(rt: HostRuntime) -> Result<(), AllocError> {
             let start = Start::nth(k);
             let other = Start::nth(j);
             assert!(rt; alike::<u8, Lsb0>(rt.alloc(), start, other)?);
+            assert!(rt; alike::<u8, Msb0>(rt.alloc(), start, other)?);
             assert!(rt; alike::<u16, Msb0>(rt.alloc(), start, other)?);
         }
     }

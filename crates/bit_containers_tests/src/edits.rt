@@ -1,8 +1,9 @@
-//! Edits of a vector, from each head on, against the same edit of a plain list.
+//! Edits of a vector, from each head on, against the same edit of a plain list; and the visible words, dead bits too, after
+//! each edit that says what they are.
 
 use crate::heads::come_in_turn;
 use crate::plain::{EDITS, Edit, FEW, List, MANY, Plain, edited, fits, listed, repeated, taken};
-use crate::vectors::{STARTS, Start, lists, mixed, shows};
+use crate::vectors::{STARTS, Start, lists, mixed, shows, visible, whole};
 use bit_addressing::{BitOrder, Lsb0, Msb0};
 use bit_containers_vector::BitVec;
 use bit_slice_stores::BitStore;
@@ -188,8 +189,8 @@ fn edit_beside<T: BitStore, O: BitOrder<T>>(
     Ok(())
 }
 
-/// Makes an edit of a vector that shows a list, and says whether it answered as the list does.
-pub fn make<T: BitStore, O: BitOrder<T> + Plain>(
+// Makes an edit of a vector that shows a list, and says whether it answered as the list does.
+fn make<T: BitStore, O: BitOrder<T> + Plain>(
     alloc: Global,
     vector: &mut BitVec<T, O>,
     edit: Edit,
@@ -214,8 +215,8 @@ pub fn make<T: BitStore, O: BitOrder<T> + Plain>(
     }
 }
 
-/// The bits that an edit appends which takes them from elsewhere.
-pub fn added<T: BitStore, O: Plain>(alloc: Global, edit: Edit) -> Result<List, AllocError> {
+// The bits that an edit appends which takes them from elsewhere.
+fn added<T: BitStore, O: Plain>(alloc: Global, edit: Edit) -> Result<List, AllocError> {
     match edit {
         Edit::ExtendWords | Edit::ExtendElements => {
             Ok(List::of::<T, O>(mixed::<T>(alloc, 9)?.as_slice()))
@@ -225,13 +226,32 @@ pub fn added<T: BitStore, O: Plain>(alloc: Global, edit: Edit) -> Result<List, A
     }
 }
 
-// Whether an edit of a vector is that of its list.
+// The bits of the visible words after an edit that says what they are: those visible before stay, new ones are zero.
+fn words_after<T: BitStore>(edit: Edit, head: usize, words: &List, list: &List) -> Option<List> {
+    let size = whole::<T>(head.wrapping_add(list.len));
+    match edit {
+        Edit::Insert(_, _)
+        | Edit::Remove(_)
+        | Edit::SwapRemove(_)
+        | Edit::ResizeWith(_)
+        | Edit::Drain(_, _)
+        | Edit::Splice(_, _)
+        | Edit::SpliceFew(_, _)
+        | Edit::Leave(_, _)
+        | Edit::Align => None,
+        Edit::Beside(bit) => Some(repeated(bit, size).with(head, list)),
+        _ => Some(words.cut(0, size).with(head, list)),
+    }
+}
+
+// Whether an edit of a vector is that of its list, and leaves the visible words as it says.
 fn is_edited<T: BitStore, O: BitOrder<T> + Plain>(
     alloc: Global,
     start: Start,
     edit: Edit,
 ) -> Result<bool, AllocError> {
     let list = start.list::<T, O>(alloc)?;
+    let words = start.words::<T, O>(alloc)?;
     let mut vector = start.vector::<T, O>(alloc)?;
     let answered = make(alloc, &mut vector, edit, &list)?;
     let head = match edit {
@@ -239,7 +259,11 @@ fn is_edited<T: BitStore, O: BitOrder<T> + Plain>(
         _ => start.head,
     };
     let wanted = edited(edit, &list, &added::<T, O>(alloc, edit)?);
-    Ok(answered && shows(&vector, head, &wanted))
+    let same = answered && shows(&vector, head, &wanted);
+    match words_after::<T>(edit, start.head, &words, &wanted) {
+        Some(after) => Ok(same && visible(vector) == after),
+        None => Ok(same),
+    }
 }
 
 // Whether all edits of all starts are those of the lists.

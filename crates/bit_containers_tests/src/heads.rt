@@ -1,6 +1,6 @@
 //! Vectors read, copied and combined, from each head on, against plain lists.
 
-use crate::plain::{List, Plain, combined, repeated};
+use crate::plain::{List, Operator, Plain, combined, repeated};
 use crate::vectors::{STARTS, Start, lists, mixed, shows, visible, whole, window};
 use bit_addressing::{BitOrder, Lsb0, Msb0};
 use bit_containers_vector::BitVec;
@@ -66,7 +66,8 @@ fn is_read<T: BitStore, O: BitOrder<T> + Plain>(
     let window = vector.as_bitslice();
     let other = vector.as_slice();
     let lent = lists(&window, &list) && lists(&other, &list) && window.eq_bits(&other);
-    Ok(listed == list.len && lent && come_in_turn(vector.iter().by_vals(), &list))
+    let sized = listed == list.len && vector.is_empty() == (list.len == 0);
+    Ok(sized && lent && come_in_turn(vector.iter().by_vals(), &list))
 }
 
 // Whether each bit and the part from it on are answered by index, and nothing behind the end.
@@ -125,9 +126,9 @@ fn is_combined<T: BitStore, O: WordPaths<T> + Plain>(
     let others = List::of::<T, O>(mixed::<T>(alloc, 3)?.as_slice()).cut(5, 9);
     let mask = window::<T, O>(alloc, 5, 9)?;
     let right = mask.as_bitslice();
-    let both = combined(&list, &others, |a, b| a && b);
-    let either = combined(&list, &others, |a, b| a || b);
-    let apart = combined(&list, &others, |a, b| a != b);
+    let both = combined(&list, &others, Operator::And);
+    let either = combined(&list, &others, Operator::Or);
+    let apart = combined(&list, &others, Operator::Xor);
     let mut made = start.vector::<T, O>(alloc)?;
     made &= right;
     let anded = has_beside(made, head, &both, &words);

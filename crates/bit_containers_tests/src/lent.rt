@@ -5,7 +5,7 @@ ghost use Rattle.bit_addressing.specs.Sweep.{IsFresh, sweep_lender, sweep_words}
 ghost use Rattle.bit_addressing.specs.Ways.{way_for};
 ghost use Rattle.bit_addressing.specs.declared.sweep.Way.TheVariants.{Up};
 
-use crate::plain::{List, Plain, combined};
+use crate::plain::{List, Operator, Plain, combined};
 use crate::vectors::{STARTS, Start, lists, mixed, shows, visible};
 use bit_addressing::{BitOrder, BitRegister, Lsb0, Msb0, Sweep, Way, move_in, way_for};
 use bit_containers_vector::BitVec;
@@ -126,7 +126,12 @@ fn are_bits_lent<T: BitStore, O: BitOrder<T> + Plain>(
     lent.invert();
     let written = lists(&lent, &list.flipped());
     let wanted = words.with(start.head, &list.flipped());
-    Ok(read && written && has_words(vector, start, &wanted))
+    let mut other = start.vector::<T, O>(alloc)?;
+    let mut named = other.as_mut_slice();
+    let same = lists(&named, &list);
+    named.invert();
+    let both = has_words(vector, start, &wanted) && has_words(other, start, &wanted);
+    Ok(read && written && same && both)
 }
 
 // Whether a window of nine bits is combined with a vector on the right, and the bits beside it stay.
@@ -143,9 +148,9 @@ fn is_on_the_right<T: BitStore, O: WordPaths<T> + Plain>(
     if words.len().saturating_mul(width) < 14 || others.len().saturating_mul(width) < 14 {
         return Ok(false);
     }
-    let apart = combined(&before.cut(5, 9), &list, |a, b| a != b);
-    let both = combined(&apart, &list, |a, b| a && b);
-    let either = combined(&before.cut(5, 9), &list, |a, b| a || b);
+    let apart = combined(&before.cut(5, 9), &list, Operator::Xor);
+    let both = combined(&apart, &list, Operator::And);
+    let either = combined(&before.cut(5, 9), &list, Operator::Or);
     let mut window = BitSliceMut::<T, O>::from_place_mut(words.as_mut_slice(), 5, 9);
     window ^= &right;
     let xored = lists(&window, &apart);

@@ -99,13 +99,25 @@ pub fn repeated(bit: bool, len: usize) -> List {
     List { bits, len }
 }
 
-/// As many bits as the first list has, each what a function makes of it and of that at its index in another list.
-pub fn combined<F: Fn(bool, bool) -> bool>(list: &List, others: &List, how: F) -> List
-    requires { F.IsAlwaysCallable how }
-{
+/// What two bits make.
+#[derive(Clone, Copy)]
+pub enum Operator {
+    And,
+    Or,
+    Xor,
+}
+
+/// As many bits as the first list has, each combined with that at its index in another list.
+pub fn combined(list: &List, others: &List, how: Operator) -> List {
     let mut all = *list;
     for k in 0..160usize {
-        all.bits[k] = k < list.len && how(list.at(k), others.at(k));
+        let (bit, other) = (list.at(k), others.at(k));
+        all.bits[k] = k < list.len
+            && match how {
+                Operator::And => bit && other,
+                Operator::Or => bit || other,
+                Operator::Xor => bit != other,
+            };
     }
     all
 }

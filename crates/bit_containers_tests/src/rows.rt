@@ -5,7 +5,6 @@ use bit_containers_vector::BitVec;
 use bit_slice_views::{BitSlice, Bits};
 use bit_slice_writes::BitsMut;
 use std::alloc::{AllocError, Global};
-use std::fmt;
 use std::process::Abort;
 use std::test::Fail;
 
@@ -192,72 +191,5 @@ fn words_are_taken_over(rt: HostRuntime) -> Result<(), AllocError> {
     assert!(rt;
         zeros.len() == 11 && zeros.not_any() && zeros.into_vec().as_slice() == [0, 0].as_slice()
     );
-    Ok(())
-}
-
-/// A vector in groups of three bits: the holes of a format string take no other form.
-#[derive(Drop)]
-pub struct InOctal<'a, T>(pub &'a T);
-
-impl<'a, T: fmt::Octal> fmt::Display for InOctal<'a, T> {
-    fn fmt<W: fmt::Write>(&self, f: &mut fmt::Formatter<W>) -> fmt::Result {
-        fmt::Octal::fmt(self.0, f)
-    }
-}
-
-/// The same bit by bit.
-#[derive(Drop)]
-pub struct InBinary<'a, T>(pub &'a T);
-
-impl<'a, T: fmt::Binary> fmt::Display for InBinary<'a, T> {
-    fn fmt<W: fmt::Write>(&self, f: &mut fmt::Formatter<W>) -> fmt::Result {
-        fmt::Binary::fmt(self.0, f)
-    }
-}
-
-/// The same in groups of four bits.
-#[derive(Drop)]
-pub struct InLowerHex<'a, T>(pub &'a T);
-
-impl<'a, T: fmt::LowerHex> fmt::Display for InLowerHex<'a, T> {
-    fn fmt<W: fmt::Write>(&self, f: &mut fmt::Formatter<W>) -> fmt::Result {
-        fmt::LowerHex::fmt(self.0, f)
-    }
-}
-
-/// The same with capital letters.
-#[derive(Drop)]
-pub struct InUpperHex<'a, T>(pub &'a T);
-
-impl<'a, T: fmt::UpperHex> fmt::Display for InUpperHex<'a, T> {
-    fn fmt<W: fmt::Write>(&self, f: &mut fmt::Formatter<W>) -> fmt::Result {
-        fmt::UpperHex::fmt(self.0, f)
-    }
-}
-
-/// Whether a value is written so.
-pub fn is_written<T: fmt::Display>(
-    alloc: Global,
-    shown: &T,
-    text: &str,
-) -> Result<bool, AllocError> {
-    let found = format!(in alloc; "{shown}")?;
-    Ok(found.as_str() == text)
-}
-
-#[test]
-fn vectors_are_written_out(rt: HostRuntime) -> Result<(), Fail> {
-    let alloc = rt.alloc();
-    let bits = middle(alloc)?;
-    assert!(rt; is_written(alloc, &bits, "[1, 1, 0, 1]")?);
-    let debug = format!(in alloc; "{bits:?}")?;
-    assert!(rt; debug.as_str() == "[1, 1, 0, 1]");
-    assert!(rt; is_written(alloc, &InBinary(&bits), "[1, 1, 0, 1]")?);
-    assert!(rt; is_written(alloc, &InOctal(&bits), "[6, 1]")?);
-    assert!(rt; is_written(alloc, &InLowerHex(&bits), "[d]")?);
-    assert!(rt; is_written(alloc, &InUpperHex(&bits), "[D]")?);
-    assert!(rt; is_written(alloc, &BitVec::<u8, Lsb0>::new(alloc), "[]")?);
-    assert!(rt; bits.len() == 4);
-    assert!(rt; bits[0] && !bits[2]);
     Ok(())
 }

@@ -24,25 +24,11 @@ fn drains<T: BitStore, O: BitOrder<T>>(vector: &mut BitVec<T, O>) -> bool {
     whole && sized && first && second && third && gone.next().is_none() && gone.len() == 0
 }
 
-// The same, read from both ends.
-fn drains_from_both_ends<T: BitStore, O: BitOrder<T>>(vector: &mut BitVec<T, O>) -> bool {
-    if vector.len() < 4 {
-        return false;
-    }
-    let mut gone = vector.drain(1..4);
-    let last = gone.next_back() == Some(false);
-    let first = gone.next() == Some(true);
-    let middle = gone.len() == 1 && gone.next_back() == Some(false);
-    last && first && middle && gone.next().is_none() && gone.next_back().is_none()
-}
-
 #[test]
 fn bits_are_drained(rt: HostRuntime) -> Result<(), AllocError> {
     let row = [false, true, false, false, true];
     let mut bits = vector(rt.alloc(), &row)?;
     assert!(rt; drains(&mut bits) && has(&bits, 0b01, 2));
-    let mut bits = vector(rt.alloc(), &row)?;
-    assert!(rt; drains_from_both_ends(&mut bits) && has(&bits, 0b01, 2));
     Ok(())
 }
 
@@ -60,24 +46,11 @@ fn splices<T: BitStore, O: BitOrder<T>>(vector: &mut BitVec<T, O>) -> Result<boo
     Ok(sized && first && last && left)
 }
 
-// Reads the same bits, and puts none in their place.
-fn leaves_out<T: BitStore, O: BitOrder<T>>(vector: &mut BitVec<T, O>) -> bool {
-    if vector.len() < 4 {
-        return false;
-    }
-    let mut gone = vector.splice(1..4, [false, true, true, false].into_iter());
-    let first = gone.next() == Some(true);
-    let last = gone.next_back() == Some(true);
-    first && last && gone.len() == 1
-}
-
 #[test]
 fn bits_are_spliced(rt: HostRuntime) -> Result<(), AllocError> {
     let row = [false, true, true, true, false];
     let mut bits = vector(rt.alloc(), &row)?;
     assert!(rt; splices(&mut bits)? && has(&bits, 0b001100, 6));
-    let mut bits = vector(rt.alloc(), &row)?;
-    assert!(rt; leaves_out(&mut bits) && has(&bits, 0b00, 2));
     Ok(())
 }
 
@@ -112,16 +85,6 @@ fn bits_of_iterators(rt: HostRuntime) -> Result<(), AllocError> {
     let row = [false, true, true, false];
     let bits = BitVec::<u8, Msb0>::collect(rt.alloc(), row.into_iter())?;
     assert!(rt; bits.first_place() == 0 && has(&bits, 0b0110, 4));
-    Ok(())
-}
-
-#[test]
-fn words_of_iterators(rt: HostRuntime) -> Result<(), AllocError> {
-    let mut bits = BitVec::<u8, Msb0>::collect_elements(rt.alloc(), [0x12u8, 0x34].into_iter())?;
-    assert!(rt; bits.len() == 16 && bits.as_raw_slice() == [0x12, 0x34].as_slice());
-    bits.truncate(4);
-    bits.extend_elements([0xabu8, 0xcd].into_iter())?;
-    assert!(rt; bits.len() == 20 && bits.as_raw_slice() == [0x1a, 0xbc, 0xd0].as_slice());
     Ok(())
 }
 

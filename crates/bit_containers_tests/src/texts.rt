@@ -1,11 +1,11 @@
 //! The texts of vectors, from each head on, against those of plain lists.
 
 use crate::plain::{List, Plain};
-use crate::rows::{InBinary, InLowerHex, InOctal, InUpperHex, is_written};
 use crate::vectors::{STARTS, Start};
 use bit_addressing::{BitOrder, Lsb0, Msb0};
 use bit_slice_stores::BitStore;
 use std::alloc::{AllocError, Global};
+use std::fmt;
 
 const LOWER: [char; 16] = [
     '0', '1', '2', '3', '4', '5', '6', '7', '8', '9', 'a', 'b', 'c', 'd', 'e', 'f',
@@ -15,9 +15,27 @@ const UPPER: [char; 16] = [
     '0', '1', '2', '3', '4', '5', '6', '7', '8', '9', 'A', 'B', 'C', 'D', 'E', 'F',
 ];
 
-// The text of a list in groups of so many bits, the first bit of a group highest.
-fn text(alloc: Global, list: &List, size: usize, digits: [char; 16]) -> Result<String, AllocError> {
-    let mut text = String::new(alloc);
+// What is written bit by bit, and in groups of three and of four: the holes of a format string take no other form.
+#[derive(Drop)]
+struct InGroups<'a, T>(&'a T);
+
+impl<'a, T: fmt::Binary + fmt::Octal + fmt::LowerHex + fmt::UpperHex> fmt::Display
+    for InGroups<'a, T> {
+    fn fmt<W: fmt::Write>(&self, f: &mut fmt::Formatter<W>) -> fmt::Result {
+        fmt::Binary::fmt(self.0, f)?;
+        fmt::Octal::fmt(self.0, f)?;
+        fmt::LowerHex::fmt(self.0, f)?;
+        fmt::UpperHex::fmt(self.0, f)
+    }
+}
+
+// Adds the text of a list in groups of so many bits, the first bit of a group highest.
+fn add_text(
+    text: &mut String,
+    list: &List,
+    size: usize,
+    digits: [char; 16],
+) -> Result<(), AllocError> {
     text.push('[')?;
     let mut value = 0usize;
     let mut held = 0usize;
@@ -32,8 +50,7 @@ fn text(alloc: Global, list: &List, size: usize, digits: [char; 16]) -> Result<S
             held = 0;
         }
     }
-    text.push(']')?;
-    Ok(text)
+    text.push(']')
 }
 
 // Whether a vector is written as its list is: bit by bit, and in groups of three and of four.
@@ -43,19 +60,17 @@ fn is_shown<T: BitStore, O: BitOrder<T> + Plain>(
 ) -> Result<bool, AllocError> {
     let list = start.list::<T, O>(alloc)?;
     let vector = start.vector::<T, O>(alloc)?;
-    let single = text(alloc, &list, 1, LOWER)?;
-    let threes = text(alloc, &list, 3, LOWER)?;
-    let fours = text(alloc, &list, 4, LOWER)?;
-    let capital = text(alloc, &list, 4, UPPER)?;
+    let mut wanted = String::new(alloc);
+    add_text(&mut wanted, &list, 1, LOWER)?;
+    let shown = format!(in alloc; "{vector}")?;
     let debug = format!(in alloc; "{vector:?}")?;
-    let bits = debug.as_str() == single.as_str()
-        && is_written(alloc, &vector, single.as_str())?
-        && is_written(alloc, &InBinary(&vector), single.as_str())?;
-    Ok(
-        bits && is_written(alloc, &InOctal(&vector), threes.as_str())?
-            && is_written(alloc, &InLowerHex(&vector), fours.as_str())?
-            && is_written(alloc, &InUpperHex(&vector), capital.as_str())?,
-    )
+    let same = shown.as_str() == wanted.as_str() && debug.as_str() == wanted.as_str();
+    add_text(&mut wanted, &list, 3, LOWER)?;
+    add_text(&mut wanted, &list, 4, LOWER)?;
+    add_text(&mut wanted, &list, 4, UPPER)?;
+    let groups = InGroups(&vector);
+    let shown = format!(in alloc; "{groups}")?;
+    Ok(same && shown.as_str() == wanted.as_str())
 }
 
 #[test]

@@ -1,7 +1,7 @@
 //! Calls that write the bits of a vector in place, from each head on, against plain lists.
 
 use crate::heads::has_beside;
-use crate::plain::{List, Plain, combined, joined, repeated};
+use crate::plain::{List, Operator, Plain, combined, joined, repeated};
 use crate::vectors::{STARTS, Start, mixed, shows, window};
 use bit_addressing::{BitOrder, Lsb0, Msb0};
 use bit_slice_paths::WordPaths;
@@ -109,9 +109,9 @@ fn are_bits_combined<T: BitStore, O: BitOrder<T> + Plain>(
     let wide = [0xb5c3u16, 0x0f1e];
     let others = List::of::<u16, Msb0>(&wide).cut(11, 9);
     let right = BitSlice::<u16, Msb0>::from_place(&wide, 11, 9);
-    let both = combined(&list, &others, |a, b| a && b);
-    let either = combined(&list, &others, |a, b| a || b);
-    let apart = combined(&list, &others, |a, b| a != b);
+    let both = combined(&list, &others, Operator::And);
+    let either = combined(&list, &others, Operator::Or);
+    let apart = combined(&list, &others, Operator::Xor);
     let mut anded = start.vector::<T, O>(alloc)?;
     anded.and_bits(&right);
     let mut ored = start.vector::<T, O>(alloc)?;

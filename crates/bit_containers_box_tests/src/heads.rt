@@ -1,9 +1,12 @@
 //! Calls of a box from each head on, compared with a plain list of bits.
 
-use crate::plain::{BYTES, List, Plain, lists, repeated, shows, start, start_list};
+use crate::plain::{
+    BYTES, List, Operator, Plain, STARTS, lists, repeated, shows, start, start_list,
+};
 use bit_addressing::{Lsb0, Msb0};
 use bit_containers_box::BitBox;
 use bit_containers_vector::BitVec;
+use bit_slice_access::BitsFill;
 use bit_slice_paths::WordPaths;
 use bit_slice_views::{BitSlice, Bits};
 use bit_slice_writes::BitsMut;
@@ -150,7 +153,12 @@ fn are_changed<O: WordPaths<u8> + Plain>(
             last.bits[i] = true;
         }
     }
-    Ok(left && right && back && none && shows(&made, head, &last, true))
+    let written = left && right && back && none && shows(&made, head, &last, true);
+    made.fill_with(|i| i % 2 == 1);
+    for i in 0..16usize {
+        last.bits[i] = i < list.len && i % 2 == 1;
+    }
+    Ok(written && shows(&made, head, &last, true))
 }
 
 // Whether a box is equal to that of the same list at another head, with other dead bits, and hashes alike.
@@ -160,6 +168,11 @@ fn are_alike<O: WordPaths<u8> + Plain>(
     len: usize,
 ) -> Result<bool, AllocError> {
     let made = start::<O>(alloc, head, len, true)?;
+    let none = BitBox::<u8, O>::empty(alloc);
+    let is_none = len % 9 == 0;
+    if made.is_empty() != is_none || (none == made) != is_none || (none < made) == is_none {
+        return Ok(false);
+    }
     for other_head in 0..8u8 {
         let zeros = [0u8; 2];
         let window = BitSlice::<u8, O>::from_parts(&zeros, other_head, len % 9);
@@ -183,7 +196,7 @@ fn are_alike<O: WordPaths<u8> + Plain>(
     Ok(true)
 }
 
-// Whether a box is combined with the bits of another head and length, bit by bit, as far as these go.
+// Whether a box is combined with the bits of another head and length, bit by bit, as far as these go: its dead bits stay.
 fn are_combined<O: WordPaths<u8> + Plain>(
     alloc: Global,
     head: usize,
@@ -191,35 +204,28 @@ fn are_combined<O: WordPaths<u8> + Plain>(
 ) -> Result<bool, AllocError> {
     let list = start_list::<O>(head, len);
     let others = List::of::<O>(&BYTES, 5, 6);
-    let mut made = start::<O>(alloc, head, len, true)?;
-    made &= BitSlice::<u8, O>::from_parts(&BYTES, 5, 6);
-    let both = shows(&made, head, &list.combined(&others, |a, b| a && b), true);
-    let mut made = start::<O>(alloc, head, len, false)?;
-    made |= start::<O>(alloc, 5, 6, true)?;
-    let either = shows(&made, head, &list.combined(&others, |a, b| a || b), false);
-    let mut made = start::<O>(alloc, head, len, true)?;
-    made ^= BitVec::<u8, O>::from_bitslice(alloc, BitSlice::from_parts(&BYTES, 5, 6))?;
-    let other = shows(&made, head, &list.combined(&others, |a, b| a != b), true);
-    Ok(both && either && other)
-}
-
-// Whether a box is combined so by value, and its dead bits stay.
-fn are_combined_by_value<O: WordPaths<u8> + Plain>(
-    alloc: Global,
-    head: usize,
-    len: usize,
-) -> Result<bool, AllocError> {
-    let list = start_list::<O>(head, len);
-    let others = List::of::<O>(&BYTES, 5, 6);
     let right = BitSlice::<u8, O>::from_parts(&BYTES, 5, 6);
-    let anded = start::<O>(alloc, head, len, true)? & right;
-    let both = shows(&anded, head, &list.combined(&others, |a, b| a && b), true);
-    let ored = start::<O>(alloc, head, len, false)? | start::<O>(alloc, 5, 6, true)?;
-    let either = shows(&ored, head, &list.combined(&others, |a, b| a || b), false);
-    let xored = start::<O>(alloc, head, len, true)?
-        ^ BitVec::<u8, O>::from_bitslice(alloc, BitSlice::from_parts(&BYTES, 5, 6))?;
-    let other = shows(&xored, head, &list.combined(&others, |a, b| a != b), true);
-    Ok(both && either && other)
+    let both = list.combined(&others, Operator::And);
+    let either = list.combined(&others, Operator::Or);
+    let apart = list.combined(&others, Operator::Xor);
+    let mut anded = start::<O>(alloc, head, len, true)?;
+    anded &= right;
+    let mut ored = start::<O>(alloc, head, len, false)?;
+    ored |= start::<O>(alloc, 5, 6, true)?;
+    let mut xored = start::<O>(alloc, head, len, true)?;
+    xored ^= BitVec::<u8, O>::from_bitslice(alloc, right)?;
+    let written = shows(&anded, head, &both, true)
+        && shows(&ored, head, &either, false)
+        && shows(&xored, head, &apart, true);
+    let anded = start::<O>(alloc, head, len, true)? & BitVec::<u8, O>::from_bitslice(alloc, right)?;
+    let ored = start::<O>(alloc, head, len, false)? | right;
+    let xored = start::<O>(alloc, head, len, true)? ^ start::<O>(alloc, 5, 6, true)?;
+    Ok(
+        written
+            && shows(&anded, head, &both, true)
+            && shows(&ored, head, &either, false)
+            && shows(&xored, head, &apart, true),
+    )
 }
 
 // Whether bits are moved inside a box, overlap or not, and the dead bits stay.
@@ -291,88 +297,88 @@ fn are_replaced<O: WordPaths<u8> + Plain>(
     Ok(true)
 }
 
-/// Whether a call holds from each head on, of each number of bits up to 8.
-pub fn holds<F: Fn(usize, usize) -> Result<bool, AllocError>>(call: F) -> Result<bool, AllocError>
-    requires { F.IsAlwaysCallable call }
-{
-    for head in 0..8usize {
-        for len in 0..9usize {
-            if !call(head, len)? {
-                return Ok(false);
-            }
-        }
-    }
-    Ok(true)
-}
-
 #[test]
 fn windows_and_boxes_are_copied(rt: HostRuntime) -> Result<(), AllocError> {
-    let alloc = rt.alloc();
-    assert!(rt; holds(|head, len| are_copied::<Lsb0>(alloc, head, len))?);
-    assert!(rt; holds(|head, len| are_copied::<Msb0>(alloc, head, len))?);
+    for k in 0..STARTS {
+        let (head, len) = (k / 9, k % 9);
+        assert!(rt; are_copied::<Lsb0>(rt.alloc(), head, len)?);
+        assert!(rt; are_copied::<Msb0>(rt.alloc(), head, len)?);
+    }
     Ok(())
 }
 
 #[test]
 fn all_visible_bits_are_flipped(rt: HostRuntime) -> Result<(), AllocError> {
-    let alloc = rt.alloc();
-    assert!(rt; holds(|head, len| are_flipped::<Lsb0>(alloc, head, len))?);
-    assert!(rt; holds(|head, len| are_flipped::<Msb0>(alloc, head, len))?);
+    for k in 0..STARTS {
+        let (head, len) = (k / 9, k % 9);
+        assert!(rt; are_flipped::<Lsb0>(rt.alloc(), head, len)?);
+        assert!(rt; are_flipped::<Msb0>(rt.alloc(), head, len)?);
+    }
     Ok(())
 }
 
 #[test]
 fn aligned_boxes_hold_all_their_words(rt: HostRuntime) -> Result<(), AllocError> {
-    let alloc = rt.alloc();
-    assert!(rt; holds(|head, len| are_aligned::<Lsb0>(alloc, head, len))?);
-    assert!(rt; holds(|head, len| are_aligned::<Msb0>(alloc, head, len))?);
+    for k in 0..STARTS {
+        let (head, len) = (k / 9, k % 9);
+        assert!(rt; are_aligned::<Lsb0>(rt.alloc(), head, len)?);
+        assert!(rt; are_aligned::<Msb0>(rt.alloc(), head, len)?);
+    }
     Ok(())
 }
 
 #[test]
 fn boxes_become_vectors_and_words(rt: HostRuntime) -> Result<(), AllocError> {
-    let alloc = rt.alloc();
-    assert!(rt; holds(|head, len| are_taken_apart::<Lsb0>(alloc, head, len))?);
-    assert!(rt; holds(|head, len| are_taken_apart::<Msb0>(alloc, head, len))?);
-    assert!(rt; holds(|head, len| are_cut::<Lsb0>(alloc, head, len))?);
-    assert!(rt; holds(|head, len| are_cut::<Msb0>(alloc, head, len))?);
+    for k in 0..STARTS {
+        let (head, len) = (k / 9, k % 9);
+        assert!(rt; are_taken_apart::<Lsb0>(rt.alloc(), head, len)?);
+        assert!(rt; are_taken_apart::<Msb0>(rt.alloc(), head, len)?);
+        assert!(rt; are_cut::<Lsb0>(rt.alloc(), head, len)?);
+        assert!(rt; are_cut::<Msb0>(rt.alloc(), head, len)?);
+    }
     Ok(())
 }
 
 #[test]
 fn bits_are_changed_in_place(rt: HostRuntime) -> Result<(), AllocError> {
-    let alloc = rt.alloc();
-    assert!(rt; holds(|head, len| are_changed::<Lsb0>(alloc, head, len))?);
-    assert!(rt; holds(|head, len| are_changed::<Msb0>(alloc, head, len))?);
-    assert!(rt; holds(|head, len| are_replaced::<Lsb0>(alloc, head, len))?);
-    assert!(rt; holds(|head, len| are_replaced::<Msb0>(alloc, head, len))?);
+    for k in 0..STARTS {
+        let (head, len) = (k / 9, k % 9);
+        assert!(rt; are_changed::<Lsb0>(rt.alloc(), head, len)?);
+        assert!(rt; are_changed::<Msb0>(rt.alloc(), head, len)?);
+        assert!(rt; are_replaced::<Lsb0>(rt.alloc(), head, len)?);
+        assert!(rt; are_replaced::<Msb0>(rt.alloc(), head, len)?);
+    }
     Ok(())
 }
 
 #[test]
 fn bits_are_moved_and_shifted(rt: HostRuntime) -> Result<(), AllocError> {
-    let alloc = rt.alloc();
-    assert!(rt; holds(|head, len| are_moved::<Lsb0>(alloc, head, len))?);
-    assert!(rt; holds(|head, len| are_moved::<Msb0>(alloc, head, len))?);
-    assert!(rt; holds(|head, len| are_shifted::<Lsb0>(alloc, head, len))?);
-    assert!(rt; holds(|head, len| are_shifted::<Msb0>(alloc, head, len))?);
+    for k in 0..STARTS {
+        let (head, len) = (k / 9, k % 9);
+        assert!(rt; are_moved::<Lsb0>(rt.alloc(), head, len)?);
+        assert!(rt; are_moved::<Msb0>(rt.alloc(), head, len)?);
+        assert!(rt; are_shifted::<Lsb0>(rt.alloc(), head, len)?);
+        assert!(rt; are_shifted::<Msb0>(rt.alloc(), head, len)?);
+    }
     Ok(())
 }
 
 #[test]
 fn boxes_are_compared_by_their_lists(rt: HostRuntime) -> Result<(), AllocError> {
-    let alloc = rt.alloc();
-    assert!(rt; holds(|head, len| are_alike::<Lsb0>(alloc, head, len))?);
-    assert!(rt; holds(|head, len| are_alike::<Msb0>(alloc, head, len))?);
+    for k in 0..STARTS {
+        let (head, len) = (k / 9, k % 9);
+        assert!(rt; are_alike::<Lsb0>(rt.alloc(), head, len)?);
+        assert!(rt; are_alike::<Msb0>(rt.alloc(), head, len)?);
+    }
     Ok(())
 }
 
 #[test]
 fn boxes_are_combined_with_others(rt: HostRuntime) -> Result<(), AllocError> {
-    let alloc = rt.alloc();
-    assert!(rt; holds(|head, len| are_combined::<Lsb0>(alloc, head, len))?);
-    assert!(rt; holds(|head, len| are_combined::<Msb0>(alloc, head, len))?);
-    assert!(rt; holds(|head, len| are_combined_by_value::<Lsb0>(alloc, head, len))?);
-    assert!(rt; holds(|head, len| are_combined_by_value::<Msb0>(alloc, head, len))?);
+    for k in 0..STARTS {
+        let (head, len) = (k / 9, k % 9);
+        assert!(rt; are_combined::<Lsb0>(rt.alloc(), head, len)?);
+        assert!(rt; are_combined::<Msb0>(rt.alloc(), head, len)?);
+    }
     Ok(())
 }

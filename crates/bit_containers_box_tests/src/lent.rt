@@ -8,10 +8,9 @@ ghost use Rattle.bit_containers_box.specs.Lending.{HasWords};
 use crate::plain::start;
 use bit_addressing::{BitOrder, BitRegister, Lsb0, Msb0};
 use bit_containers_box::BitBox;
-use bit_slice_access::{BitsFill, BitsParts};
 use bit_slice_stores::BitStore;
 use bit_slice_views::{BitSlice, Bits};
-use bit_slice_writes::{BitSliceMut, BitsMut};
+use bit_slice_writes::BitsMut;
 use std::alloc::AllocError;
 use std::process::Abort;
 
@@ -76,31 +75,5 @@ fn lent_bits_are_written(rt: HostRuntime) -> Result<(), AllocError> {
     assert!(rt; bits.as_raw_slice() == [0b0011_1111u8, 0b1101_0010].as_slice());
     bits.as_mut_slice().fill(true);
     assert!(rt; bits.as_slice().all() && bits.len() == 8 && bits.as_raw_slice().len() == 2);
-    Ok(())
-}
-
-#[test]
-fn bits_are_filled_and_read_by_index(rt: HostRuntime) -> Result<(), AllocError> {
-    let alloc = rt.alloc();
-    let mut bits = start::<Lsb0>(alloc, 5, 7, false)?;
-    bits.fill_with(|i| i % 2 == 1);
-    assert!(rt; bits.len() == 7 && bits.first_place() == 5);
-    assert!(rt; bits[1] && bits[3] && bits[5] && bits.count_ones() == 3);
-    assert!(rt; bits.get(7).is_none());
-    Ok(())
-}
-
-#[test]
-fn windows_take_boxes_on_the_right(rt: HostRuntime) -> Result<(), AllocError> {
-    let alloc = rt.alloc();
-    let mask = BitBox::<u8, Lsb0>::from_array(alloc, &0b0011_0101u8)?;
-    let mut words = [0b0110_0110u8];
-    let mut window = BitSliceMut::<u8, Lsb0>::from_slice_mut(&mut words);
-    window |= &mask;
-    assert!(rt; window.count_ones() == 6);
-    window &= &mask;
-    assert!(rt; window.count_ones() == 4);
-    window ^= &mask;
-    assert!(rt; window.not_any() && mask.count_ones() == 4);
     Ok(())
 }

@@ -2,8 +2,6 @@
 #![tactic(auto)]
 
 #[cfg(test)]
-mod boxes;
-#[cfg(test)]
 mod heads;
 #[cfg(test)]
 mod iterators;

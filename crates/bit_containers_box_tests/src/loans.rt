@@ -2,12 +2,13 @@
 
 ghost use Rattle.std.specs.Prelude.{◌≡◌, length};
 
-use crate::heads::holds;
 use crate::plain::{
-    BYTES, List, Plain, has_words, lists, repeated, shows, start, start_list, start_words,
+    BYTES, List, Operator, Plain, STARTS, has_words, lists, repeated, shows, start, start_list,
+    start_words,
 };
 use bit_addressing::{BitOrder, Lsb0, Msb0};
 use bit_slice_access::BitsParts;
+use bit_slice_iterators::BitsIter;
 use bit_slice_paths::WordPaths;
 use bit_slice_views::Bits;
 use bit_slice_writes::{BitSliceMut, BitsMut};
@@ -40,14 +41,20 @@ fn are_read<O: BitOrder<u8> + Plain>(
         }
         listed = listed.wrapping_add(1);
     }
+    let mut seen = made.iter();
     for k in 0..made.len() {
-        if made[k] != list.at(k) {
+        let Some(bit) = seen.next_back() else {
+            return Ok(false)
+        };
+        let mirrored = list.len.wrapping_sub(k.wrapping_add(1));
+        if made[k] != list.at(k) || *bit != list.at(mirrored) {
             return Ok(false);
         }
     }
     let words = start_words::<O>(head, len, true);
     let lent = lists(&window, &list) && lists(&other, &list);
-    Ok(lent && listed == list.len && has_words(&made, head, len, &words))
+    let all = listed == list.len && seen.len() == 0;
+    Ok(lent && all && has_words(&made, head, len, &words))
 }
 
 // Whether each bit and the part from it on are answered by index, and nothing behind the end.
@@ -125,9 +132,9 @@ fn are_on_the_right<O: WordPaths<u8> + Plain>(
     let mut bytes = BYTES;
     let mut others = BYTES;
     let before = List::of::<O>(&BYTES, 0, 16);
-    let apart = before.cut(5, 6).combined(&list, |a, b| a != b);
-    let both = apart.combined(&list, |a, b| a && b);
-    let either = before.cut(5, 6).combined(&list, |a, b| a || b);
+    let apart = before.cut(5, 6).combined(&list, Operator::Xor);
+    let both = apart.combined(&list, Operator::And);
+    let either = before.cut(5, 6).combined(&list, Operator::Or);
     let mut window = BitSliceMut::<u8, O>::from_place_mut(&mut bytes, 5, 6);
     window ^= &right;
     let xored = lists(&window, &apart);
@@ -140,28 +147,34 @@ fn are_on_the_right<O: WordPaths<u8> + Plain>(
 
 #[test]
 fn boxes_are_read_from_each_head(rt: HostRuntime) -> Result<(), AllocError> {
-    let alloc = rt.alloc();
-    assert!(rt; holds(|head, len| are_read::<Lsb0>(alloc, head, len))?);
-    assert!(rt; holds(|head, len| are_read::<Msb0>(alloc, head, len))?);
-    assert!(rt; holds(|head, len| are_got::<Lsb0>(alloc, head, len))?);
-    assert!(rt; holds(|head, len| are_got::<Msb0>(alloc, head, len))?);
+    for k in 0..STARTS {
+        let (head, len) = (k / 9, k % 9);
+        assert!(rt; are_read::<Lsb0>(rt.alloc(), head, len)?);
+        assert!(rt; are_read::<Msb0>(rt.alloc(), head, len)?);
+        assert!(rt; are_got::<Lsb0>(rt.alloc(), head, len)?);
+        assert!(rt; are_got::<Msb0>(rt.alloc(), head, len)?);
+    }
     Ok(())
 }
 
 #[test]
 fn boxes_lend_bytes_and_bits(rt: HostRuntime) -> Result<(), AllocError> {
-    let alloc = rt.alloc();
-    assert!(rt; holds(|head, len| are_bytes_lent::<Lsb0>(alloc, head, len))?);
-    assert!(rt; holds(|head, len| are_bytes_lent::<Msb0>(alloc, head, len))?);
-    assert!(rt; holds(|head, len| are_bits_lent::<Lsb0>(alloc, head, len))?);
-    assert!(rt; holds(|head, len| are_bits_lent::<Msb0>(alloc, head, len))?);
+    for k in 0..STARTS {
+        let (head, len) = (k / 9, k % 9);
+        assert!(rt; are_bytes_lent::<Lsb0>(rt.alloc(), head, len)?);
+        assert!(rt; are_bytes_lent::<Msb0>(rt.alloc(), head, len)?);
+        assert!(rt; are_bits_lent::<Lsb0>(rt.alloc(), head, len)?);
+        assert!(rt; are_bits_lent::<Msb0>(rt.alloc(), head, len)?);
+    }
     Ok(())
 }
 
 #[test]
 fn windows_take_boxes_of_each_head(rt: HostRuntime) -> Result<(), AllocError> {
-    let alloc = rt.alloc();
-    assert!(rt; holds(|head, len| are_on_the_right::<Lsb0>(alloc, head, len))?);
-    assert!(rt; holds(|head, len| are_on_the_right::<Msb0>(alloc, head, len))?);
+    for k in 0..STARTS {
+        let (head, len) = (k / 9, k % 9);
+        assert!(rt; are_on_the_right::<Lsb0>(rt.alloc(), head, len)?);
+        assert!(rt; are_on_the_right::<Msb0>(rt.alloc(), head, len)?);
+    }
     Ok(())
 }

@@ -113,3 +113,16 @@ fn vectors_become_boxes(rt: HostRuntime) -> Result<(), AllocError> {
     assert!(rt; bits.next_back() == Some(false) && bits.len() == 6);
     Ok(())
 }
+
+#[test]
+fn dead_bits_are_filled(rt: HostRuntime) -> Result<(), AllocError> {
+    let alloc = rt.alloc();
+    let words = [0b1011_0101u8];
+    let mut bits = BitBox::from_bitslice(alloc, BitSlice::<u8, Msb0>::from_parts(&words, 2, 4))?;
+    bits.fill_uninitialized(false);
+    let mut other = bits.clone()?;
+    assert!(rt; bits.into_boxed_slice().as_slice() == [0b00_1101_00u8].as_slice());
+    other.fill_uninitialized(true);
+    assert!(rt; other.into_boxed_slice().as_slice() == [0b11_1101_11u8].as_slice());
+    Ok(())
+}

@@ -9,6 +9,9 @@ use std::alloc::{AllocError, Global};
 /// The bytes that the tests begin with.
 pub const BYTES: [u8; 2] = [0b0100_1101, 0b1110_0010];
 
+/// How many heads and lengths the sweeps go over: each head from 0 to 7, with each number of bits up to 8.
+pub const STARTS: usize = 72;
+
 /// An order whose bits are counted here by hand.
 pub trait Plain {
     /// The digit of an index in a byte.
@@ -31,6 +34,14 @@ impl Plain for Msb0 {
 pub fn is_set<O: Plain>(bytes: &[u8], place: usize) -> bool {
     let byte = place / 8;
     byte < bytes.len() && (bytes[byte] >> (O::digit(place) % 8)) & 1 == 1
+}
+
+/// What two bits make.
+#[derive(Clone, Copy)]
+pub enum Operator {
+    And,
+    Or,
+    Xor,
 }
 
 /// So many bits; those past the end are false.
@@ -66,13 +77,17 @@ impl List {
         list
     }
 
-    /// As many bits, each what a function makes of it and of that at its index in another list.
-    pub fn combined<F: Fn(bool, bool) -> bool>(&self, other: &List, how: F) -> List
-        requires { F.IsAlwaysCallable how }
-    {
+    /// As many bits, each combined with that at its index in another list.
+    pub fn combined(&self, other: &List, how: Operator) -> List {
         let mut list = *self;
         for k in 0..16usize {
-            list.bits[k] = k < self.len && how(self.at(k), other.at(k));
+            let (bit, right) = (self.at(k), other.at(k));
+            list.bits[k] = k < self.len
+                && match how {
+                    Operator::And => bit && right,
+                    Operator::Or => bit || right,
+                    Operator::Xor => bit != right,
+                };
         }
         list
     }

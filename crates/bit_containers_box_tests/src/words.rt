@@ -1,8 +1,7 @@
 //! Boxes made of the words and the bits of others, which begin at each head, against plain lists.
 
-use crate::heads::holds;
 use crate::iterators::come_in_turn;
-use crate::plain::{List, Plain, has_words, lists, shows, start, start_list, start_words};
+use crate::plain::{List, Plain, STARTS, has_words, lists, shows, start, start_list, start_words};
 use bit_addressing::{BitOrder, Lsb0, Msb0};
 use bit_containers_box::{BitBox, IntoBoxed};
 use bit_slice_views::Bits;
@@ -94,20 +93,24 @@ fn are_boxed<O: BitOrder<u8> + Plain>(
 
 #[test]
 fn bytes_become_boxes(rt: HostRuntime) -> Result<(), AllocError> {
-    let alloc = rt.alloc();
-    assert!(rt; holds(|head, len| are_bytes_taken_over::<Lsb0>(alloc, head, len))?);
-    assert!(rt; holds(|head, len| are_bytes_taken_over::<Msb0>(alloc, head, len))?);
-    assert!(rt; holds(|head, len| is_each_byte_boxed::<Lsb0>(alloc, head, len))?);
-    assert!(rt; holds(|head, len| is_each_byte_boxed::<Msb0>(alloc, head, len))?);
+    for k in 0..STARTS {
+        let (head, len) = (k / 9, k % 9);
+        assert!(rt; are_bytes_taken_over::<Lsb0>(rt.alloc(), head, len)?);
+        assert!(rt; are_bytes_taken_over::<Msb0>(rt.alloc(), head, len)?);
+        assert!(rt; is_each_byte_boxed::<Lsb0>(rt.alloc(), head, len)?);
+        assert!(rt; is_each_byte_boxed::<Msb0>(rt.alloc(), head, len)?);
+    }
     Ok(())
 }
 
 #[test]
 fn bits_and_vectors_become_boxes(rt: HostRuntime) -> Result<(), AllocError> {
-    let alloc = rt.alloc();
-    assert!(rt; holds(|head, len| are_collected::<Lsb0>(alloc, head, len))?);
-    assert!(rt; holds(|head, len| are_collected::<Msb0>(alloc, head, len))?);
-    assert!(rt; holds(|head, len| are_boxed::<Lsb0>(alloc, head, len))?);
-    assert!(rt; holds(|head, len| are_boxed::<Msb0>(alloc, head, len))?);
+    for k in 0..STARTS {
+        let (head, len) = (k / 9, k % 9);
+        assert!(rt; are_collected::<Lsb0>(rt.alloc(), head, len)?);
+        assert!(rt; are_collected::<Msb0>(rt.alloc(), head, len)?);
+        assert!(rt; are_boxed::<Lsb0>(rt.alloc(), head, len)?);
+        assert!(rt; are_boxed::<Msb0>(rt.alloc(), head, len)?);
+    }
     Ok(())
 }

@@ -2,12 +2,10 @@
 
 ghost use Rattle.std.specs.Prelude.{◌+◌, ◌*◌, ◌<◌, ◌≤◌};
 
+use crate::callers::{byte_reads, move_counted, move_list, move_within, own_array};
 use bit_addressing::mem::bits_of;
 use bit_addressing::{BitIdx, BitOrder, BitRegister, Lsb0, Msb0, read_bit};
-use bit_addressing_samples::callers::{
-    byte_reads, move_counted, move_list, move_within, own_array,
-};
-use bit_addressing_samples::{FifthStep, Flipped};
+use bit_addressing_sample_orders::{FifthStep, Flipped};
 
 #[test]
 fn moves_of_sixteen_bits(rt: HostRuntime) {

@@ -1,7 +1,7 @@
 //! Rows of directions and of words cut by shifts.
 
 use bit_addressing::{BitRegister, Direction, Lsb0, Msb0, direction_of, goes, joined, raised};
-use bit_addressing_samples::{FifthStep, Flipped};
+use bit_addressing_sample_orders::{FifthStep, Flipped};
 
 // The directions of the orders of the crate, and of two others.
 fn directions<R: BitRegister>() -> [Option<Direction>; 4] {

@@ -1,16 +1,14 @@
-//! The words and the bits of boxes, lent to be written.
+//! The words of boxes, lent to a function.
 
 ghost use Rattle.std.specs.Prelude.{◌≡◌, reverse};
-ghost use Rattle.bit_addressing.specs.Memory.{read_by};
+ghost use Rattle.bit_addressing_memory.specs.Memory.{read_by};
 ghost use Rattle.bit_containers_box.specs.Box.{box_visible};
 ghost use Rattle.bit_containers_box.specs.Lending.{HasWords};
 
-use crate::plain::start;
-use bit_addressing::{BitOrder, BitRegister, Lsb0, Msb0};
+use bit_addressing_memory::{BitOrder, BitRegister, Msb0};
 use bit_containers_box::BitBox;
-use bit_slice_stores::BitStore;
-use bit_slice_views::{BitSlice, Bits};
-use bit_slice_writes::BitsMut;
+use bit_slice_views::{BitSlice, BitStore, Bits};
+use bit_slice_views_mut::BitsMut;
 use std::alloc::AllocError;
 use std::process::Abort;
 
@@ -29,51 +27,15 @@ fn turn_visible<T: BitStore, O: BitOrder<T>>(bits: &mut BitBox<T, O>)
     turn_all::<T>(bits.as_raw_mut_slice());
 }
 
-// Turns the last word round.
-fn turn_last(words: &mut [u16]) {
-    if let Some(last) = words.last_mut() {
-        *last = !*last;
-    }
-}
-
-// Turns the first bit round, of whatever is written.
-fn turn_first<V: BitsMut>(bits: &mut V) {
-    if bits.len() > 0 {
-        let first = bits.bit(0);
-        bits.set(0, !first);
-    }
-}
-
 #[test]
-fn lent_words_are_the_visible_ones(rt: HostRuntime) -> Result<(), AllocError> {
-    let alloc = rt.alloc();
-    let words = [0xffffu16, 0x00ff];
-    let mut bits = BitBox::<u16, Lsb0>::from_bitslice(alloc, BitSlice::from_parts(&words, 14, 6))?;
-    assert!(rt; bits.as_raw_slice() == [0xc000u16, 0x000f].as_slice());
-    turn_last(bits.as_raw_mut_slice());
-    assert!(rt; bits.as_raw_slice() == [0xc000u16, 0xfff0].as_slice() && bits.count_ones() == 2);
-    bits.force_align();
-    assert!(rt; bits.as_raw_slice().len() == 1 && bits.count_ones() == 2 && bits[0] && bits[1]);
-    turn_last(bits.as_raw_mut_slice());
-    assert!(rt; bits.len() == 6 && bits.count_ones() == 4 && !bits[0] && bits[5]);
-    assert!(rt; bits.into_boxed_slice().len() == 2);
-    Ok(())
-}
-
-#[test]
-fn lent_bits_are_written(rt: HostRuntime) -> Result<(), AllocError> {
-    let alloc = rt.alloc();
-    // 01[00 1101 11]10 0010
-    let mut bits = start::<Msb0>(alloc, 2, 8, true)?;
-    let mut window = bits.as_mut_bitslice();
-    assert!(rt; window.len() == 8 && window.count_ones() == 5);
-    window.invert();
-    assert!(rt; bits.as_raw_slice() == [0b1111_0010u8, 0b0011_1111].as_slice());
-    turn_first(&mut bits);
-    assert!(rt; bits.as_raw_slice() == [0b1101_0010u8, 0b0011_1111].as_slice());
+fn lent_words_are_turned(rt: HostRuntime) -> Result<(), AllocError> {
+    let words = [0xf2u8, 0x3f];
+    // 11[11 0010 00]11 1111
+    let window = BitSlice::<u8, Msb0>::from_place(&words, 2, 8);
+    let mut bits = BitBox::from_bitslice(rt.alloc(), window)?;
+    bits.fill_uninitialized(true);
     turn_visible(&mut bits);
-    assert!(rt; bits.as_raw_slice() == [0b0011_1111u8, 0b1101_0010].as_slice());
-    bits.as_mut_slice().fill(true);
-    assert!(rt; bits.as_slice().all() && bits.len() == 8 && bits.as_raw_slice().len() == 2);
+    assert!(rt; bits.as_raw_slice() == [0b0011_1111u8, 0b1111_0010].as_slice());
+    assert!(rt; bits.len() == 8 && bits.first_place() == 2 && bits.all());
     Ok(())
 }

@@ -1,19 +1,18 @@
-//! The tests of boxes of bits.
+//! The tests of arrays and boxes of bits, and of what vectors lend.
 #![tactic(auto)]
 
+pub mod arrays;
 #[cfg(test)]
-mod heads;
+mod changes;
 #[cfg(test)]
-mod iterators;
+mod compared;
+#[cfg(test)]
+mod kept;
 #[cfg(test)]
 mod lent;
 #[cfg(test)]
-mod loans;
-#[cfg(test)]
 mod made;
 #[cfg(test)]
-mod plain;
+mod readme;
 #[cfg(test)]
-mod texts;
-#[cfg(test)]
-mod words;
+mod vectors_lent;

@@ -1,23 +1,20 @@
-//! The tests of the slice layer: scans, changes, word paths and windows, against plain lists of bits, and rows.
+//! The tests of windows that no case of data can be: ranges, comparison and hash, words of a window, commands; and what a
+//! user proves from their contracts alone.
 #![tactic(auto)]
 
+pub mod access_callers;
 #[cfg(test)]
-mod access;
+mod by_words;
+pub mod callers;
 #[cfg(test)]
-mod changes;
-#[cfg(test)]
-mod edits;
-#[cfg(test)]
-mod paths;
-#[cfg(test)]
-mod plain;
+mod commands;
 #[cfg(test)]
 mod rows;
 #[cfg(test)]
-mod scans;
+mod shared;
+pub mod store_callers;
 #[cfg(test)]
-mod shown;
+mod stores;
 #[cfg(test)]
 mod views;
-#[cfg(test)]
-mod writes;
+pub mod word_callers;

@@ -12,8 +12,8 @@ use Rattle.std.specs.Prelude.{slice_range}
 use Rattle.std.specs.List.{swap}
 use Rattle.std.proofs.lemmas.Bool.{cases_eq}
 use Rattle.std.proofs.lemmas.List.{drop_more, places, same_lists}
-use Rattle.bit_addressing.specs.Memory.{piece, with_piece}
-use Rattle.bit_addressing.proofs.MemoryLemmas.{length-piece, length-with_piece}
+use Rattle.bit_addressing_memory.specs.Memory.{piece, with_piece}
+use Rattle.bit_addressing_memory.proofs.MemoryLemmas.{length-piece, length-with_piece}
 use Rattle.bit_table_rows.specs.RowEdits.{inserted, deleted, repeated, copied, exchanged, turned}
 use Rattle.bit_table_rows.specs.RowLists.{CutsRows}
 use Rattle.bit_table_rows.proofs.PlaceLemmas.{place_order, place_apart, place_behind, place_end, place_next}

@@ -1,18 +1,17 @@
 //! Rows put into a vector of bits, and taken out of it.
 
 ghost use Rattle.std.specs.Prelude.{◌≡◌, ◌+◌, ◌-◌, ◌*◌, ◌<◌, ◌≤◌, count_by, length, not, IfOk, IsOk, OnOk, OnErr};
-ghost use Rattle.bit_addressing.specs.Memory.{read_by, touched};
+ghost use Rattle.bit_addressing_memory.specs.Memory.{read_by, touched};
 ghost use Rattle.bit_addressing_span.specs.declared.span.TheConstants.{MAX_BITS};
 ghost use Rattle.bit_containers_vector.specs.Vector.{vec_bits, vec_head, room, HasRoomFor, IsAsBefore};
 ghost use Rattle.bit_slice_views.specs.View.{view_bits};
-ghost use Rattle.bit_table_moves.specs.RowsKept.{kept};
+ghost use Rattle.bit_table_rows.specs.RowsKept.{kept};
 ghost use Rattle.bit_table_rows.specs.RowEdits.{deleted, inserted, repeated, Opens};
 
 use crate::edits::{keep_rows_in, move_rows_in, write_row};
-use bit_addressing::BitOrder;
+use bit_addressing_memory::BitOrder;
 use bit_containers_vector::BitVec;
-use bit_slice_stores::BitStore;
-use bit_slice_views::{BitSlice, Bits};
+use bit_slice_views::{BitSlice, BitStore, Bits};
 use std::alloc::AllocError;
 
 /// Puts a row in before row `p` of `n` rows of `w` bits each: the rows from there on move one row towards the end. `p`

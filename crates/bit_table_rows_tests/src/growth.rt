@@ -1,9 +1,8 @@
 //! Room for rows: many insertions ask for memory seldom, and those within the room not at all.
 
-use bit_addressing::{BitOrder, Lsb0, Msb0};
+use bit_addressing_memory::{BitOrder, Lsb0, Msb0};
 use bit_containers_vector::BitVec;
-use bit_slice_stores::BitStore;
-use bit_slice_views::{BitSlice, Bits};
+use bit_slice_views::{BitSlice, BitStore, Bits};
 use bit_table_rows::{delete_rows, dup_rows, insert_row};
 use std::alloc::{AllocError, Global};
 

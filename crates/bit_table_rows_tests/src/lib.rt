@@ -1,13 +1,15 @@
-//! The tests of rows of bits edited in place: against a plain list of rows, and rows worked by hand.
+//! The tests of rows and fields in bits that no case of a table shows, and what a user of these proves.
 #![tactic(auto)]
 
 #[cfg(test)]
-mod edits;
+mod digit_callers;
+#[cfg(test)]
+mod field_callers;
+#[cfg(test)]
+mod field_rows;
 #[cfg(test)]
 mod growth;
 #[cfg(test)]
-mod packed;
-#[cfg(test)]
-mod plain;
+mod orders;
 #[cfg(test)]
 mod rows;

@@ -1,14 +1,14 @@
-//! The tests of the table's crates: layouts, commands and images, calls of a table, and runs with faults in mid-stream.
+//! The tests of texts, replies, command lines, single calls, and runs between readers and writers that fail.
 #![tactic(auto)]
 
 #[cfg(test)]
 mod answers;
 #[cfg(test)]
-mod calls;
+mod causes;
+#[cfg(test)]
+mod command_lines;
 #[cfg(test)]
 mod image_lines;
-#[cfg(test)]
-mod layout_lines;
 #[cfg(test)]
 mod line_runs;
 #[cfg(test)]
@@ -16,6 +16,6 @@ mod line_words;
 #[cfg(test)]
 mod numbers;
 #[cfg(test)]
-mod relays;
+mod replies;
 #[cfg(test)]
 mod streams;

@@ -1,6 +1,6 @@
 use Rattle.std.proofs.Common.{length, reverse, arith, ap, ◌∙◌}
 use Rattle.std.proofs.lemmas.List.{length-reverse}
-use Rattle.bit_addressing.specs.Memory.{read_by}
+use Rattle.bit_addressing_memory.specs.Memory.{read_by}
 use Rattle.bit_containers_box.specs.Box.{box_visible}
 use Rattle.bit_containers_box.proofs.LendLemmas.{has_words}
 use Rattle.bit_containers_box_tests.proofs.lent.turn_visible.Goals as goal

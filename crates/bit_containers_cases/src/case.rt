@@ -1,0 +1,96 @@
+//! One case: its words are read, its window is made, and its calls are made.
+
+use crate::arrays::array_case;
+use crate::boxes::box_case;
+use crate::call::{number, read_words};
+use crate::operators::combine;
+use crate::vectors::vector_case;
+use bit_addressing_sample_orders::{FifthStep, Flipped};
+use bit_containers::{BitOrder, BitSlice, BitStore, Lsb0, Msb0, WordPaths};
+use std::alloc::{AllocError, Global};
+use std::str::SplitWhitespace;
+
+/// What a line is answered. A line that begins with a word is one of a vector.
+pub fn answer(alloc: Global, line: &str) -> Result<String, AllocError> {
+    let mut words = line.split_whitespace();
+    let first = words.next().unwrap_or("");
+    let (kind, word) = match first {
+        "u8" | "u16" | "u32" | "u64" => ("vector", first),
+        _ => (first, words.next().unwrap_or("")),
+    };
+    match word {
+        "u8" => in_words::<u8>(alloc, kind, words),
+        "u16" => in_words::<u16>(alloc, kind, words),
+        "u32" => in_words::<u32>(alloc, kind, words),
+        "u64" => in_words::<u64>(alloc, kind, words),
+        _ => "no such word".to_string(alloc),
+    }
+}
+
+fn in_words<T: BitStore>(
+    alloc: Global,
+    kind: &str,
+    mut words: SplitWhitespace<'_>,
+) -> Result<String, AllocError> {
+    match words.next().unwrap_or("") {
+        "lsb0" => in_paths::<T, Lsb0>(alloc, kind, words),
+        "msb0" => in_paths::<T, Msb0>(alloc, kind, words),
+        "fifth" => in_order::<T, FifthStep>(alloc, kind, words),
+        "flipped" => in_order::<T, Flipped>(alloc, kind, words),
+        _ => "no such order".to_string(alloc),
+    }
+}
+
+// A case of an operator has two windows.
+fn in_paths<T: BitStore, O: WordPaths<T>>(
+    alloc: Global,
+    kind: &str,
+    mut words: SplitWhitespace<'_>,
+) -> Result<String, AllocError> {
+    match kind {
+        "and" | "or" | "xor" | "copy" => {}
+        _ => return in_order::<T, O>(alloc, kind, words),
+    }
+    let memory = read_words::<T>(alloc, words.next().unwrap_or(""))?;
+    let (place, len) = (next_number(&mut words), next_number(&mut words));
+    let (right_place, right_len) = (next_number(&mut words), next_number(&mut words));
+    let most = memory.len().saturating_mul(T::BITS as usize);
+    if most > 2000 || place > most || right_place > most {
+        return "too long".to_string(alloc);
+    }
+    if len > most - place || right_len > most - right_place {
+        return "no such window".to_string(alloc);
+    }
+    let left = BitSlice::<T, O>::from_place(&memory, place, len);
+    let right = BitSlice::<T, O>::from_place(&memory, right_place, right_len);
+    combine(alloc, kind, left, right)
+}
+
+fn in_order<T: BitStore, O: BitOrder<T>>(
+    alloc: Global,
+    kind: &str,
+    mut words: SplitWhitespace<'_>,
+) -> Result<String, AllocError> {
+    let memory = read_words::<T>(alloc, words.next().unwrap_or(""))?;
+    let (place, len) = (next_number(&mut words), next_number(&mut words));
+    let most = memory.len().saturating_mul(T::BITS as usize);
+    if most > 2000 || place > most || len > most - place {
+        return "no such window".to_string(alloc);
+    }
+    let window = BitSlice::<T, O>::from_place(&memory, place, len);
+    match kind {
+        "vector" => vector_case::<T, O>(alloc, window, words),
+        "box" => box_case::<T, O>(alloc, window, words),
+        "word" => array_case::<T, O>(alloc, window, words),
+        "array0" => array_case::<[T; 0], O>(alloc, window, words),
+        "array1" => array_case::<[T; 1], O>(alloc, window, words),
+        "array2" => array_case::<[T; 2], O>(alloc, window, words),
+        "array3" => array_case::<[T; 3], O>(alloc, window, words),
+        _ => "no such kind".to_string(alloc),
+    }
+}
+
+// The next word as a number.
+fn next_number(words: &mut SplitWhitespace<'_>) -> usize {
+    number(words.next().unwrap_or(""))
+}

@@ -1,0 +1,4 @@
+pub mod FilledLemmas
+pub mod MarkedLemmas
+pub mod RunLemmas
+pub mod NetworkLemmas

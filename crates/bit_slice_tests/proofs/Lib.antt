@@ -1,0 +1,2 @@
+pub mod HalfLemmas
+pub mod SweepLemmas

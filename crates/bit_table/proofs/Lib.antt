@@ -3,6 +3,7 @@ pub mod MarkedLemmas
 pub mod NumberLemmas
 pub mod TableLemmas
 pub mod MovedLemmas
+pub mod RowCommandLemmas
 pub mod Sending
 pub mod LineLemmas
 pub mod GoingLemmas

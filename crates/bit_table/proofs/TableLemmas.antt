@@ -24,7 +24,7 @@ use Rattle.bit_table_commands.specs.declared.command.Command.{Command}
 use Rattle.bit_table_commands.specs.Accepted.{IsAccepted, IsInRange, HasLawfulValues}
 use Rattle.bit_table_commands.specs.Edits.{edit, rows_after, kept_after}
 use Rattle.bit_table_commands.specs.Tables.{TableShape, AreHeld, IsTable, IsTableOf}
-use Rattle.bit_table_rows.specs.RowEdit.{edited_by, count_after, LiesIn}
+use Rattle.bit_table_rows.specs.RowEdit.{added, edited_by, count_after, LiesIn}
 use Rattle.bit_table_commands.specs.LetterSets.{LetterSet, bears}
 use Rattle.bit_table_rows.specs.Marks.{decided}
 use Rattle.bit_table_rows.proofs.LetterEditLemmas.{length-edited}
@@ -232,6 +232,28 @@ module _ (v : TableView) (l : LayoutShape) (s : StoredRows) (kept : Option Store
   rows_edited edit x now within bits letters =
       lettered_edited edit x (rows_from l s.rows s.bits) (rows_from l now.rows now.bits) s.letters now.letters
       (as_many l s stored) (subst (λ n. LiesIn n edit) (sym stored.marked) within) bits letters
+
+  -- an edit of the rows that a script sees is one of those that are stored
+  pub edit_lies : (edit : RowEdit) → LiesIn (length v.shape.rows) edit → LiesIn s.rows edit
+  edit_lies edit = subst (λ k. LiesIn k edit) (sym count_is)
+
+  pub edit_fits : (edit : RowEdit)
+      → (length v.shape.rows + added edit) * row_width v.shape.layout.fields ≤ MAX_BITS
+      → (s.rows + added edit) * row_width l.fields ≤ MAX_BITS
+  edit_fits edit room =
+      subst (λ k. (k + added edit) * row_width l.fields ≤ MAX_BITS) (sym count_is)
+      (subst (λ (m : LayoutShape). (length v.shape.rows + added edit) * row_width m.fields ≤ MAX_BITS) (sym layout_is)
+      room)
+
+  -- the table after it
+  pub shape_edited : (edit : RowEdit) (x : Row) (now : StoredRows) → LiesIn s.rows edit
+      → rows_from l now.rows now.bits ≡ edited_by x edit (rows_from l s.rows s.bits)
+      → now.letters ≡ edited_by x.letters edit s.letters
+      → table_from l now kept ≡ record v.shape { rows = edited_by x edit v.shape.rows }
+  shape_edited edit x now within bits letters =
+      ap (λ rows. record { layout = l; rows = rows; kept = option_map (rows_of l) kept })
+      (rows_edited edit x now within bits letters)
+      ∙ ap (λ (t : TableShape). record t { rows = edited_by x edit t.rows }) shape_is
 
   -- the rows after a change of one row's numbers
   pub rows_changed : (change : List ℤ → List ℤ) (p : ℕ) (now : StoredRows)

@@ -1,5 +1,6 @@
 pub mod Lettered
 pub mod Moved
+pub mod RowCommands
 pub mod Told
 pub mod View
 pub mod Lines

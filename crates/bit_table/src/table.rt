@@ -1,6 +1,7 @@
 //! A table: rows of a layout, packed bit by bit in words of any width and order.
 
-ghost use Rattle.std.specs.Prelude.{◌≡◌, ◌≢◌, ◌+◌, ◌-◌, ◌*◌, ◌≤◌, ◌∷◌, Bool, false, true, length, map, replicate, take, None, Some};
+ghost use Rattle.std.specs.Prelude.{◌≡◌, ◌≢◌, ◌+◌, ◌*◌, ◌≤◌, ◌∷◌, Bool, false, true, length, map, replicate, take, None, Some};
+ghost use Rattle.std.specs.Prelude.{ℤ, List};
 ghost use Rattle.std.specs.Prelude.{is_some, IfOk, IsOk, OnOk, OnErr, IsOkUnless, IsTrue, MatchOption};
 ghost use Rattle.bit_addressing_memory.specs.Memory.{read_by};
 ghost use Rattle.bit_containers_array.specs.Array.{array_bits};
@@ -8,14 +9,16 @@ ghost use Rattle.bit_slice_words.specs.Steps.{groups, Takes};
 ghost use Rattle.bit_slice_views.specs.View.{view_bits};
 ghost use Rattle.bit_table_layout.specs.Images.{image_bytes, HasOnlyNumbers};
 ghost use Rattle.bit_table_layout.specs.Layouts.{row_width};
-ghost use Rattle.bit_table_layout.specs.Rows.{numbers_bits, table_bits, take_all};
+ghost use Rattle.bit_table_layout.specs.Rows.{new_row, numbers_bits, table_bits, take_all};
 ghost use Rattle.bit_table_commands.specs.Accepted.{IsAccepted};
 ghost use Rattle.bit_table_commands.specs.Causes.{cause_in};
 ghost use Rattle.bit_table_commands.specs.Edits.{edit, reply_to};
 ghost use Rattle.bit_table_commands.specs.Marks.{row_bears};
 ghost use Rattle.bit_table_commands.specs.declared.reply.Reply.TheVariants.{Done};
 ghost use Rattle.bit_table_commands.specs.Tables.{new_table, IsTable};
-ghost use Rattle.bit_table.specs.Moved.{AreMoved, Moved};
+ghost use Rattle.bit_table_rows.specs.RowEdit.{added, edited_by, LiesIn, WhereNew};
+ghost use Rattle.bit_table.specs.Moved.{Moved, MovedBy};
+ghost use Rattle.bit_table.specs.RowCommands.{row_edit, HasRowBits};
 ghost use Rattle.bit_table.specs.View.{may_want_memory};
 
 use super::kept::{Kept, copy_of};
@@ -29,10 +32,7 @@ use bit_table_commands::{BoolOp, Command, ImageBytes, Letter, Numbers, Reply, Ro
 use bit_table_fields::{Digits, bits_before, load_row, store_number, store_row};
 use bit_table_image::{read, write};
 use bit_table_layout::{Fault, Layout};
-use bit_table_rows::{
-    LETTERS, Letters, RowEdit, copy_rows, delete_rows, dup_rows, insert_row, keep_rows_of,
-    rotate_rows, swap_rows,
-};
+use bit_table_rows::{LETTERS, Letters, RowEdit, edit_rows, keep_rows_of};
 use std::alloc::{AllocError, Global};
 use std::marker::Model;
 
@@ -267,7 +267,10 @@ impl<A: BitViewSized, O: WordPaths<A::Store> + Digits<A::Store>> Table<A, O> {
     {
         match command {
             Command::Insert { place, values } => self.insert(*place, values.as_slice()),
-            Command::Delete { start, upto } => Ok(self.delete(*start, *upto)),
+            Command::Delete { start, upto } => {
+                let (start, upto) = (*start as usize, *upto as usize);
+                self.edit_by(command, RowEdit::Delete { start, upto })
+            }
             Command::Set {
                 row,
                 field: Some(index),
@@ -276,14 +279,35 @@ impl<A: BitViewSized, O: WordPaths<A::Store> + Digits<A::Store>> Table<A, O> {
             // A field that the layout lacks is a cause.
             Command::Set { .. } => Ok(Reply::Done),
             Command::Get { row } => self.get(*row),
-            Command::Copy { start, upto, place } => Ok(self.copy(*start, *upto, *place)),
-            Command::Swap { row, other } => Ok(self.swap(*row, *other)),
+            Command::Copy { start, upto, place } => {
+                let (start, upto) = (*start as usize, *upto as usize);
+                let place = *place as usize;
+                self.edit_by(command, RowEdit::Copy { start, upto, place })
+            }
+            Command::Swap { row, other } => {
+                let (row, other) = (*row as usize, *other as usize);
+                self.edit_by(command, RowEdit::Swap { row, other })
+            }
             Command::Rotate {
                 start,
                 upto,
                 amount,
-            } => Ok(self.rotate(*start, *upto, *amount)),
-            Command::Dup { start, upto } => self.dup(*start, *upto),
+            } => {
+                let (start, upto) = (*start as usize, *upto as usize);
+                let amount = *amount as usize;
+                self.edit_by(
+                    command,
+                    RowEdit::Rotate {
+                        start,
+                        upto,
+                        amount,
+                    },
+                )
+            }
+            Command::Dup { start, upto } => {
+                let (start, upto) = (*start as usize, *upto as usize);
+                self.edit_by(command, RowEdit::Dup { start, upto })
+            }
             Command::Image => self.image(),
             Command::Load { rows, bytes } => self.load(*rows, bytes.as_slice()),
             Command::Keep => {
@@ -312,40 +336,64 @@ impl<A: BitViewSized, O: WordPaths<A::Store> + Digits<A::Store>> Table<A, O> {
         }
     }
 
+    // Carries out a command that asks for an edit of the rows alone.
+    fn edit_by(&mut self, command: &Command, edit: RowEdit) -> Result<Reply, AllocError>
+        requires accepted { IsAccepted self.old.shape command.now }
+        requires edit { row_edit command.now ≡ Some edit }
+        ensures succeeds { may_want_memory command.now ≡ false → IsOk result }
+        ensures ok { OnOk result (self.new.shape ≡ edit self.old.shape command.now) }
+        ensures reply { IfOk result (λ reply. reply ≡ reply_to self.old.shape command.now) }
+        ensures err { OnErr result (self.new ≡ self.old) }
+        ensures moved { OnOk result (Moved A.Store.BITS self.old command.now self.new) }
+    {
+        self.edit_rows(edit, BitSlice::empty())
+    }
+
     fn insert(&mut self, place: u64, values: &[i128]) -> Result<Reply, AllocError>
         requires { IsAccepted self.old.shape (Command.Insert place values.now) }
         ensures ok { OnOk result (self.new.shape ≡ edit self.old.shape (Command.Insert place values.now)) }
         ensures reply { IfOk result (λ reply. reply ≡ Done) }
         ensures err { OnErr result (self.new ≡ self.old) }
-        ensures moved { OnOk result (AreMoved A.Store.BITS (row_width self.old.shape.layout.fields) (place + 1)
-            (length self.old.shape.rows - place) self.new.moved) }
+        ensures moved { OnOk result (Moved A.Store.BITS self.old (Command.Insert place values.now) self.new) }
     {
         let width = self.layout.row_bits();
-        let row = row_of::<A, O>(&self.layout, values);
-        let row = row.as_bitslice().part(0, width);
+        let buffer = row_of::<A, O>(&self.layout, values);
         let place = place as usize;
-        self.bits.reserve(width)?;
-        let letters = self.letters.edit(RowEdit::Insert { place })?;
-        let rows = insert_row(&mut self.bits, self.rows, width, place, &row).unwrap();
-        self.moved = all_writes(rows, letters);
-        self.rows += 1;
-        Ok(Reply::Done)
+        self.edit_rows(
+            RowEdit::Insert { place },
+            buffer.as_bitslice().part(0, width),
+        )
     }
 
-    fn delete(&mut self, start: u64, upto: u64) -> Reply
-        requires { IsAccepted self.old.shape (Command.Delete start upto) }
-        ensures shape { self.new.shape ≡ edit self.old.shape (Command.Delete start upto) }
-        ensures reply { result ≡ Done }
-        ensures moved { AreMoved A.Store.BITS (row_width self.old.shape.layout.fields) start
-            (length self.old.shape.rows - upto) self.new.moved }
+    // Edits the rows and their letters, or, where memory is wanted, neither. `row` has the bits of a new row.
+    fn edit_rows(
+        &mut self,
+        edit: RowEdit,
+        row: BitSlice<'_, A::Store, O>,
+    ) -> Result<Reply, AllocError>
+        requires range { LiesIn (length self.old.shape.rows) edit }
+        requires most { (length self.old.shape.rows + added edit) * row_width self.old.shape.layout.fields ≤ MAX_BITS }
+        requires width { WhereNew edit (length (view_bits (read_by A.Store.BitRegister O.position) row)
+            ≡ row_width self.old.shape.layout.fields) }
+        ensures succeeds { added edit ≡ 0 → IsOk result }
+
+        // Where `row` has the bits of a row of the numbers `vs`, this is the new row.
+        ensures ok { OnOk result ((vs : List ℤ)
+            → WhereNew edit (HasRowBits self.old.shape.layout vs (view_bits (read_by A.Store.BitRegister O.position) row.entry))
+            → self.new.shape ≡ record self.old.shape { rows = edited_by (new_row vs) edit self.old.shape.rows }) }
+        ensures reply { IfOk result (λ reply. reply ≡ Done) }
+        ensures err { OnErr result (self.new ≡ self.old) }
+        ensures moved { OnOk result (MovedBy A.Store.BITS self.old edit self.new.moved) }
     {
         let width = self.layout.row_bits();
-        let (start, upto) = (start as usize, upto as usize);
-        let letters = self.letters.edit(RowEdit::Delete { start, upto }).unwrap();
-        let rows = delete_rows(&mut self.bits, self.rows, width, start, upto);
-        self.moved = all_writes(rows, letters);
-        self.rows -= upto - start;
-        Reply::Done
+        self.bits.reserve(edit.rows_added() * width)?;
+        let letters = self.letters.edit(edit)?;
+        let rows = edit_rows(&mut self.bits, self.rows, width, edit, &row).unwrap();
+        self.rows = edit.rows_after(self.rows);
+        if edit.moves_rows() {
+            self.moved = all_writes(rows, letters);
+        }
+        Ok(Reply::Done)
     }
 
     fn set(&mut self, row: u64, field: usize, value: i128) -> Reply
@@ -367,70 +415,6 @@ impl<A: BitViewSized, O: WordPaths<A::Store> + Digits<A::Store>> Table<A, O> {
         let at = row as usize * self.layout.row_bits();
         let numbers = load_row(self.alloc, &self.bits, at, &self.layout)?;
         Ok(Reply::Numbers(Numbers::new(numbers)))
-    }
-
-    fn copy(&mut self, start: u64, upto: u64, place: u64) -> Reply
-        requires { IsAccepted self.old.shape (Command.Copy start upto place) }
-        ensures shape { self.new.shape ≡ edit self.old.shape (Command.Copy start upto place) }
-        ensures reply { result ≡ Done }
-        ensures moved { self.new.moved ≡ self.old.moved }
-    {
-        let width = self.layout.row_bits();
-        let (start, upto, place) = (start as usize, upto as usize, place as usize);
-        copy_rows(&mut self.bits, self.rows, width, start, upto, place);
-        self.letters
-            .edit(RowEdit::Copy { start, upto, place })
-            .unwrap();
-        Reply::Done
-    }
-
-    fn swap(&mut self, row: u64, other: u64) -> Reply
-        requires { IsAccepted self.old.shape (Command.Swap row other) }
-        ensures shape { self.new.shape ≡ edit self.old.shape (Command.Swap row other) }
-        ensures reply { result ≡ Done }
-        ensures moved { self.new.moved ≡ self.old.moved }
-    {
-        let width = self.layout.row_bits();
-        let (row, other) = (row as usize, other as usize);
-        swap_rows(&mut self.bits, self.rows, width, row, other);
-        self.letters.edit(RowEdit::Swap { row, other }).unwrap();
-        Reply::Done
-    }
-
-    fn rotate(&mut self, start: u64, upto: u64, amount: u64) -> Reply
-        requires { IsAccepted self.old.shape (Command.Rotate start upto amount) }
-        ensures shape { self.new.shape ≡ edit self.old.shape (Command.Rotate start upto amount) }
-        ensures reply { result ≡ Done }
-        ensures moved { self.new.moved ≡ self.old.moved }
-    {
-        let width = self.layout.row_bits();
-        let (start, upto) = (start as usize, upto as usize);
-        let amount = amount as usize;
-        rotate_rows(&mut self.bits, self.rows, width, start, upto, amount);
-        self.letters
-            .edit(RowEdit::Rotate {
-                start,
-                upto,
-                amount,
-            })
-            .unwrap();
-        Reply::Done
-    }
-
-    fn dup(&mut self, start: u64, upto: u64) -> Result<Reply, AllocError>
-        requires { IsAccepted self.old.shape (Command.Dup start upto) }
-        ensures ok { OnOk result (self.new.shape ≡ edit self.old.shape (Command.Dup start upto)) }
-        ensures reply { IfOk result (λ reply. reply ≡ Done) }
-        ensures err { OnErr result (self.new ≡ self.old) }
-        ensures moved { OnOk result (self.new.moved ≡ self.old.moved) }
-    {
-        let width = self.layout.row_bits();
-        let (start, upto) = (start as usize, upto as usize);
-        self.bits.reserve((upto - start) * width)?;
-        self.letters.edit(RowEdit::Dup { start, upto })?;
-        dup_rows(&mut self.bits, self.rows, width, start, upto).unwrap();
-        self.rows += upto - start;
-        Ok(Reply::Done)
     }
 
     // No memory is taken before the bytes are known to be an image; all new lists are made before the old ones go.

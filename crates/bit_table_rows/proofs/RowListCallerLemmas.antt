@@ -1,11 +1,11 @@
 -- What an edit of a table's bits makes of its rows: the same edit of the list of rows. The rows are those of a layout,
 -- `rows_from l n bits`, of as many bits as n rows have.
 --
--- More and fewer: `rows_after_insert`, `rows_after_delete`, `rows_after_dup`. As many: `rows_after_copy`,
+-- Any of the edits below: `rows_after_edit`. More and fewer: `rows_after_insert`, `rows_after_delete`, `rows_after_dup`. As many: `rows_after_copy`,
 -- `rows_after_swap`, `rows_after_rotate`, `rows_after_set`. One row read: `row_read`. Where a number lies:
 -- `number_within`. The bits of a row stored in front of others: `row_stored`.
 use Rattle.std.proofs.Common.{◌≡◌, ℕ, suc, ◌+◌, ◌-◌, ◌*◌, ◌<◌, ◌≤◌, Bool, true, List, [], ◌∷◌, ◌++◌, ℤ, length}
-use Rattle.std.proofs.Common.{take, drop, map, set, sym, ap, ◌∙◌, arith, append_assoc}
+use Rattle.std.proofs.Common.{take, drop, map, set, sym, ap, ap₂, ◌∙◌, arith, append_assoc}
 use Rattle.std.specs.Prelude.{Some, slice_get, slice_range}
 use Rattle.std.specs.List.{swap}
 use Rattle.std.proofs.lemmas.List.{take_all}
@@ -18,6 +18,9 @@ use Rattle.bit_table_layout.specs.Rows.{Row, new_row, take_all as takes_all, fie
 use Rattle.bit_table_layout.proofs.ReadingLemmas.{length-field_bits, length-numbers_bits}
 use Rattle.bit_table_layout.proofs.RowLemmas.{fields_lawful, length-rows_from, rows_from-append, rows_from-insert}
 use Rattle.bit_table_rows.specs.RowEdits.{inserted, deleted, repeated, copied, exchanged, turned}
+use Rattle.bit_table_rows.specs.declared.edit.RowEdit.{RowEdit}
+use Rattle.bit_table_rows.specs.declared.edit.RowEdit.TheVariants.{Insert, Delete, Copy, Swap, Rotate, Dup}
+use Rattle.bit_table_rows.specs.RowEdit.{bits_edited_by, count_after, edited_by, LiesIn, WhereNew}
 use Rattle.bit_table_rows.specs.RowLists.{CutsRows}
 use Rattle.bit_table_rows.proofs.PlaceLemmas.{place_end}
 use Rattle.bit_table_rows.proofs.RowListLemmas.{rows_inserted, rows_deleted, rows_repeated, rows_written, rows_copied}
@@ -90,6 +93,31 @@ module _ (l : LayoutShape) (n : ℕ) (bits : List Bool) (all : length bits ≡ n
       ≡ take p rows ++ (slice_range rows (p + k) q ++ (slice_range rows p (p + k) ++ drop q rows))
   rows_after_rotate p q k most within =
       rows_turned w (rows_from l) (numbers_as_rows l) n p q k bits most within all
+
+  -- the rows after any of these edits, where ys are the bits of a new row of the numbers vs
+  pub rows_after_edit : (e : RowEdit) (vs : List ℤ) (ys : List Bool) → is_layout l ≡ true → LiesIn n e
+      → WhereNew e (takes_all l.fields vs ≡ true) → WhereNew e (ys ≡ numbers_bits l.rule l.fields vs)
+      → rows_from l (count_after n e) (bits_edited_by w ys e bits) ≡ edited_by (new_row vs) e rows
+  rows_after_edit (Insert p) vs ys lawful within fits are =
+      let count : n + 1 - 0 ≡ n + 1 = omega arith in
+      ap₂ (λ k xs. rows_from l k (inserted bits (p * w) xs)) count are ∙ rows_after_insert p vs lawful fits within
+  rows_after_edit (Delete p q) vs ys lawful within fits are =
+      let count : n + 0 - (q - p) ≡ n - (q - p) = omega arith in
+      ap (λ k. rows_from l k (deleted bits (p * w) (q * w))) count ∙ rows_after_delete p q within.0 within.1
+  rows_after_edit (Copy p q r) vs ys lawful within fits are =
+      let count : n + 0 - 0 ≡ n = omega arith in
+      ap (λ k. rows_from l k (copied bits (p * w) (q * w) (r * w))) count
+      ∙ rows_after_copy p q r within.0 within.1 within.2
+  rows_after_edit (Swap p q) vs ys lawful within fits are =
+      let count : n + 0 - 0 ≡ n = omega arith in
+      ap (λ k. rows_from l k (exchanged bits (p * w) (q * w) w)) count ∙ rows_after_swap p q within.0 within.1
+  rows_after_edit (Rotate p q k) vs ys lawful within fits are =
+      let count : n + 0 - 0 ≡ n = omega arith in
+      ap (λ m. rows_from l m (turned bits (p * w) (q * w) (k * w))) count
+      ∙ rows_after_rotate p q k (omega (arith, within.0, within.2)) within.1
+  rows_after_edit (Dup p q) vs ys lawful within fits are =
+      let count : n + (q - p) - 0 ≡ n + (q - p) = omega arith in
+      ap (λ k. rows_from l k (repeated bits (p * w) (q * w))) count ∙ rows_after_dup p q within.0 within.1
 
   -- row p read
   pub row_read : (p : ℕ) → p < n

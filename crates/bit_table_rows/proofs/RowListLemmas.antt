@@ -217,7 +217,7 @@ module _ {X : Type 0} (w : ℕ) (rows : ℕ → List Bool → List X) (cuts : Cu
       ∙ ap₂ (λ a b. a ++ b) (rows_between n p (p + k) bits lower then_in all) (rows_behind n q bits within all)))
 
 -- one element read, and one written over another
-one_read : {X : Type 0} (xs : List X) (p : ℕ) (d : X) → p < length xs → piece xs p 1 ≡ get_or xs p d ∷ []
+pub one_read : {X : Type 0} (xs : List X) (p : ℕ) (d : X) → p < length xs → piece xs p 1 ≡ get_or xs p d ∷ []
 unfolding piece
 one_read xs p d low = ap (take 1) (drop_more xs p d low)
 

@@ -1,8 +1,8 @@
 -- What an edit of rows makes of any list that has one element a row.
-use Rattle.std.specs.Prelude.{ℕ, ◌+◌, ◌-◌, ◌*◌, ◌<◌, ◌≤◌, List, [], ◌∷◌}
+use Rattle.std.specs.Prelude.{ℕ, ◌+◌, ◌-◌, ◌*◌, ◌<◌, ◌≤◌, Bool, true, false, List, [], ◌∷◌, ⊤}
 use Rattle.std.specs.List.{swap}
 use Rattle.bit_addressing_memory.specs.Memory.{touched}
-use Rattle.bit_table_rows.specs.RowEdits.{inserted, deleted, copied, turned, repeated}
+use Rattle.bit_table_rows.specs.RowEdits.{inserted, deleted, copied, exchanged, turned, repeated}
 use Rattle.bit_table_rows.specs.declared.edit.RowEdit.{RowEdit}
 use Rattle.bit_table_rows.specs.declared.edit.RowEdit.TheVariants.{Insert, Delete, Copy, Swap, Rotate, Dup}
 
@@ -14,6 +14,20 @@ edited_by x (Copy p q r) xs = copied xs p q r
 edited_by x (Swap p q) xs = swap xs p q
 edited_by x (Rotate p q k) xs = turned xs p q k
 edited_by x (Dup p q) xs = repeated xs p q
+
+-- the bits of rows of w bits each after the edit; ys are those of a new row
+abbrev pub bits_edited_by : ℕ → List Bool → RowEdit → List Bool → List Bool
+bits_edited_by w ys (Insert p) xs = inserted xs (p * w) ys
+bits_edited_by w ys (Delete p q) xs = deleted xs (p * w) (q * w)
+bits_edited_by w ys (Copy p q r) xs = copied xs (p * w) (q * w) (r * w)
+bits_edited_by w ys (Swap p q) xs = exchanged xs (p * w) (q * w) w
+bits_edited_by w ys (Rotate p q k) xs = turned xs (p * w) (q * w) (k * w)
+bits_edited_by w ys (Dup p q) xs = repeated xs (p * w) (q * w)
+
+-- P holds, where the edit puts a new row in
+abbrev pub WhereNew : RowEdit → Type 0 → Type 0
+WhereNew (Insert p) P = P
+WhereNew e P = ⊤
 
 -- its rows are there, where there are n rows
 abbrev pub LiesIn : ℕ → RowEdit → Type 0
@@ -38,6 +52,12 @@ taken_out e = 0
 -- how many rows there are after it, where there were n
 abbrev pub count_after : ℕ → RowEdit → ℕ
 count_after n e = n + added e - taken_out e
+
+-- whether a sweep moves rows
+abbrev pub moves_rows : RowEdit → Bool
+moves_rows (Insert p) = true
+moves_rows (Delete p q) = true
+moves_rows e = false
 
 -- how many words of so many bits the move of an edit writes at most, of n rows of w bits each: those that the rows touch
 -- at their new places. Only insertions and deletions move rows by a sweep

@@ -18,4 +18,4 @@ pub use edits::{copy_rows, keep_rows_in, move_rows_in, rotate_rows, swap_rows, w
 pub use keep::keep_rows;
 pub use letters::{LETTERS, Letters};
 pub use rows::move_rows;
-pub use vectors::{delete_rows, dup_rows, insert_row, keep_rows_of};
+pub use vectors::{delete_rows, dup_rows, edit_rows, insert_row, keep_rows_of};

@@ -9,12 +9,10 @@ ghost use Rattle.bit_table_rows.specs.RowEdit.{added, count_after, edited_by, mo
 ghost use Rattle.bit_table_rows.specs.Walk.{Becomes, EachHas};
 
 use crate::edit::RowEdit;
-use crate::edits::{copy_rows, move_rows_in, rotate_rows};
-use crate::vectors::{delete_rows, dup_rows};
-use bit_addressing_memory::BitOrder;
+use crate::vectors::edit_rows;
+use bit_addressing_memory::{BitOrder, no_digits};
 use bit_containers_vector::BitVec;
-use bit_slice_views::BitStore;
-use bit_slice_views_mut::BitsMut;
+use bit_slice_views::{BitSlice, BitStore};
 use std::alloc::AllocError;
 
 // Edits one list of `n` bits, and answers how many words the move of an insertion or deletion wrote. A new row has no
@@ -32,51 +30,9 @@ pub(crate) fn edit_list<T: BitStore, O: BitOrder<T>>(
     ensures succeeds { HasRoomFor (read_by T.BitRegister O.position) list.old (added edit) → IsOk result }
     ensures writes { IfOk result (λ writes. writes ≤ most_moved T.BITS 1 n edit) }
 {
-    match edit {
-        RowEdit::Insert { place } => insert_zero(list, n, place),
-        RowEdit::Delete { start, upto } => Ok(delete_rows(list, n, 1, start, upto)),
-        RowEdit::Copy { start, upto, place } => {
-            copy_rows(list, n, 1, start, upto, place);
-            Ok(0)
-        }
-        RowEdit::Swap { row, other } => {
-            list.swap(row, other);
-            Ok(0)
-        }
-        RowEdit::Rotate {
-            start,
-            upto,
-            amount,
-        } => {
-            rotate_rows(list, n, 1, start, upto, amount);
-            Ok(0)
-        }
-        RowEdit::Dup { start, upto } => {
-            dup_rows(list, n, 1, start, upto)?;
-            Ok(0)
-        }
-    }
-}
-
-// Puts a zero in before bit `place` of `n` bits.
-fn insert_zero<T: BitStore, O: BitOrder<T>>(
-    list: &mut BitVec<T, O>,
-    n: usize,
-    place: usize,
-) -> Result<usize, AllocError>
-    requires column { IsColumn (read_by T.BitRegister O.position) n list.old }
-    requires within { place ≤ n }
-    requires most { n < MAX_BITS }
-    ensures ok { OnOk result (HasBits (read_by T.BitRegister O.position) (edited_by false (RowEdit.Insert place))
-        list.old list.new) }
-    ensures err { OnErr result (IsAsBefore (read_by T.BitRegister O.position) list.old list.new) }
-    ensures succeeds { HasRoomFor (read_by T.BitRegister O.position) list.old 1 → IsOk result }
-    ensures writes { IfOk result (λ writes. writes ≤ most_moved T.BITS 1 n (RowEdit.Insert place)) }
-{
-    list.push(false)?;
-    let writes = move_rows_in(list, place, place + 1, n, 1);
-    list.set(place, false);
-    Ok(writes)
+    let zeros = no_digits::<T, O>();
+    let row = BitSlice::<T, O>::from_element(&zeros).part(0, 1);
+    edit_rows(list, n, 1, edit, &row)
 }
 
 // Makes room for `more` bits in each list.

@@ -35,8 +35,12 @@ pub use Rattle.bit_slice_access.specs.PartLender
 pub use Rattle.bit_slice_access.specs.Shows
 pub use Rattle.bit_slice_iterators.specs.Indices
 pub use Rattle.bit_slice_splits.specs.Ways
+pub use Rattle.bit_slice_words.specs.PathLaws
 pub use Rattle.bit_slice_words.specs.Steps
+pub use Rattle.bit_addressing_memory.specs.BitOrder
+pub use Rattle.bit_addressing_memory.specs.BitRegister
 pub use Rattle.bit_addressing_memory.specs.Memory
 pub use Rattle.bit_addressing_memory.specs.Moves
+pub use Rattle.bit_addressing_memory.specs.OrderLaws
 pub use Rattle.bit_addressing_memory.specs.Sweep
 pub use Rattle.bit_addressing_memory.specs.Ways as SweepWays

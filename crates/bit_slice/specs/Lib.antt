@@ -32,8 +32,12 @@ pub use Rattle.bit_slice_words.specs.Found
 pub use Rattle.bit_slice_words.specs.Holds
 pub use Rattle.bit_slice_words.specs.Edits
 pub use Rattle.bit_slice_words.specs.Rotations
+pub use Rattle.bit_slice_words.specs.PathLaws
 pub use Rattle.bit_slice_words.specs.Steps
+pub use Rattle.bit_addressing_memory.specs.BitOrder
+pub use Rattle.bit_addressing_memory.specs.BitRegister
 pub use Rattle.bit_addressing_memory.specs.Memory
 pub use Rattle.bit_addressing_memory.specs.Moves
+pub use Rattle.bit_addressing_memory.specs.OrderLaws
 pub use Rattle.bit_addressing_memory.specs.Sweep
 pub use Rattle.bit_addressing_memory.specs.Ways as SweepWays

@@ -11,9 +11,10 @@ pub mod splitting;
 pub mod words;
 
 pub use bit_addressing_memory::{
-    BitIdx, BitOrder, BitRegister, LocalBits, Lsb0, Msb0, Sweep, Way, mem, move_in, way_for,
+    BitIdx, BitOrder, BitRegister, LocalBits, Lsb0, Msb0, OrderCandidate, Positions, Sweep, Way,
+    mask_from_at, mem, move_in, select_from_at, way_for,
 };
-pub use bit_addressing_span::{BitSpanError, Domain, DomainMut, MAX_BITS};
+pub use bit_addressing_span::{BitSpanError, Domain, DomainMut, MAX_BITS, PartialElement};
 pub use bit_slice_access::{
     BitDomainMut, BitMut, BitRangeMut, BitSliceIndexMut, BitsAccess, BitsCopy, BitsCut,
     BitsDomains, BitsEdits, BitsFill, BitsParts, Halves, Part, WindowDomainMut,

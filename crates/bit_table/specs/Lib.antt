@@ -44,3 +44,7 @@ pub use Rattle.bit_slice_words.specs.Steps
 pub use Rattle.bit_addressing_memory.specs.Memory
 pub use Rattle.bit_addressing_memory.specs.Sweep
 pub use Rattle.bit_addressing_memory.specs.Ways as SweepWays
+pub use Rattle.bit_addressing_memory.specs.BitOrder
+pub use Rattle.bit_addressing_memory.specs.BitRegister
+pub use Rattle.bit_addressing_memory.specs.OrderLaws
+pub use Rattle.bit_slice_words.specs.PathLaws

@@ -12,7 +12,8 @@ mod streams;
 mod table;
 
 pub use bit_addressing_memory::{
-    BitIdx, BitOrder, BitRegister, LocalBits, Lsb0, Msb0, OrderCandidate, Sweep, Way, way_for,
+    BitIdx, BitOrder, BitRegister, LocalBits, Lsb0, Msb0, OrderCandidate, Positions, Sweep, Way,
+    mask_from_at, select_from_at, way_for,
 };
 pub use bit_containers_vector::BitVec;
 pub use bit_slice_views::{BitSlice, BitStore, BitViewSized, Bits};

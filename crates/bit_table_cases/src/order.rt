@@ -1,12 +1,12 @@
 //! An order of a user's own, with its word paths and its digits bit by bit: what a table wants of an order.
 
 ghost use Rattle.std.specs.Prelude.{◌≡◌, ℕ, ◌+◌, ◌*◌, ◌%◌, ◌^◌, ◌<◌, ◌≤◌, ◌↔◌, ◌&&◌, ◌||◌, length, IsTrue, true, false};
-ghost use Rattle.bit_addressing_memory.specs.BitOrder.{selectors_from, masks_from};
+ghost use Rattle.bit_table.specs.BitOrder.{selectors_from, masks_from};
 
-use bit_addressing_memory::{
-    BitOrder, BitRegister, OrderCandidate, Positions, mask_from_at, select_from_at,
+use bit_table::{
+    BitOrder, BitRegister, BitsMut, Digits, OrderCandidate, Positions, Steps, WordPaths, by_bits,
+    digits_by_bits, mask_from_at, select_from_at,
 };
-use bit_table::{BitsMut, Digits, Steps, WordPaths, by_bits, digits_by_bits};
 
 /// Goes by steps of three from position 1, round the word.
 #[derive(Clone, Copy)]
@@ -36,13 +36,13 @@ impl<R: BitRegister> OrderCandidate<R> for ThirdStep {
 
 impl<R: BitRegister> BitOrder<R> for ThirdStep {
     ghost use Rattle.std.specs.Prelude.{refl};
-    ghost use Rattle.bit_addressing_memory.specs.OrderLaws.{lawful_by_steps};
+    ghost use Rattle.bit_table.specs.OrderLaws.{lawful_by_steps};
 
     ghost lawful = { lawful_by_steps R.BITS 3 1 R.size refl };
 }
 
 impl<R: BitRegister> WordPaths<R> for ThirdStep {
-    ghost use Rattle.bit_slice_words.specs.PathLaws.{one_span, span_of_one};
+    ghost use Rattle.bit_table.specs.PathLaws.{one_span, span_of_one};
 
     ghost SPAN = { 1 };
 

@@ -1,8 +1,17 @@
-//! `HiLo`: its positions, selectors and masks, and its word paths.
+//! `HiLo`: that it is lawful, its positions, selectors and masks, and its word paths.
 
 use bit_addressing_memory::{BitEnd, BitIdx, OrderCandidate, Positions, read_entry};
+use bit_addressing_sample_orders::word_callers::toggled;
+use bit_addressing_verify::verify;
 use bit_slice_words::{Steps, WordPaths};
 use bit_table_fields::HiLo;
+
+#[test]
+fn it_is_lawful_at_each_word(rt: HostRuntime) {
+    assert!(rt; verify::<HiLo>() == Ok(()));
+    let first = BitIdx::<u8>::new_unchecked(0);
+    assert!(rt; toggled::<u8, HiLo>(0xff, first) == 0b1110_1111);
+}
 
 #[test]
 fn each_four_bits_change_places(rt: HostRuntime) {

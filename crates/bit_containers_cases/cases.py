@@ -16,8 +16,9 @@ ORDERS = {
     "lsb0": lambda bits, i: i,
     "msb0": lambda bits, i: bits - 1 - i,
     "fifth": lambda bits, i: (5 * i + 3) % bits,
-    "flipped": lambda bits, i: i ^ 4,
 }
+# Those that the sweeps go by: the order of a user's own twice.
+SWEPT = (*ORDERS, "fifth")
 
 UNEQUAL = "bit-slice with length {0} cannot be viewed as bit-array with length 8: TryFromBitSliceError::UnequalLen({0} != 8)"
 MISALIGNED = (
@@ -654,7 +655,7 @@ def past(plain, rng, calls, answers):
 def vectors(rng):
     for word in WORDS:
         heads = range(8) if word == "u8" else (0, WORDS[word] - 1)
-        for order in ORDERS:
+        for order in SWEPT:
             for head in heads:
                 for _ in range(2 if word == "u8" else 1):
                     for names in groups_of(rng, LOOKS + WRITES + EDITS, 6):
@@ -669,7 +670,7 @@ def vectors(rng):
 def boxes(rng):
     for word in WORDS:
         heads = range(8) if word == "u8" else (0, WORDS[word] - 1)
-        for order in ORDERS:
+        for order in SWEPT:
             for head in heads:
                 for names in groups_of(rng, LOOKS + WRITES + BOXES, 5):
                     memory, bits = window(rng, word, order, head, rng.choice((0, 1, 2, 5, 8, 9, 13, 20)))
@@ -685,7 +686,7 @@ def boxes(rng):
 def arrays(rng):
     for kind, count in (("word", 1), ("array1", 1), ("array2", 2), ("array3", 3)):
         for word in WORDS:
-            for order in ORDERS:
+            for order in SWEPT:
                 for names in groups_of(rng, LOOKS + WRITES + ARRAYS, 7):
                     n = count * WORDS[word]
                     memory, bits = window(rng, word, order, 0, n)

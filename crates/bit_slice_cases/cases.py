@@ -189,8 +189,6 @@ ORDERS = {
     "lsb0": lambda bits, i: i,
     "msb0": lambda bits, i: bits - 1 - i,
     "fifth": lambda bits, i: (5 * i + 3) % bits,
-    "flipped": lambda bits, i: i ^ 4,
-    "upper": lambda bits, i: i ^ 16,
 }
 TYPES = {"u8": 8, "u16": 16, "u32": 32, "u64": 64, "u128": 128, "usize": 64}
 TYPES |= {"i8": 8, "i16": 16, "i32": 32, "i64": 64, "i128": 128, "isize": 64}
@@ -535,8 +533,6 @@ def memories(rng):
     """Windows in one word, across two and across more, empty ones too."""
     for word, bits in WORDS.items():
         for order in ORDERS:
-            if order == "upper" and word != "u32":
-                continue
             for place in (0, 1, 3, 7, bits - 1, bits, 19):
                 for length in (0, 1, 4, 8, 13, 24, 40, 64, 100, 140):
                     count = (place + length + bits - 1) // bits + 1
@@ -569,14 +565,14 @@ def calls_of(memory, place, length, rng):
 
 
 def sweep():
-    """Of each window some calls, those that came least often under its order."""
+    """Of each window two calls, and four under `fifth`: those that came least often under its order."""
     rng = random.Random(7)
     came = {}
     for memory, place, length in memories(rng):
         calls = list(calls_of(memory, place, length, rng))
         rng.shuffle(calls)
         calls.sort(key=lambda it: came.get((it[0], memory.order), 0))
-        for call, line, answer in calls[:2]:
+        for call, line, answer in calls[: 4 if memory.order == "fifth" else 2]:
             came[call, memory.order] = came.get((call, memory.order), 0) + 1
             yield line, answer
 
@@ -618,9 +614,9 @@ def single_sweep():
     """The only bit of a kind, at some indices of windows of each order."""
     rng = random.Random(3)
     for order in ORDERS:
-        for length in (1, 4, 8, 13, 24, 40, 64, 100, 120, 140):
+        for length in (1, 2, 4, 7, 8, 13, 16, 24, 31, 33, 40, 63, 64, 65, 100, 120, 140):
             for bit in (0, 1):
-                word = "u32" if order == "upper" else rng.choice(("u8", "u16", "u64"))
+                word = rng.choice(("u8", "u16", "u32", "u64"))
                 place, i = rng.choice((0, 3, 7)), rng.randrange(length)
                 count = (place + length) // WORDS[word] + 1
                 memory = Memory(word, order, [0 if bit else (1 << WORDS[word]) - 1] * count)

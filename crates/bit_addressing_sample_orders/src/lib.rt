@@ -1,4 +1,4 @@
-//! Three orders of a user's own, how their bits are counted by hand, and what a user of the orders proves from their
+//! An order of a user's own, how the bits of orders are counted by hand, and what a user of orders proves from their
 //! contracts alone.
 #![tactic(auto)]
 
@@ -7,4 +7,4 @@ mod orders;
 pub mod word_callers;
 
 pub use count::Count;
-pub use orders::{FifthStep, Flipped, UpperHalfFirst};
+pub use orders::FifthStep;

@@ -40,4 +40,4 @@ mod sweeps;
 #[cfg(test)]
 mod two_lists;
 
-pub use bit_addressing_sample_orders::{Count, FifthStep, Flipped};
+pub use bit_addressing_sample_orders::{Count, FifthStep};

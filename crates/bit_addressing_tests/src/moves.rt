@@ -5,7 +5,7 @@ ghost use Rattle.std.specs.Prelude.{◌+◌, ◌*◌, ◌<◌, ◌≤◌};
 use crate::callers::{byte_reads, move_counted, move_list, move_within, own_array};
 use bit_addressing::mem::bits_of;
 use bit_addressing::{BitIdx, BitOrder, BitRegister, Lsb0, Msb0, read_bit};
-use bit_addressing_sample_orders::{FifthStep, Flipped};
+use bit_addressing_sample_orders::FifthStep;
 
 #[test]
 fn moves_of_sixteen_bits(rt: HostRuntime) {
@@ -32,10 +32,10 @@ fn moves_of_sixteen_bits(rt: HostRuntime) {
 }
 
 #[test]
-fn moves_under_other_orders(rt: HostRuntime) {
+fn moves_under_another_order(rt: HostRuntime) {
     let mut words = [0x12u8, 0x34, 0x56];
-    let writes = move_list::<u8, Flipped>(&mut words, 4, 0, 16);
-    assert!(rt; words == [0x23, 0x45, 0x56]);
+    let writes = move_list::<u8, FifthStep>(&mut words, 4, 8, 16);
+    assert!(rt; words == [0x12, 0x63, 0x41]);
     assert!(rt; writes <= 2);
     let (words, writes) = own_array::<u8, FifthStep>(0x12, 0x34, 0x56);
     assert!(rt; words == [0x63, 0x41, 0x56]);
@@ -103,7 +103,7 @@ fn every_small_move_is_a_plain_copy(rt: HostRuntime) {
     let before = [0x12, 0x34, 0x56, 0x78, 0x9a, 0xbc, 0xde, 0xf0, 0x5b];
     assert!(rt; first_fault::<Lsb0>(before) == None);
     assert!(rt; first_fault::<Msb0>(before) == None);
-    assert!(rt; first_fault::<Flipped>(before) == None);
+    assert!(rt; first_fault::<FifthStep>(before) == None);
 }
 
 #[test]
@@ -128,7 +128,7 @@ fn some_moves_of_wide_words_are_plain_copies(rt: HostRuntime) {
         let agreed = (
             agrees::<u32, Lsb0, 3>(before, source, target, len),
             agrees::<u32, Msb0, 3>(before, source, target, len),
-            agrees::<u32, Flipped, 3>(before, source, target, len),
+            agrees::<u32, FifthStep, 3>(before, source, target, len),
         );
         assert!(rt;
             agreed == (true, true, true),
@@ -187,7 +187,7 @@ where
     [
         first_wide_fault::<R, Lsb0>(before),
         first_wide_fault::<R, Msb0>(before),
-        first_wide_fault::<R, Flipped>(before),
+        first_wide_fault::<R, FifthStep>(before),
     ]
 }
 

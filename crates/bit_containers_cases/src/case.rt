@@ -5,7 +5,7 @@ use crate::boxes::box_case;
 use crate::call::{number, read_words};
 use crate::operators::combine;
 use crate::vectors::vector_case;
-use bit_addressing_sample_orders::{FifthStep, Flipped};
+use bit_addressing_sample_orders::FifthStep;
 use bit_containers::{BitOrder, BitSlice, BitStore, Lsb0, Msb0, WordPaths};
 use std::alloc::{AllocError, Global};
 use std::str::SplitWhitespace;
@@ -36,7 +36,6 @@ fn in_words<T: BitStore>(
         "lsb0" => in_paths::<T, Lsb0>(alloc, kind, words),
         "msb0" => in_paths::<T, Msb0>(alloc, kind, words),
         "fifth" => in_order::<T, FifthStep>(alloc, kind, words),
-        "flipped" => in_order::<T, Flipped>(alloc, kind, words),
         _ => "no such order".to_string(alloc),
     }
 }

@@ -1,13 +1,26 @@
-//! The tests of vectors of bits; and what a user proves from their contracts alone.
+//! The tests of arrays, vectors and boxes of bits, and of what they lend; and what a user proves from their contracts alone.
 #![tactic(auto)]
 
+pub mod arrays;
+#[cfg(test)]
+mod boxes_lent;
 #[cfg(test)]
 mod callers;
 #[cfg(test)]
-mod lent;
+mod changes;
+#[cfg(test)]
+mod compared;
+#[cfg(test)]
+mod kept;
+#[cfg(test)]
+mod made;
 #[cfg(test)]
 mod memory;
 pub mod numbers;
+#[cfg(test)]
+mod readme;
 pub mod reserved;
 #[cfg(test)]
 mod taken;
+#[cfg(test)]
+mod vectors_lent;

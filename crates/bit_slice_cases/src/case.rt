@@ -13,7 +13,7 @@ use crate::shares::{make, share};
 use crate::splits::split;
 use crate::texts::show;
 use crate::writes::{exchange, write};
-use bit_addressing_sample_orders::{FifthStep, Flipped, UpperHalfFirst};
+use bit_addressing_sample_orders::FifthStep;
 use bit_slice::{
     BitOrder, BitRegister, BitSlice, BitSliceMut, Bits, BitsWindow, FieldOrder, Lsb0, Msb0,
     WordPaths,
@@ -66,7 +66,6 @@ pub fn answer(alloc: Global, line: &str) -> Result<String, AllocError> {
     match word {
         "u8" => in_words::<u8>(alloc, order, &case),
         "u16" => in_words::<u16>(alloc, order, &case),
-        "u32" if order == "upper" => in_order::<u32, UpperHalfFirst>(alloc, &case),
         "u32" => in_words::<u32>(alloc, order, &case),
         "u64" => in_words::<u64>(alloc, order, &case),
         "usize" => in_words::<usize>(alloc, order, &case),
@@ -83,7 +82,6 @@ fn in_words<R: BitRegister>(
         "lsb0" => in_turn::<R, Lsb0>(alloc, case),
         "msb0" => in_turn::<R, Msb0>(alloc, case),
         "fifth" => in_order::<R, FifthStep>(alloc, case),
-        "flipped" => in_order::<R, Flipped>(alloc, case),
         _ => "no such order".to_string(alloc),
     }
 }

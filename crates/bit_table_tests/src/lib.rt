@@ -1,4 +1,5 @@
-//! The tests of texts, replies, command lines, single calls, and runs between readers and writers that fail.
+//! The tests of rows and fields in bits, texts, replies, command lines, single calls, and runs between readers and writers
+//! that fail; and what a user of rows and fields proves.
 #![tactic(auto)]
 
 #[cfg(test)]
@@ -8,6 +9,14 @@ mod causes;
 #[cfg(test)]
 mod command_lines;
 #[cfg(test)]
+mod digit_callers;
+#[cfg(test)]
+mod field_callers;
+#[cfg(test)]
+mod field_rows;
+#[cfg(test)]
+mod growth;
+#[cfg(test)]
 mod image_lines;
 #[cfg(test)]
 mod line_runs;
@@ -16,6 +25,10 @@ mod line_words;
 #[cfg(test)]
 mod numbers;
 #[cfg(test)]
+mod orders;
+#[cfg(test)]
 mod replies;
+#[cfg(test)]
+mod rows;
 #[cfg(test)]
 mod streams;

@@ -1,4 +1,0 @@
-pub mod FilledLemmas
-pub mod MarkedLemmas
-pub mod RunLemmas
-pub mod NetworkLemmas

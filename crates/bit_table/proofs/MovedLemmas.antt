@@ -1,11 +1,14 @@
 -- The word writes of a table's moves.
-use Rattle.std.proofs.Common.{◌≡◌, ℕ, ◌+◌, ◌-◌, ◌*◌, ◌≤◌, true, List, Option, ◌∷◌, length, arith, ap, ap₂, ◌∙◌, subst}
+use Rattle.std.proofs.Common.{◌≡◌, ℕ, ◌+◌, ◌-◌, ◌*◌, ◌≤◌, true, false, List, Option, ◌∷◌, length, arith, refl, ap, ap₂, ◌∙◌, subst}
 use Rattle.std.specs.List.{All}
 use Rattle.std.specs.Prelude.{IfSome, slice_index}
 use Rattle.bit_addressing_memory.specs.Memory.{touched}
 use Rattle.bit_slice_views_mut.specs.Frame.{Frame}
 use Rattle.bit_table_layout.specs.Layouts.{LayoutShape, is_layout, row_width}
-use Rattle.bit_table.specs.Moved.{AreMoved}
+use Rattle.bit_table_rows.specs.declared.edit.RowEdit.{RowEdit}
+use Rattle.bit_table_rows.specs.declared.edit.RowEdit.TheVariants.{Insert, Delete, Copy, Swap, Rotate, Dup}
+use Rattle.bit_table_rows.specs.RowEdit.{most_moved, moves_rows}
+use Rattle.bit_table.specs.Moved.{AreMoved, MovedBy}
 use Rattle.bit_table.specs.View.{AreStored, StoredRows, TableView}
 use Rattle.bit_table.proofs.TableLemmas.{count_is, layout_is, view_from}
 
@@ -39,6 +42,24 @@ module _ (v : TableView) (l : LayoutShape) (s : StoredRows) (kept : Option Store
         rows_few = subst (λ b. rows ≤ b) (ap₂ (touched word) place size) few;
         letters_few = subst (λ b. All (λ m. m ≤ b) letters) (ap₂ (touched word) start marks) each;
       }
+
+  -- and so after an edit of rows that moves some, and else no number is another one
+  pub moved_by : (word : ℕ) (edit : RowEdit) (rows : ℕ) (letters now : List ℕ)
+      → (moves_rows edit ≡ true → now ≡ rows ∷ letters) → (moves_rows edit ≡ false → now ≡ v.moved)
+      → rows ≤ most_moved word (row_width l.fields) s.rows edit
+      → All (λ m. m ≤ most_moved word 1 (length s.letters) edit) letters → MovedBy word v edit now
+  moved_by word (Insert p) rows letters now is rests few each =
+      let begin : (p + 1) * row_width l.fields ≡ 0 + (p + 1) * row_width l.fields = omega arith in
+      are_moved word (p + 1) p 0 rows letters now (is refl) refl
+      (subst (λ a. rows ≤ touched word a ((s.rows - p) * row_width l.fields)) begin few) each
+  moved_by word (Delete p q) rows letters now is rests few each =
+      let begin : p * row_width l.fields ≡ 0 + p * row_width l.fields = omega arith in
+      are_moved word p q 0 rows letters now (is refl) refl
+      (subst (λ a. rows ≤ touched word a ((s.rows - q) * row_width l.fields)) begin few) each
+  moved_by word (Copy p q r) rows letters now is rests few each = rests refl
+  moved_by word (Swap p q) rows letters now is rests few each = rests refl
+  moved_by word (Rotate p q k) rows letters now is rests few each = rests refl
+  moved_by word (Dup p q) rows letters now is rests few each = rests refl
 
   -- n rows that stay, of which the first stands first, and a list of which nothing moved
   pub are_together : (word h rows left n m x : ℕ) (letters now : List ℕ) → now ≡ rows ∷ letters → h ≡ 0 → left ≡ n

@@ -1,6 +1,6 @@
 //! A table: rows of a layout, packed bit by bit in words of any width and order.
 
-ghost use Rattle.std.specs.Prelude.{◌≡◌, ◌≢◌, ◌+◌, ◌*◌, ◌≤◌, ◌∷◌, Bool, false, true, length, map, replicate, take, None, Some};
+ghost use Rattle.std.specs.Prelude.{◌≡◌, ◌≢◌, ◌+◌, ◌*◌, ◌≤◌, ◌∷◌, Bool, false, true, length, map, replicate, take, None};
 ghost use Rattle.std.specs.Prelude.{ℤ, List};
 ghost use Rattle.std.specs.Prelude.{is_some, IfOk, IsOk, OnOk, OnErr, IsOkUnless, IsTrue, MatchOption};
 ghost use Rattle.bit_addressing_memory.specs.Memory.{read_by};
@@ -16,9 +16,9 @@ ghost use Rattle.bit_table_commands.specs.Edits.{edit, reply_to};
 ghost use Rattle.bit_table_commands.specs.Marks.{row_bears};
 ghost use Rattle.bit_table_commands.specs.declared.reply.Reply.TheVariants.{Done};
 ghost use Rattle.bit_table_commands.specs.Tables.{new_table, IsTable};
-ghost use Rattle.bit_table_rows.specs.RowEdit.{added, edited_by, LiesIn, WhereNew};
+ghost use Rattle.bit_table_rows.specs.RowEdit.{added, edited_by, moves_rows, LiesIn, WhereNew};
 ghost use Rattle.bit_table.specs.Moved.{Moved, MovedBy};
-ghost use Rattle.bit_table.specs.RowCommands.{row_edit, HasRowBits};
+ghost use Rattle.bit_table.specs.RowCommands.{AsksFor, HasRowBits};
 ghost use Rattle.bit_table.specs.View.{may_want_memory};
 
 use super::kept::{Kept, copy_of};
@@ -339,7 +339,7 @@ impl<A: BitViewSized, O: WordPaths<A::Store> + Digits<A::Store>> Table<A, O> {
     // Carries out a command that asks for an edit of the rows alone.
     fn edit_by(&mut self, command: &Command, edit: RowEdit) -> Result<Reply, AllocError>
         requires accepted { IsAccepted self.old.shape command.now }
-        requires edit { row_edit command.now ≡ Some edit }
+        requires edit { AsksFor edit command.now }
         ensures succeeds { may_want_memory command.now ≡ false → IsOk result }
         ensures ok { OnOk result (self.new.shape ≡ edit self.old.shape command.now) }
         ensures reply { IfOk result (λ reply. reply ≡ reply_to self.old.shape command.now) }
@@ -390,9 +390,7 @@ impl<A: BitViewSized, O: WordPaths<A::Store> + Digits<A::Store>> Table<A, O> {
         let letters = self.letters.edit(edit)?;
         let rows = edit_rows(&mut self.bits, self.rows, width, edit, &row).unwrap();
         self.rows = edit.rows_after(self.rows);
-        if edit.moves_rows() {
-            self.moved = all_writes(rows, letters);
-        }
+        self.moved = writes_told(edit, rows, letters, self.moved);
         Ok(Reply::Done)
     }
 
@@ -528,6 +526,22 @@ fn row_of<A: BitViewSized, O: WordPaths<A::Store> + Digits<A::Store>>(
     let _bits = BitArray::len(&row);
     store_row(&mut row, 0, layout, values);
     row
+}
+
+// The word writes of an edit's moves, where it moves rows by a sweep, and else those told before.
+fn writes_told(
+    edit: RowEdit,
+    rows: usize,
+    letters: [usize; LETTERS],
+    before: [usize; 27],
+) -> [usize; 27]
+    ensures moves { moves_rows edit ≡ true → result ≡ rows ∷ letters }
+    ensures rests { moves_rows edit ≡ false → result ≡ before }
+{
+    match edit {
+        RowEdit::Insert { .. } | RowEdit::Delete { .. } => all_writes(rows, letters),
+        _ => before,
+    }
 }
 
 // The word writes of the moves of the rows' list, and then those of the letters' lists.

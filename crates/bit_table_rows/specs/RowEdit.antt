@@ -53,7 +53,7 @@ taken_out e = 0
 abbrev pub count_after : ℕ → RowEdit → ℕ
 count_after n e = n + added e - taken_out e
 
--- whether a sweep moves rows
+-- whether it moves rows by a sweep
 abbrev pub moves_rows : RowEdit → Bool
 moves_rows (Insert p) = true
 moves_rows (Delete p q) = true

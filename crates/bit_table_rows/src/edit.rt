@@ -1,7 +1,7 @@
 //! Edits of a list of rows, by the places of rows in it.
 
 ghost use Rattle.std.specs.Prelude.{◌≡◌, ◌+◌, ◌<◌, ◌^◌};
-ghost use Rattle.bit_table_rows.specs.RowEdit.{added, count_after, moves_rows};
+ghost use Rattle.bit_table_rows.specs.RowEdit.{added, count_after};
 
 /// An edit of a list of rows: which rows are put in, taken out, copied or moved. Rows are numbered from 0.
 #[derive(Debug, Clone, Copy, PartialEq, Eq)]
@@ -49,13 +49,6 @@ impl RowEdit {
             RowEdit::Dup { start, upto } => upto.saturating_sub(start),
             _ => 0,
         }
-    }
-
-    /// Whether a sweep moves rows: those behind the rows that it puts in or takes out.
-    pub fn moves_rows(self) -> bool
-        ensures { result ≡ moves_rows self }
-    {
-        matches!(self, RowEdit::Insert { .. } | RowEdit::Delete { .. })
     }
 
     /// How many rows there are after it, where there were so many.

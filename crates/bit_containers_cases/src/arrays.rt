@@ -1,9 +1,10 @@
 //! Cases of arrays.
 
-use crate::call::{Call, number, put_bits, read_word};
+use crate::call::{Call, put_bits, read_word};
 use crate::looks::look;
 use crate::shown::{push_bit, push_list, push_ref, push_texts, push_turns, push_words};
 use crate::writes::{put_word, write};
+use bit_addressing_sample_orders::texts::number;
 use bit_containers::array::IntoIter;
 use bit_containers::{
     BitArray, BitArrayZero, BitOrder, BitSlice, BitViewSized, Bits, BitsMut, BitsOwned, Msb0,

@@ -1,11 +1,12 @@
 //! Cases of boxes.
 
-use crate::call::{Call, number, put_bits, read_word, read_words};
+use crate::call::{Call, put_bits, read_word};
 use crate::looks::look;
 use crate::shown::{
     push_bit, push_list, push_number, push_ref, push_texts, push_turns, push_words,
 };
 use crate::writes::{put_word, write};
+use bit_addressing_sample_orders::texts::{number, read_words};
 use bit_containers::boxed::IntoIter;
 use bit_containers::{BitBox, BitOrder, BitSlice, BitStore, BitVec, Bits, BitsMut, Msb0};
 use std::alloc::{AllocError, Global};

@@ -3,7 +3,6 @@
 ghost use Rattle.std.specs.Prelude.{◌≤◌};
 
 use bit_containers::{BitSliceMut, BitStore, Bits, BitsMut, Msb0};
-use std::alloc::{AllocError, Global};
 use std::str::SplitWhitespace;
 
 /// A call by its name, with up to three words.
@@ -47,11 +46,6 @@ impl<'a> Call<'a> {
     }
 }
 
-/// A number in decimal, and 0 for any other word.
-pub fn number(word: &str) -> usize {
-    word.parse::<usize>().unwrap_or(0)
-}
-
 // The number of a hexadecimal digit.
 fn digit(byte: u8) -> u128 {
     match byte {
@@ -59,23 +53,6 @@ fn digit(byte: u8) -> u128 {
         b'a'..=b'f' => (byte - b'a') as u128 + 10,
         _ => 0,
     }
-}
-
-/// The words of a text of hexadecimal digits.
-pub fn read_words<T: BitStore>(alloc: Global, text: &str) -> Result<Vec<T>, AllocError> {
-    let mut words = Vec::new(alloc);
-    let mut value = 0u128;
-    let mut digits = 0u8;
-    for byte in text.bytes() {
-        value = value << 4 | digit(byte);
-        digits = digits.wrapping_add(4);
-        if digits == T::BITS {
-            words.push(T::from_value(value))?;
-            value = 0;
-            digits = 0;
-        }
-    }
-    Ok(words)
 }
 
 /// The word of a text of hexadecimal digits.

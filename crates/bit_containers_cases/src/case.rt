@@ -2,10 +2,10 @@
 
 use crate::arrays::array_case;
 use crate::boxes::box_case;
-use crate::call::{number, read_words};
 use crate::operators::combine;
 use crate::vectors::vector_case;
 use bit_addressing_sample_orders::FifthStep;
+use bit_addressing_sample_orders::texts::{number, read_words};
 use bit_containers::{BitOrder, BitSlice, BitStore, Lsb0, Msb0, WordPaths};
 use std::alloc::{AllocError, Global};
 use std::str::SplitWhitespace;

@@ -1,7 +1,8 @@
 //! Calls that add bits at the end of a vector.
 
-use crate::call::{Call, read_words};
+use crate::call::Call;
 use crate::shown::push_list;
+use bit_addressing_sample_orders::texts::read_words;
 use bit_containers::{BitOrder, BitSlice, BitStore, BitVec, Bits, BitsIter, Msb0};
 use std::alloc::{AllocError, Global};
 

@@ -1,7 +1,8 @@
 //! Calls that read a list.
 
-use crate::call::{Call, number};
+use crate::call::Call;
 use crate::shown::{push_bit, push_list, push_number, push_ref, push_turns};
+use bit_addressing_sample_orders::texts::number;
 use bit_containers::{Bits, BitsIter, BitsParts, BitsPieces};
 use std::alloc::{AllocError, Global};
 use std::cmp::Ordering;

@@ -1,7 +1,8 @@
 //! Calls that put another vector in the place of one.
 
-use crate::call::{Call, number, read_words};
+use crate::call::Call;
 use crate::shown::{push_turns, push_words};
+use bit_addressing_sample_orders::texts::{number, read_words};
 use bit_containers::{BitOrder, BitStore, BitVec, IntoBoxed};
 use std::alloc::{AllocError, Global};
 

@@ -1,5 +1,6 @@
 //! What is written of lists, words and iterators.
 
+use bit_addressing_sample_orders::texts;
 use bit_containers::{BitRef, BitRegister, Bits};
 use std::alloc::{AllocError, Global};
 use std::fmt;
@@ -48,15 +49,7 @@ const DIGITS: [char; 16] = [
 
 /// Writes words in hexadecimal, each with as many digits as it has.
 pub fn push_words<R: BitRegister>(text: &mut String, words: &[R]) -> Result<(), AllocError> {
-    for word in words {
-        let value = word.value();
-        let mut left = R::BITS;
-        for _ in 0..R::BITS / 4 {
-            left = left.wrapping_sub(4);
-            let digit = (value >> (left % 128)) % 16;
-            text.push(DIGITS[digit as usize])?;
-        }
-    }
+    texts::push_words(text, words)?;
     text.push(' ')
 }
 

@@ -1,7 +1,8 @@
 //! Calls that take bits out of a vector, or copies of them.
 
-use crate::call::{Call, number};
+use crate::call::Call;
 use crate::shown::{push_bit, push_list, push_number, push_turns, push_words};
+use bit_addressing_sample_orders::texts::number;
 use bit_containers::{
     BitBox, BitOrder, BitSlice, BitStore, BitVec, Bits, BitsMut, Msb0, Retain, ToBits,
 };

@@ -1,12 +1,13 @@
 //! Cases of vectors.
 
-use crate::call::{Call, number, put_bits, read_word};
+use crate::call::{Call, put_bits, read_word};
 use crate::grown::{grow, grow_by_words};
 use crate::looks::look;
 use crate::made::{make, remake};
 use crate::shown::{push_bit, push_list, push_ref, push_texts, push_words};
 use crate::taken::take;
 use crate::writes::{put_word, write};
+use bit_addressing_sample_orders::texts::number;
 use bit_containers::{BitOrder, BitSlice, BitStore, BitVec, Bits, BitsMut, Msb0};
 use std::alloc::{AllocError, Global};
 use std::str::SplitWhitespace;

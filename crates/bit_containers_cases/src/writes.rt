@@ -2,8 +2,9 @@
 
 ghost use Rattle.std.specs.Prelude.{◌≡◌, length};
 
-use crate::call::{Call, number};
+use crate::call::Call;
 use crate::shown::push_bit;
+use bit_addressing_sample_orders::texts::number;
 use bit_containers::{BitRegister, Bits, BitsAccess, BitsFill, BitsMut};
 use std::alloc::AllocError;
 

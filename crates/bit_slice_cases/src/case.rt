@@ -5,7 +5,7 @@ ghost use Rattle.std.specs.Prelude.{◌+◌, ◌*◌, ◌≤◌, length};
 use crate::edits::{edit, lend_bits, lend_halves};
 use crate::lent::write_pieces;
 use crate::looks::look;
-use crate::memory::{OTHERS_FROM, has_window, push_words, put_bits, read_words};
+use crate::memory::{OTHERS_FROM, has_window, put_bits};
 use crate::numbers::hold_number;
 use crate::paths::go_path;
 use crate::pieces::cut;
@@ -14,6 +14,7 @@ use crate::splits::split;
 use crate::texts::show;
 use crate::writes::{exchange, write};
 use bit_addressing_sample_orders::FifthStep;
+use bit_addressing_sample_orders::texts::{number, push_words, read_words};
 use bit_slice::{
     BitOrder, BitRegister, BitSlice, BitSliceMut, Bits, BitsWindow, FieldOrder, Lsb0, Msb0,
     WordPaths,
@@ -50,11 +51,6 @@ impl<'a> Case<'a> {
             third: words.next().unwrap_or(""),
         }
     }
-}
-
-/// A number in decimal, and 0 for any other word.
-pub fn number(word: &str) -> usize {
-    word.parse::<usize>().unwrap_or(0)
 }
 
 /// What a line is answered.

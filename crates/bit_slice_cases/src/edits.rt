@@ -1,7 +1,8 @@
 //! Calls that write bits and parts of a window.
 
-use crate::case::{Case, number};
+use crate::case::Case;
 use crate::memory::push_bit;
+use bit_addressing_sample_orders::texts::number;
 use bit_slice::{Bits, BitsAccess, BitsCopy, BitsCut, BitsEdits, BitsMut, BitsWindow};
 use std::alloc::AllocError;
 

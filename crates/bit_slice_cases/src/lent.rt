@@ -2,7 +2,8 @@
 
 ghost use Rattle.std.specs.Prelude.{◌≡◌, ◌<◌, ◌≤◌, length};
 
-use crate::case::{Case, number};
+use crate::case::Case;
+use bit_addressing_sample_orders::texts::number;
 use bit_slice::pieces::{
     Backward, BackwardExact, Cuts, ExactCuts, Forward, ForwardExact, PiecesMut, Single,
 };

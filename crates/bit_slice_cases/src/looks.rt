@@ -1,6 +1,7 @@
 //! Calls that read the list of a window.
 
-use crate::case::{Case, number};
+use crate::case::Case;
+use bit_addressing_sample_orders::texts::number;
 use bit_slice::Bits;
 use std::alloc::{AllocError, Global};
 

@@ -3,7 +3,7 @@
 ghost use Rattle.std.specs.Prelude.{◌+◌, ◌*◌, ◌≤◌, IsTrue, length};
 
 use bit_slice::{BitRegister, BitSlice, BitSliceMut, Bits, BitsMut, Lsb0, Msb0};
-use std::alloc::{AllocError, Global};
+use std::alloc::AllocError;
 
 /// Whether a window lies in some words, and is small.
 pub fn has_window<R: BitRegister>(words: &[R], from: usize, len: usize) -> bool
@@ -15,41 +15,6 @@ pub fn has_window<R: BitRegister>(words: &[R], from: usize, len: usize) -> bool
         Ok(whole) => from <= 2048 && len <= 2048 && from + len <= whole.len(),
         Err(_) => false,
     }
-}
-
-/// The words of a text of hexadecimal digits.
-pub fn read_words<R: BitRegister>(alloc: Global, text: &str) -> Result<Vec<R>, AllocError> {
-    let mut words = Vec::new(alloc);
-    let mut value = 0u128;
-    let mut digits = 0u8;
-    for byte in text.bytes() {
-        value = value << 4 | (byte as char).to_digit(16).unwrap_or(0) as u128;
-        digits = digits.wrapping_add(4);
-        if digits == R::BITS {
-            words.push(R::from_value(value))?;
-            value = 0;
-            digits = 0;
-        }
-    }
-    Ok(words)
-}
-
-/// Writes words in hexadecimal, each with as many digits as it has.
-pub fn push_words<R: BitRegister>(text: &mut String, words: &[R]) -> Result<(), AllocError> {
-    for word in words {
-        let value = word.value();
-        let mut left = R::BITS;
-        for _ in 0..R::BITS / 4 {
-            left = left.wrapping_sub(4);
-            let digit = (value >> (left % 128) & 15) as u8;
-            text.push(if digit < 10 {
-                (b'0' + digit) as char
-            } else {
-                (b'a' + (digit - 10)) as char
-            })?;
-        }
-    }
-    Ok(())
 }
 
 /// How many bits the memory of a case's other bits shows at most.

@@ -3,7 +3,8 @@
 ghost use Rattle.std.specs.Prelude.{◌+◌, ◌*◌, ◌≤◌, length};
 
 use crate::case::Case;
-use crate::memory::{has_window, push_words, read_words};
+use crate::memory::has_window;
+use bit_addressing_sample_orders::texts::{push_words, read_words};
 use bit_slice::{
     BitFieldMut, BitRegister, BitSliceMut, Bits, BitsWindow, FieldOrder, Integral, Part,
     store_load_be, store_load_le,

@@ -2,8 +2,9 @@
 
 ghost use Rattle.std.specs.Prelude.{◌+◌, ◌*◌, ◌≤◌, length};
 
-use crate::case::{Case, number};
-use crate::memory::{has_window, push_words, read_words};
+use crate::case::Case;
+use crate::memory::has_window;
+use bit_addressing_sample_orders::texts::{number, push_words, read_words};
 use bit_slice::{BitRegister, BitSlice, BitSliceMut, BitsMut, Steps, WordPaths};
 use std::alloc::{AllocError, Global};
 

@@ -1,7 +1,8 @@
 //! Calls that give pieces of a window, or indices, one after another.
 
-use crate::case::{Case, number};
+use crate::case::Case;
 use crate::memory::push_bits;
+use bit_addressing_sample_orders::texts::number;
 use bit_slice::pieces::{Cuts, Indices, Pieces, Sought};
 use bit_slice::{BitOrder, BitRegister, BitSlice, Bits, BitsIter, BitsPieces};
 use std::alloc::{AllocError, Global};

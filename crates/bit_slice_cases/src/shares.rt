@@ -2,8 +2,9 @@
 
 ghost use Rattle.std.specs.Prelude.{◌+◌, ◌*◌, ◌≤◌, length};
 
-use crate::case::{Case, number};
+use crate::case::Case;
 use crate::memory::{push_bit, push_bits};
+use bit_addressing_sample_orders::texts::number;
 use bit_slice::{BitOrder, BitRef, BitRegister, BitSlice, Bits, BitsParts};
 use std::alloc::{AllocError, Global};
 

@@ -1,7 +1,8 @@
 //! Splits of a window at its ones, to read.
 
-use crate::case::{Case, number};
+use crate::case::Case;
 use crate::memory::push_bits;
+use bit_addressing_sample_orders::texts::number;
 use bit_slice::splitting::{SplitEnd, Splits, SplitsN};
 use bit_slice::{BitOrder, BitRegister, BitSlice, BitsSplits};
 use std::alloc::{AllocError, Global};

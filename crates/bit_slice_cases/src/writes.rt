@@ -1,7 +1,8 @@
 //! Calls that write all bits of a window.
 
-use crate::case::{Case, number};
+use crate::case::Case;
 use crate::memory::{OTHERS_FROM, push_bits, put_bits};
+use bit_addressing_sample_orders::texts::number;
 use bit_slice::{BitSliceMut, Bits, BitsCopy, BitsFill, BitsMut, Msb0};
 use std::alloc::AllocError;
 

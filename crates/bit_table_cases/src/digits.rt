@@ -4,7 +4,8 @@ ghost use Rattle.std.specs.Prelude.{◌≡◌, ◌+◌, ◌≤◌, length};
 ghost use Rattle.bit_table.specs.Layouts.{row_width};
 
 use crate::memory::{push_words, read_words};
-use crate::text::{cut, number, push_bits, whole_number};
+use crate::text::{cut, push_bits, whole_number};
+use bit_addressing_sample_orders::texts::number;
 use bit_table::image::{read, write};
 use bit_table::{
     BitOrder, BitRegister, BitSlice, BitSliceMut, BitStore, Bits, Digits, Layout, Steps,

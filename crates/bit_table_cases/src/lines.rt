@@ -1,6 +1,7 @@
 //! Lines over a layout: which command each spells, and what refuses it.
 
-use crate::text::{cut, meant, number};
+use crate::text::{cut, meant};
+use bit_addressing_sample_orders::texts::number;
 use bit_table::{Command, Layout, Rule};
 use std::alloc::{AllocError, Global};
 

@@ -4,6 +4,7 @@ use crate::digits::{digits_case, image_case, row_case};
 use crate::moves::{keep_case, move_case};
 use crate::order::ThirdStep;
 use crate::text::cut;
+use bit_addressing_sample_orders::texts::push_word;
 use bit_table::{BitRegister, BitStore, Digits, HiLo, Lsb0, Msb0};
 use std::alloc::{AllocError, Global};
 
@@ -81,17 +82,7 @@ pub fn push_words<R: BitRegister>(
     count: usize,
 ) -> Result<(), AllocError> {
     for word in words.iter().take(count) {
-        let value = word.value();
-        let mut left = R::BITS;
-        for _ in 0..R::BITS / 4 {
-            left = left.wrapping_sub(4);
-            let digit = ((value >> (left % 128)) % 16) as u8;
-            text.push(if digit < 10 {
-                (b'0' + digit) as char
-            } else {
-                (b'a' + (digit - 10)) as char
-            })?;
-        }
+        push_word(text, *word)?;
     }
     Ok(())
 }

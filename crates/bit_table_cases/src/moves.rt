@@ -3,8 +3,8 @@
 ghost use Rattle.std.specs.Prelude.{◌≤◌, ◌<◌};
 
 use crate::memory::{push_words, read_words};
-use crate::text::number;
 use bit_addressing_memory::write_entry;
+use bit_addressing_sample_orders::texts::number;
 use bit_table::{
     BitIdx, BitOrder, BitRegister, BitSlice, Sweep, Way, keep_rows, move_rows, way_for,
 };

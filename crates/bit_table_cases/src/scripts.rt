@@ -2,7 +2,8 @@
 
 ghost use Rattle.std.specs.Prelude.{◌*◌, ◌≤◌};
 
-use crate::text::{cut, meant, number, push_answer};
+use crate::text::{cut, meant, push_answer};
+use bit_addressing_sample_orders::texts::number;
 use bit_table::{BitViewSized, Digits, Input, Output, RunError, WordPaths};
 use bit_table_samples::{Cut, answer_to, answer_whole};
 use std::alloc::{AllocError, Global};

@@ -11,11 +11,6 @@ pub fn cut(text: &str) -> (&str, &str) {
     }
 }
 
-/// A number in decimal, and 0 for any other word.
-pub fn number(word: &str) -> usize {
-    word.parse::<usize>().unwrap_or(0)
-}
-
 /// A whole number in decimal, and 0 for any other word.
 pub fn whole_number(word: &str) -> i128 {
     word.parse::<i128>().unwrap_or(0)

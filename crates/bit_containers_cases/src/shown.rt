@@ -43,10 +43,6 @@ pub fn push_number(
     }
 }
 
-const DIGITS: [char; 16] = [
-    '0', '1', '2', '3', '4', '5', '6', '7', '8', '9', 'a', 'b', 'c', 'd', 'e', 'f',
-];
-
 /// Writes words in hexadecimal, each with as many digits as it has.
 pub fn push_words<R: BitRegister>(text: &mut String, words: &[R]) -> Result<(), AllocError> {
     texts::push_words(text, words)?;

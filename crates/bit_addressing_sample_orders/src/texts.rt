@@ -31,7 +31,7 @@ pub fn push_word<R: BitRegister>(text: &mut String, word: R) -> Result<(), Alloc
     let mut left = R::BITS;
     for _ in 0..R::BITS / 4 {
         left = left.wrapping_sub(4);
-        let digit = (value >> (left % 128) & 15) as u8;
+        let digit = ((value >> (left % 128)) % 16) as u8;
         text.push(if digit < 10 {
             (b'0' + digit) as char
         } else {

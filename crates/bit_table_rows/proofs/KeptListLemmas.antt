@@ -1,5 +1,5 @@
 -- The rows that stay of those whose flags are false.
-use Rattle.std.proofs.Common.{◌≡◌, ℕ, zero, suc, ◌+◌, ◌*◌, ◌<◌, ◌≤◌, Bool, true, false, not, List, [], ◌++◌, length, take}
+use Rattle.std.proofs.Common.{◌≡◌, ℕ, zero, suc, ◌+◌, ◌*◌, ◌<◌, ◌≤◌, Bool, false, not, List, ◌++◌, length, take}
 use Rattle.std.proofs.Common.{get_or, inl, inr, refl, sym, ap, ap₂, ◌∙◌, subst, arith, add-one}
 use Rattle.std.specs.Prelude.{count_by}
 use Rattle.std.proofs.lemmas.Bool.{cases_Bool}
@@ -10,9 +10,9 @@ use Rattle.bit_table_layout.specs.Layouts.{LayoutShape, row_width}
 use Rattle.bit_table_layout.specs.Readings.{rows_from}
 use Rattle.bit_table_layout.specs.Rows.{Row}
 use Rattle.bit_table_layout.proofs.RowLemmas.{length-rows_from, rows_from-append}
-use Rattle.bit_table_rows.specs.RowsKept.{kept, left_before, left_of, rows_joined, rows_left}
+use Rattle.bit_table_rows.specs.RowsKept.{kept, left_before, left_of, rows_joined}
 use Rattle.bit_table_rows.specs.RowMoves.{row_at}
-use Rattle.bit_table_rows.proofs.KeptLemmas.{joined_next, joined_stays, left_next, left_stays, left_of_next}
+use Rattle.bit_table_rows.proofs.KeptLemmas.{joined_next, joined_stays, left_stays, left_of_next}
 use Rattle.bit_table_rows.proofs.KeptLemmas.{left_of_stays, length-joined, length-rows_left, more_left}
 use Rattle.bit_table_rows.proofs.RowListLemmas.{row_alone}
 use Rattle.bit_table_rows.proofs.RowListCallerLemmas.{numbers_as_rows}

@@ -23,7 +23,7 @@ use Rattle.bit_table_rows.specs.declared.edit.RowEdit.TheVariants.{Insert, Delet
 use Rattle.bit_table_rows.specs.RowEdit.{bits_edited_by, count_after, edited_by, LiesIn, WhereNew}
 use Rattle.bit_table_rows.specs.RowLists.{CutsRows}
 use Rattle.bit_table_rows.proofs.PlaceLemmas.{place_end}
-use Rattle.bit_table_rows.proofs.RowListLemmas.{rows_inserted, rows_deleted, rows_repeated, rows_written, rows_copied}
+use Rattle.bit_table_rows.proofs.RowListLemmas.{rows_deleted, rows_repeated, rows_written, rows_copied}
 use Rattle.bit_table_rows.proofs.RowListLemmas.{rows_exchanged, exchanged_one, rows_turned, rows_behind, row_alone}
 pub use Rattle.bit_table_rows.proofs.NumberLemmas.{field_inside}
 use Rattle.bit_table_rows.proofs.NumberLemmas.{front_written, get_in_front, number_written, written_inside}

@@ -5,7 +5,6 @@ use Rattle.bit_table_layout.specs.declared.layout.TheConstants.{MAX_BITS}
 use Rattle.bit_table_layout.specs.Layouts.{row_width}
 use Rattle.bit_table_layout.specs.Rows.{Row}
 use Rattle.bit_table_commands.specs.declared.command.Command.{Command}
-use Rattle.bit_table_commands.specs.declared.command.Command.TheVariants.{Delete, Copy, Swap, Rotate, Dup}
 use Rattle.bit_table_commands.specs.Accepted.{IsInRange}
 use Rattle.bit_table_commands.specs.Edits.{edit, reply_to}
 use Rattle.bit_table_commands.specs.declared.reply.Reply.TheVariants.{Done}
@@ -19,7 +18,7 @@ use Rattle.bit_table.specs.View.{may_want_memory, TableView}
 use Rattle.bit_table.proofs.TableLemmas.{length-more}
 
 -- an edit does what a command asks for
-pub record DoesAll (c : Command) (e : RowEdit) : Type 0 where
+pub record DoesAll (c : Command) (e : RowEdit) : Type 1 where
   pub no_row : (P : Type 0) → WhereNew e P
   pub lies : (n : ℕ) → IsInRange n c → LiesIn n e
   pub fits : (t : TableShape) → IsInRange (length t.rows) c → length t.rows * row_width t.layout.fields ≤ MAX_BITS

@@ -9,7 +9,7 @@ use Rattle.bit_table_layout.proofs.RowLemmas.{rows_from-take}
 use Rattle.bit_table_commands.specs.Marks.{marked, row_bears}
 use Rattle.bit_table_rows.specs.RowsKept.{kept}
 use Rattle.bit_table_rows.proofs.KeptListLemmas.{rows_after_keep}
-use Rattle.std.proofs.Math.Nat.{mul-le-mul_left, mul-le-mul_right}
+use Rattle.std.proofs.Math.Nat.{mul-le-mul_left}
 use Rattle.std.specs.FinSet as set
 use Rattle.std.proofs.lemmas.List.{places}
 use Rattle.bit_addressing_memory.specs.Memory.{piece, with_piece}
@@ -24,11 +24,12 @@ use Rattle.bit_table_commands.specs.declared.command.Command.{Command}
 use Rattle.bit_table_commands.specs.Accepted.{IsAccepted, IsInRange, HasLawfulValues}
 use Rattle.bit_table_commands.specs.Edits.{edit, rows_after, kept_after}
 use Rattle.bit_table_commands.specs.Tables.{TableShape, AreHeld, IsTable, IsTableOf}
-use Rattle.bit_table_rows.specs.RowEdit.{added, edited_by, count_after, LiesIn}
+use Rattle.bit_table_rows.specs.RowEdit.{added, edited_by, count_after, LiesIn, WhereNew}
 use Rattle.bit_table_commands.specs.LetterSets.{LetterSet, bears}
 use Rattle.bit_table_rows.specs.Marks.{decided}
 use Rattle.bit_table_rows.proofs.LetterEditLemmas.{length-edited}
 use Rattle.bit_table_rows.specs.declared.edit.RowEdit.{RowEdit}
+use Rattle.bit_table_rows.specs.declared.edit.RowEdit.TheVariants.{Insert, Delete, Copy, Swap, Rotate, Dup}
 use Rattle.bit_table.specs.Lettered.{lettered, all_letters, changed_at}
 use Rattle.bit_table.specs.Told.{told}
 use Rattle.bit_table.specs.View.{table_from, rows_of, StoredRows, AreStored, TableView}
@@ -62,6 +63,15 @@ length-one_more xs n p x size within = grind (arith, places)
 -- so many rows of a bit at least are no more than their bits
 pub most_rows : (k w most : ℕ) → 1 ≤ w → k * w ≤ most → k ≤ most
 most_rows k w most some fits = let each : k * 1 ≤ k * w = mul-le-mul_left k some in omega (arith, each)
+
+-- what holds where a row is new, by what holds there
+pub where_new : (edit : RowEdit) {P Q : Type 0} → (P → Q) → WhereNew edit P → WhereNew edit Q
+where_new (Insert p) f holds = f holds
+where_new (Delete p q) f holds = tt
+where_new (Copy p q r) f holds = tt
+where_new (Swap p q) f holds = tt
+where_new (Rotate p q k) f holds = tt
+where_new (Dup p q) f holds = tt
 
 -- stored rows are as many as they say, with the bits that they are stored in, and are held by the layout
 module _ (l : LayoutShape) (s : StoredRows) (stored : AreStored l s) where
@@ -122,11 +132,6 @@ module _ (l : LayoutShape) (s : StoredRows) (lawful : is_layout l ≡ true) (sto
   few_rows more room =
       omega (arith, stored.marked, most_rows (s.rows + more) (row_width l.fields) MAX_BITS (some_row_bits l lawful) room)
 
-  pub few_marks : length s.letters + 0 ≤ MAX_BITS
-  few_marks =
-      let few = most_rows s.rows (row_width l.fields) MAX_BITS (some_row_bits l lawful) stored.room in
-      omega (arith, stored.marked, few)
-
   pub lies_in : (edit : RowEdit) → LiesIn s.rows edit → LiesIn (length s.letters) edit
   lies_in edit within = subst (λ n. LiesIn n edit) (sym stored.marked) within
 
@@ -135,11 +140,6 @@ module _ (l : LayoutShape) (s : StoredRows) (lawful : is_layout l ≡ true) (sto
   marked_after edit letters within same =
       ap length same ∙ length-edited edit set.empty s.letters (lies_in edit within)
       ∙ ap (λ n. count_after n edit) stored.marked
-
--- fewer rows need no more room
-pub less_room : (n k w most : ℕ) → n * w ≤ most → (n - k) * w ≤ most
-less_room n k w most fits =
-    let less : (n - k) * w ≤ n * w = mul-le-mul_right w (omega arith) in omega (arith, less, fits)
 
 -- kept rows are held by the layout
 held-kept : (l : LayoutShape) (kept : Option StoredRows) → is_layout l ≡ true → IfSome kept (AreStored l)

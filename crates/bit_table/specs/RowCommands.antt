@@ -1,5 +1,5 @@
 -- The commands that ask for an edit of rows alone. No public clause cites this module.
-use Rattle.std.specs.Prelude.{◌≡◌, true, Bool, List, ℤ, ⊥}
+use Rattle.std.specs.Prelude.{◌≡◌, true, Bool, List, ℤ}
 use Rattle.bit_table_layout.specs.Layouts.{LayoutShape}
 use Rattle.bit_table_layout.specs.Rows.{numbers_bits, take_all}
 use Rattle.bit_table_commands.specs.declared.command.Command.{Command}

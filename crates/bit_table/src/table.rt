@@ -8,6 +8,7 @@ ghost use Rattle.bit_containers_array.specs.Array.{array_bits};
 ghost use Rattle.bit_slice_words.specs.Steps.{groups, Takes};
 ghost use Rattle.bit_slice_views.specs.View.{view_bits};
 ghost use Rattle.bit_table_layout.specs.Images.{image_bytes, HasOnlyNumbers};
+ghost use Rattle.bit_table_layout.specs.declared.layout.TheConstants.{MAX_BITS};
 ghost use Rattle.bit_table_layout.specs.Layouts.{row_width};
 ghost use Rattle.bit_table_layout.specs.Rows.{new_row, numbers_bits, table_bits, take_all};
 ghost use Rattle.bit_table_commands.specs.Accepted.{IsAccepted};
@@ -337,16 +338,18 @@ impl<A: BitViewSized, O: WordPaths<A::Store> + Digits<A::Store>> Table<A, O> {
     }
 
     // Carries out a command that asks for an edit of the rows alone.
-    fn edit_by(&mut self, command: &Command, edit: RowEdit) -> Result<Reply, AllocError>
+    fn edit_by(&mut self, command: &Command, row_edit: RowEdit) -> Result<Reply, AllocError>
         requires accepted { IsAccepted self.old.shape command.now }
-        requires edit { AsksFor edit command.now }
+        requires edit { AsksFor row_edit command.now }
         ensures succeeds { may_want_memory command.now ≡ false → IsOk result }
         ensures ok { OnOk result (self.new.shape ≡ edit self.old.shape command.now) }
         ensures reply { IfOk result (λ reply. reply ≡ reply_to self.old.shape command.now) }
         ensures err { OnErr result (self.new ≡ self.old) }
         ensures moved { OnOk result (Moved A.Store.BITS self.old command.now self.new) }
     {
-        self.edit_rows(edit, BitSlice::empty())
+        // They are no more than a table may have.
+        let _rows = self.rows();
+        self.edit_rows(row_edit, BitSlice::empty())
     }
 
     fn insert(&mut self, place: u64, values: &[i128]) -> Result<Reply, AllocError>

@@ -3,7 +3,7 @@
 ghost use Rattle.std.specs.Prelude.{◌≡◌, ◌+◌, ◌≤◌, length};
 ghost use Rattle.bit_table.specs.Layouts.{row_width};
 
-use crate::memory::{push_words, read_words};
+use crate::memory::{WORDS, push_words, read_words};
 use crate::text::{cut, push_bits, whole_number};
 use bit_addressing_sample_orders::texts::number;
 use bit_table::image::{read, write};
@@ -20,21 +20,21 @@ pub fn digits_case<R: BitRegister, O: Digits<R>>(
     rest: &str,
 ) -> Result<String, AllocError> {
     let mut args = rest.split_whitespace();
-    let (mut words, count) = read_words::<R>(args.next().unwrap_or(""));
+    let (mut words, count) = read_words::<R>(alloc, args.next().unwrap_or(""))?;
     let place = number(args.next().unwrap_or(""));
     let width = number(args.next().unwrap_or(""));
     let value = whole_number(args.next().unwrap_or(""));
-    if place > 100 || width == 0 || width > 64 {
+    if words.len() != WORDS || place > 100 || width == 0 || width > 64 {
         return "no such window".to_string(alloc);
     }
     let mut text = String::new(alloc);
     let width = width as u32;
-    push_loaded::<R, O>(&mut text, &words, place, width)?;
+    push_loaded::<R, O>(&mut text, words.as_slice(), place, width)?;
     let mut steps = Steps::new();
     for high in [false, true] {
-        stored::<R, O>(&mut words, place, width, value, high, &mut steps);
+        stored::<R, O>(words.as_mut_slice(), place, width, value, high, &mut steps);
         text.push(' ')?;
-        push_words(&mut text, &words, count)?;
+        push_words(&mut text, words.as_slice(), count)?;
     }
     let taken = steps.taken();
     write!(text, " {taken}")?;
@@ -44,10 +44,11 @@ pub fn digits_case<R: BitRegister, O: Digits<R>>(
 // Writes the numbers of a window by both rules, without a sign and with one, and how many steps that took.
 fn push_loaded<R: BitRegister, O: Digits<R>>(
     text: &mut String,
-    words: &[R; 24],
+    words: &[R],
     place: usize,
     width: u32,
 ) -> Result<(), AllocError>
+    requires room { length words.now ≡ 24 }
     requires place { place ≤ 100 }
     requires some { 1 ≤ width }
     requires narrow { width ≤ 64 }
@@ -65,13 +66,14 @@ fn push_loaded<R: BitRegister, O: Digits<R>>(
 
 // Stores a number in a window.
 fn stored<R: BitRegister, O: Digits<R>>(
-    words: &mut [R; 24],
+    words: &mut [R],
     place: usize,
     width: u32,
     value: i128,
     high: bool,
     steps: &mut Steps,
 )
+    requires room { length words.old ≡ 24 }
     requires place { place ≤ 100 }
     requires some { 1 ≤ width }
     requires narrow { width ≤ 64 }
@@ -102,26 +104,35 @@ pub fn row_case<R: BitRegister, O: Digits<R>>(
     for word in parts.next().unwrap_or("").split_whitespace() {
         values.push(whole_number(word))?;
     }
-    let (mut words, count) = read_words::<R>(memory);
+    let (mut words, count) = read_words::<R>(alloc, memory)?;
     let (place, at, bits) = (number(place), number(at), layout.row_bits());
-    if place > 40 || bits > 150 || at > 150 - bits || values.len() != layout.fields().len() {
+    let is_here = words.len() == WORDS && place <= 40 && bits <= 150 && at <= 150 - bits;
+    if !is_here || values.len() != layout.fields().len() {
         return "no such row".to_string(alloc);
     }
-    let numbers = stored_row::<R, O>(alloc, &mut words, place, at, &layout, values.as_slice())?;
+    let numbers = stored_row::<R, O>(
+        alloc,
+        words.as_mut_slice(),
+        place,
+        at,
+        &layout,
+        values.as_slice(),
+    )?;
     let mut text = format!(in alloc; "{numbers:?} ")?;
-    push_words(&mut text, &words, count)?;
+    push_words(&mut text, words.as_slice(), count)?;
     Ok(text)
 }
 
 // Stores a row in a window, and answers the numbers of the row that it holds then.
 fn stored_row<R: BitRegister, O: Digits<R>>(
     alloc: Global,
-    words: &mut [R; 24],
+    words: &mut [R],
     place: usize,
     at: usize,
     layout: &Layout,
     values: &[i128],
 ) -> Result<Vec<i128>, AllocError>
+    requires room { length words.old ≡ 24 }
     requires place { place ≤ 40 }
     requires within { at + row_width layout.now.fields ≤ 150 }
     requires count { length values.now ≡ length layout.now.fields }

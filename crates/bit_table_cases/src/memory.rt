@@ -4,6 +4,7 @@ use crate::digits::{digits_case, image_case, row_case};
 use crate::moves::{keep_case, move_case};
 use crate::order::ThirdStep;
 use crate::text::cut;
+use bit_addressing_sample_orders::texts;
 use bit_addressing_sample_orders::texts::push_word;
 use bit_table::{BitRegister, BitStore, Digits, HiLo, Lsb0, Msb0};
 use std::alloc::{AllocError, Global};
@@ -47,38 +48,26 @@ fn in_order<R: BitStore, O: Digits<R>>(
     }
 }
 
-/// The words of a text of hexadecimal digits, zeros behind them, and how many they are.
-pub fn read_words<R: BitRegister>(text: &str) -> ([R; 24], usize) {
-    let mut words = [R::ZERO; 24];
-    let mut count = 0usize;
-    let mut value = 0u128;
-    let mut digits = 0u8;
-    for byte in text.bytes() {
-        value = value << 4 | digit(byte);
-        digits = digits.wrapping_add(4);
-        if digits == R::BITS && count < 24 {
-            words[count] = R::from_value(value);
-            count += 1;
-            value = 0;
-            digits = 0;
-        }
-    }
-    (words, count)
-}
+/// How many words a memory has.
+pub const WORDS: usize = 24;
 
-// The number of a hexadecimal digit.
-fn digit(byte: u8) -> u128 {
-    match byte {
-        b'0'..=b'9' => (byte - b'0') as u128,
-        b'a'..=b'f' => (byte - b'a') as u128 + 10,
-        _ => 0,
+/// The words of a text of hexadecimal digits, zeros behind them up to so many as a memory has, and how many the text has.
+pub fn read_words<R: BitRegister>(
+    alloc: Global,
+    text: &str,
+) -> Result<(Vec<R>, usize), AllocError> {
+    let mut words = texts::read_words::<R>(alloc, text)?;
+    let count = words.len();
+    for _ in count..WORDS {
+        words.push(R::ZERO)?;
     }
+    Ok((words, count))
 }
 
 /// Writes so many words in hexadecimal, each with as many digits as it has.
 pub fn push_words<R: BitRegister>(
     text: &mut String,
-    words: &[R; 24],
+    words: &[R],
     count: usize,
 ) -> Result<(), AllocError> {
     for word in words.iter().take(count) {

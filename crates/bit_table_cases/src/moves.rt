@@ -1,8 +1,8 @@
 //! Rows of a memory that move, and rows that are kept, by one sweep.
 
-ghost use Rattle.std.specs.Prelude.{◌≤◌, ◌<◌};
+ghost use Rattle.std.specs.Prelude.{◌≡◌, ◌≤◌, ◌<◌, length};
 
-use crate::memory::{push_words, read_words};
+use crate::memory::{WORDS, push_words, read_words};
 use bit_addressing_memory::write_entry;
 use bit_addressing_sample_orders::texts::number;
 use bit_table::{
@@ -18,20 +18,20 @@ pub fn move_case<R: BitRegister, O: BitOrder<R>>(
     rest: &str,
 ) -> Result<String, AllocError> {
     let mut args = rest.split_whitespace();
-    let (mut words, count) = read_words::<R>(args.next().unwrap_or(""));
+    let (mut words, count) = read_words::<R>(alloc, args.next().unwrap_or(""))?;
     let head = next_number(&mut args);
     let p = next_number(&mut args);
     let q = next_number(&mut args);
     let n = next_number(&mut args);
     let w = next_number(&mut args);
-    if head > 7 || p > n || n > 5 || q > 5 || w > 9 {
+    if words.len() != WORDS || head > 7 || p > n || n > 5 || q > 5 || w > 9 {
         return "no such rows".to_string(alloc);
     }
-    let (writes, reads) = moved_rows::<R, O>(&mut words, head as u8, p, q, n, w);
+    let (writes, reads) = moved_rows::<R, O>(words.as_mut_slice(), head as u8, p, q, n, w);
     let most_writes = next_number(&mut args);
     let most_reads = next_number(&mut args) as u64;
     let mut text = String::new(alloc);
-    push_words(&mut text, &words, count)?;
+    push_words(&mut text, words.as_slice(), count)?;
     text.push_str(if writes <= most_writes && reads <= most_reads {
         " yes"
     } else {
@@ -46,13 +46,14 @@ fn next_number(args: &mut SplitWhitespace<'_>) -> usize {
 
 // Moves rows, and answers how many words that wrote, and how many it read.
 fn moved_rows<R: BitRegister, O: BitOrder<R>>(
-    words: &mut [R; 24],
+    words: &mut [R],
     head: u8,
     p: usize,
     q: usize,
     n: usize,
     w: usize,
 ) -> (usize, u64)
+    requires room { length words.old ≡ 24 }
     requires head { head < 8 }
     requires order { p ≤ n }
     requires few { n ≤ 5 }
@@ -72,18 +73,18 @@ pub fn keep_case<R: BitRegister, O: BitOrder<R>>(
     rest: &str,
 ) -> Result<String, AllocError> {
     let mut args = rest.split_whitespace();
-    let (mut words, count) = read_words::<R>(args.next().unwrap_or(""));
+    let (mut words, count) = read_words::<R>(alloc, args.next().unwrap_or(""))?;
     let head = next_number(&mut args);
     let n = next_number(&mut args);
     let w = next_number(&mut args);
     let off = next_number(&mut args);
-    if head > 7 || n > 5 || w > 9 {
+    if words.len() != WORDS || head > 7 || n > 5 || w > 9 {
         return "no such rows".to_string(alloc);
     }
-    let (kept, writes) = kept_rows::<R, O>(&mut words, head as u8, n, w, off);
+    let (kept, writes) = kept_rows::<R, O>(words.as_mut_slice(), head as u8, n, w, off);
     let most_writes = next_number(&mut args);
     let mut text = String::new(alloc);
-    push_words(&mut text, &words, count)?;
+    push_words(&mut text, words.as_slice(), count)?;
     let within = if writes <= most_writes { "yes" } else { "no" };
     write!(text, " {kept} {within}")?;
     Ok(text)
@@ -91,12 +92,13 @@ pub fn keep_case<R: BitRegister, O: BitOrder<R>>(
 
 // Keeps rows, and answers how many, and how many words that wrote.
 fn kept_rows<R: BitRegister, O: BitOrder<R>>(
-    words: &mut [R; 24],
+    words: &mut [R],
     head: u8,
     n: usize,
     w: usize,
     off: usize,
 ) -> (usize, usize)
+    requires room { length words.old ≡ 24 }
     requires head { head < 8 }
     requires few { n ≤ 5 }
     requires narrow { w ≤ 9 }

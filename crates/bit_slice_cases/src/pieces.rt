@@ -60,11 +60,8 @@ fn push_indices<R: BitRegister, O: BitOrder<R>, B: Sought>(
     way: &str,
 ) -> Result<(), AllocError> {
     for k in 0..all.len() {
-        let index = match way {
-            "back" => all.next_back(),
-            "turns" if k % 2 == 0 => all.next_back(),
-            _ => all.next(),
-        };
+        let is_from_back = way == "back" || way == "turns" && k % 2 == 0;
+        let index = if is_from_back { all.next_back() } else { all.next() };
         let Some(index) = index else { break };
         text.push_str(format!(in alloc; "{index},")?.as_str())?;
     }

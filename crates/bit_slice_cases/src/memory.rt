@@ -27,10 +27,10 @@ pub const OTHERS_FROM: usize = 5;
 pub fn put_bits(room: &mut [u16; 16], text: &str) -> usize
     ensures { result ≤ 200 }
 {
-    let mut view = BitSliceMut::<u16, Msb0>::from_place_mut(room, OTHERS_FROM, MOST_OTHERS);
     let mut count = 0usize;
     for byte in text.bytes() {
-        if count < view.len() && (byte == b'0' || byte == b'1') {
+        if count < MOST_OTHERS && (byte == b'0' || byte == b'1') {
+            let mut view = BitSliceMut::<u16, Msb0>::from_place_mut(room, OTHERS_FROM, MOST_OTHERS);
             view.set(count, byte == b'1');
             count = count.wrapping_add(1);
         }

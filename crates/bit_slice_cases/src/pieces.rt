@@ -32,6 +32,11 @@ pub fn cut<R: BitRegister, O: BitOrder<R>>(
     Ok(Some(text))
 }
 
+// Whether the call of an index goes to the back.
+fn is_from_back(way: &str, k: usize) -> bool {
+    way == "back" || way == "turns" && k % 2 == 0
+}
+
 // The pieces, each as its bits; a `!` where more come than there are.
 fn push_pieces<R: BitRegister, O: BitOrder<R>, C: Cuts>(
     text: &mut String,
@@ -39,17 +44,24 @@ fn push_pieces<R: BitRegister, O: BitOrder<R>, C: Cuts>(
     way: &str,
 ) -> Result<(), AllocError> {
     for k in 0..all.len() {
-        let piece = match way {
-            "back" => all.next_back(),
-            "turns" if k % 2 == 0 => all.next_back(),
-            _ => all.next(),
-        };
+        let piece = if is_from_back(way, k) { all.next_back() } else { all.next() };
         let Some(piece) = piece else { break };
         text.push('|')?;
         push_bits(text, &piece)?;
     }
     let is_over = all.next().is_none() && all.next_back().is_none();
     text.push(if is_over { '|' } else { '!' })
+}
+
+// The next index from one end.
+fn next_index<R: BitRegister, O: BitOrder<R>, B: Sought>(
+    all: &mut Indices<'_, R, O, B>,
+    is_from_back: bool,
+) -> Option<usize> {
+    if is_from_back {
+        return all.next_back();
+    }
+    all.next()
 }
 
 // The indices.
@@ -60,11 +72,7 @@ fn push_indices<R: BitRegister, O: BitOrder<R>, B: Sought>(
     way: &str,
 ) -> Result<(), AllocError> {
     for k in 0..all.len() {
-        let index = match way {
-            "back" => all.next_back(),
-            "turns" if k % 2 == 0 => all.next_back(),
-            _ => all.next(),
-        };
+        let index = next_index(&mut all, is_from_back(way, k));
         let Some(index) = index else { break };
         text.push_str(format!(in alloc; "{index},")?.as_str())?;
     }

@@ -44,7 +44,11 @@ fn push_pieces<R: BitRegister, O: BitOrder<R>, C: Cuts>(
     way: &str,
 ) -> Result<(), AllocError> {
     for k in 0..all.len() {
-        let piece = if is_from_back(way, k) { all.next_back() } else { all.next() };
+        let piece = if is_from_back(way, k) {
+            all.next_back()
+        } else {
+            all.next()
+        };
         let Some(piece) = piece else { break };
         text.push('|')?;
         push_bits(text, &piece)?;

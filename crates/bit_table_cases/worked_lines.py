@@ -243,6 +243,7 @@ MEMORIES = [
     ("row u8 msb0 ffff 0 7 high a:u3 b:i4;2 3", "[2, 3] fe8f"),
     # a row of three bits from bit 3 on moves up by one row
     ("move u8 lsb0 ff0000 3 1 2 2 3 1 3", "ff0600 yes"),
+    ("move u8 hilo 123456 0 1 0 5 4 2 32", "234556 yes"),
     # from bit 3 on 010, 000, 010, 110: the first and the third go
     ("keep u8 lsb0 123456 3 4 3 5 2", "c23456 2 yes"),
 ]

@@ -75,8 +75,12 @@ fn change<A: BitViewSized, O: BitOrder<A::Store>>(
             number(call.first),
             read_word::<A::Store>(call.second),
         ),
-        "at" if number(call.first) < array.len() => {
-            push_bit(text, Some(array[number(call.first)]))?;
+        "at" => {
+            let at = number(call.first);
+            if at >= array.len() {
+                return Ok(false);
+            }
+            push_bit(text, Some(array[at]))?;
         }
         "raw" => push_words(text, array.as_raw_slice())?,
         "text" => push_texts(alloc, text, &*array)?,

@@ -2,7 +2,7 @@
 
 ghost use Rattle.std.specs.Prelude.{◌≤◌};
 
-use bit_containers::{BitSliceMut, BitStore, Bits, BitsMut, Msb0};
+use bit_containers::{BitSliceMut, BitStore, BitsMut, Msb0};
 use std::str::SplitWhitespace;
 
 /// A call by its name, with up to three words.
@@ -68,10 +68,10 @@ pub fn read_word<T: BitStore>(text: &str) -> T {
 pub fn put_bits(room: &mut [u16; 16], text: &str) -> usize
     ensures { result ≤ 200 }
 {
-    let mut view = BitSliceMut::<u16, Msb0>::from_place_mut(room, 5, 200);
     let mut count = 0usize;
     for byte in text.bytes() {
-        if count < view.len() && (byte == b'0' || byte == b'1') {
+        if count < 200 && (byte == b'0' || byte == b'1') {
+            let mut view = BitSliceMut::<u16, Msb0>::from_place_mut(room, 5, 200);
             view.set(count, byte == b'1');
             count = count.wrapping_add(1);
         }

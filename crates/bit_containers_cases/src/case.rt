@@ -6,7 +6,7 @@ use crate::operators::combine;
 use crate::vectors::vector_case;
 use bit_addressing_sample_orders::FifthStep;
 use bit_addressing_sample_orders::texts::{number, read_words};
-use bit_containers::{BitOrder, BitSlice, BitStore, Lsb0, Msb0, WordPaths};
+use bit_containers::{BitOrder, BitSlice, BitStore, BitViewSized, Lsb0, Msb0, WordPaths};
 use std::alloc::{AllocError, Global};
 use std::str::SplitWhitespace;
 
@@ -19,36 +19,43 @@ pub fn answer(alloc: Global, line: &str) -> Result<String, AllocError> {
         _ => (first, words.next().unwrap_or("")),
     };
     match word {
-        "u8" => in_words::<u8>(alloc, kind, words),
-        "u16" => in_words::<u16>(alloc, kind, words),
-        "u32" => in_words::<u32>(alloc, kind, words),
-        "u64" => in_words::<u64>(alloc, kind, words),
+        "u8" => in_words::<u8, [u8; 0], [u8; 1], [u8; 2], [u8; 3]>(alloc, kind, words),
+        "u16" => in_words::<u16, [u16; 0], [u16; 1], [u16; 2], [u16; 3]>(alloc, kind, words),
+        "u32" => in_words::<u32, [u32; 0], [u32; 1], [u32; 2], [u32; 3]>(alloc, kind, words),
+        "u64" => in_words::<u64, [u64; 0], [u64; 1], [u64; 2], [u64; 3]>(alloc, kind, words),
         _ => "no such word".to_string(alloc),
     }
 }
 
-fn in_words<T: BitStore>(
-    alloc: Global,
-    kind: &str,
-    mut words: SplitWhitespace<'_>,
-) -> Result<String, AllocError> {
+// The arrays of none to three words are types of their own here: of an array of a type parameter a call would owe that it
+// fits the memory.
+fn in_words<
+    T: BitStore,
+    Zero: BitViewSized<Store = T>,
+    One: BitViewSized<Store = T>,
+    Two: BitViewSized<Store = T>,
+    Three: BitViewSized<Store = T>,
+>(alloc: Global, kind: &str, mut words: SplitWhitespace<'_>) -> Result<String, AllocError> {
     match words.next().unwrap_or("") {
-        "lsb0" => in_paths::<T, Lsb0>(alloc, kind, words),
-        "msb0" => in_paths::<T, Msb0>(alloc, kind, words),
-        "fifth" => in_order::<T, FifthStep>(alloc, kind, words),
+        "lsb0" => in_paths::<T, Zero, One, Two, Three, Lsb0>(alloc, kind, words),
+        "msb0" => in_paths::<T, Zero, One, Two, Three, Msb0>(alloc, kind, words),
+        "fifth" => in_order::<T, Zero, One, Two, Three, FifthStep>(alloc, kind, words),
         _ => "no such order".to_string(alloc),
     }
 }
 
 // A case of an operator has two windows.
-fn in_paths<T: BitStore, O: WordPaths<T>>(
-    alloc: Global,
-    kind: &str,
-    mut words: SplitWhitespace<'_>,
-) -> Result<String, AllocError> {
+fn in_paths<
+    T: BitStore,
+    Zero: BitViewSized<Store = T>,
+    One: BitViewSized<Store = T>,
+    Two: BitViewSized<Store = T>,
+    Three: BitViewSized<Store = T>,
+    O: WordPaths<T>,
+>(alloc: Global, kind: &str, mut words: SplitWhitespace<'_>) -> Result<String, AllocError> {
     match kind {
         "and" | "or" | "xor" | "copy" => {}
-        _ => return in_order::<T, O>(alloc, kind, words),
+        _ => return in_order::<T, Zero, One, Two, Three, O>(alloc, kind, words),
     }
     let memory = read_words::<T>(alloc, words.next().unwrap_or(""))?;
     let (place, len) = (next_number(&mut words), next_number(&mut words));
@@ -62,14 +69,17 @@ fn in_paths<T: BitStore, O: WordPaths<T>>(
     }
     let left = BitSlice::<T, O>::from_place(&memory, place, len);
     let right = BitSlice::<T, O>::from_place(&memory, right_place, right_len);
-    combine(alloc, kind, left, right)
+    combine::<T, Two, Three, O>(alloc, kind, left, right)
 }
 
-fn in_order<T: BitStore, O: BitOrder<T>>(
-    alloc: Global,
-    kind: &str,
-    mut words: SplitWhitespace<'_>,
-) -> Result<String, AllocError> {
+fn in_order<
+    T: BitStore,
+    Zero: BitViewSized<Store = T>,
+    One: BitViewSized<Store = T>,
+    Two: BitViewSized<Store = T>,
+    Three: BitViewSized<Store = T>,
+    O: BitOrder<T>,
+>(alloc: Global, kind: &str, mut words: SplitWhitespace<'_>) -> Result<String, AllocError> {
     let memory = read_words::<T>(alloc, words.next().unwrap_or(""))?;
     let (place, len) = (next_number(&mut words), next_number(&mut words));
     let most = memory.len().saturating_mul(T::BITS as usize);
@@ -81,10 +91,10 @@ fn in_order<T: BitStore, O: BitOrder<T>>(
         "vector" => vector_case::<T, O>(alloc, window, words),
         "box" => box_case::<T, O>(alloc, window, words),
         "word" => array_case::<T, O>(alloc, window, words),
-        "array0" => array_case::<[T; 0], O>(alloc, window, words),
-        "array1" => array_case::<[T; 1], O>(alloc, window, words),
-        "array2" => array_case::<[T; 2], O>(alloc, window, words),
-        "array3" => array_case::<[T; 3], O>(alloc, window, words),
+        "array0" => array_case::<Zero, O>(alloc, window, words),
+        "array1" => array_case::<One, O>(alloc, window, words),
+        "array2" => array_case::<Two, O>(alloc, window, words),
+        "array3" => array_case::<Three, O>(alloc, window, words),
         _ => "no such kind".to_string(alloc),
     }
 }

@@ -43,7 +43,12 @@ fn value<L: BitAnd<R, Output = L> + BitOr<R, Output = L> + BitXor<R, Output = L>
 }
 
 /// The results of an operator on vectors, boxes, windows that are lent and arrays; or a vector that takes over a list.
-pub fn combine<T: BitStore, O: WordPaths<T>>(
+pub fn combine<
+    T: BitStore,
+    Two: BitViewSized<Store = T>,
+    Three: BitViewSized<Store = T>,
+    O: WordPaths<T>,
+>(
     alloc: Global,
     how: &str,
     left: BitSlice<'_, T, O>,
@@ -57,9 +62,9 @@ pub fn combine<T: BitStore, O: WordPaths<T>>(
     vectors(alloc, &mut text, how, left, right)?;
     boxes(alloc, &mut text, how, left, right)?;
     windows(alloc, &mut text, how, left, right)?;
-    arrays::<[T; 2], [T; 2], O>(&mut text, how, left, right)?;
-    arrays::<[T; 2], T, O>(&mut text, how, left, right)?;
-    arrays::<T, [T; 3], O>(&mut text, how, left, right)?;
+    arrays::<Two, Two, O>(&mut text, how, left, right)?;
+    arrays::<Two, T, O>(&mut text, how, left, right)?;
+    arrays::<T, Three, O>(&mut text, how, left, right)?;
     Ok(text)
 }
 

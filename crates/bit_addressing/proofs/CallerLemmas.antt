@@ -8,8 +8,9 @@
 use Rattle.std.proofs.Common.{◌≡◌, ℕ, ◌+◌, ◌<◌, Bool, true, false, List, [], ◌∷◌, length, map, get_or, refl}
 use Rattle.std.proofs.Common.{suc, Option, Some, None, IfSome, MatchOption, sym, ap, ◌∙◌, arith}
 use Rattle.bit_addressing_memory.specs.Memory.{Reading, entry, reading_in, touched}
-use Rattle.bit_addressing_span.proofs.PartsLemmas.{stored_back, stored_then_read}
-use Rattle.bit_addressing_span.specs.Parts.{AreMasked, ReadsPart, part_from, part_upto}
+use Rattle.bit_addressing_memory.proofs.PartsLemmas.{stored_back, stored_then_read}
+use Rattle.bit_addressing_span.specs.Parts.{AreMasked, part_from, part_upto}
+use Rattle.bit_addressing_memory.specs.Partial.{ReadsPart}
 use Rattle.bit_addressing_span.specs.Span.{Extent, span_bits, span_place}
 use Rattle.bit_addressing.specs.declared.command.SpanCommand.{SpanCommand}
 use Rattle.bit_addressing.specs.declared.command.SpanReply.{SpanReply}

@@ -7,7 +7,7 @@ use Rattle.std.proofs.Common.{sym, ap, ◌∙◌, inl, inr, arith}
 use Rattle.std.proofs.Math.IntN.{pos}
 use Rattle.std.proofs.lemmas.Bool.{cases_eq}
 use Rattle.bit_addressing_memory.specs.Memory.{Reading, entry, memory, touched}
-use Rattle.bit_addressing_memory.specs.Pointer.{LiesIn, Pointer, memory_place}
+use Rattle.bit_addressing.specs.Pointer.{LiesIn, Pointer, memory_place}
 use Rattle.bit_addressing_span.specs.Span.{Extent, span_bits, span_place, FitsIn}
 use Rattle.bit_addressing_memory.proofs.MemoryLemmas.{entry_memory, get_or-piece, length-memory}
 use Rattle.bit_addressing_memory.proofs.MemoryLemmas.{length-piece, piece_none}

@@ -1,22 +1,19 @@
+pub mod PointerLemmas
+pub mod PointerRangeLemmas
 pub mod BitCommandLemmas
 pub mod WordCommandLemmas
-pub mod Changes
-pub mod Gathers
-pub mod Puts
 pub mod RunLemmas
-pub mod ShiftedWords
 pub mod CommandLemmas
-pub mod Sweeps
-pub mod WayLemmas
 pub mod CallerLemmas
--- the lemmas of spans, memories and orders
-pub use Rattle.bit_addressing_span.proofs.CopyLemmas
-pub use Rattle.bit_addressing_span.proofs.EntryLemmas
-pub use Rattle.bit_addressing_span.proofs.MemoryLemmas
-pub use Rattle.bit_addressing_span.proofs.OverwriteLemmas
-pub use Rattle.bit_addressing_span.proofs.PartsLemmas
-pub use Rattle.bit_addressing_span.proofs.PointerLemmas
-pub use Rattle.bit_addressing_span.proofs.WindowLemmas
+-- what public clauses cite of the crates below
+pub use Rattle.bit_addressing_memory.proofs.CopyLemmas
+pub use Rattle.bit_addressing_memory.proofs.EntryLemmas
+pub use Rattle.bit_addressing_memory.proofs.MemoryLemmas
+pub use Rattle.bit_addressing_memory.proofs.OverwriteLemmas
+pub use Rattle.bit_addressing_memory.proofs.PartsLemmas
+pub use Rattle.bit_addressing_memory.proofs.WindowLemmas
 pub use Rattle.bit_addressing_order.proofs.CallerLemmas as OrderCallerLemmas
 pub use Rattle.bit_addressing_order.proofs.DigitLemmas
 pub use Rattle.bit_addressing_order.proofs.OrderLemmas
+pub use Rattle.bit_addressing_memory.proofs.Changes
+pub use Rattle.bit_addressing_memory.proofs.WayLemmas

@@ -13,9 +13,10 @@ use Rattle.bit_addressing_memory.specs.Memory.{Reading, entry, digits, touched, 
 use Rattle.bit_addressing_memory.proofs.MemoryLemmas.{length-with_piece, with_piece_above, with_piece_below}
 use Rattle.bit_addressing_memory.proofs.MemoryLemmas.{with_piece_inside}
 use Rattle.bit_addressing_memory.proofs.WindowLemmas.{window_overwritten}
-use Rattle.bit_addressing_span.specs.Parts.{ReadsPart, part_count, part_from, part_place, part_upto}
+use Rattle.bit_addressing_span.specs.Parts.{part_count, part_from, part_place, part_upto}
+use Rattle.bit_addressing_memory.specs.Partial.{ReadsPart}
 use Rattle.bit_addressing_span.specs.Span.{Extent, span_bits, span_place, FitsIn}
-use Rattle.bit_addressing_span.proofs.PartsLemmas.{part_some, part_start}
+use Rattle.bit_addressing_memory.proofs.PartsLemmas.{part_some, part_start}
 use Rattle.bit_addressing.specs.Own.{lies_in, own_digit, own_edit, own_reading, own_word, over_word}
 use Rattle.bit_addressing.specs.Runs.{CarriesOut}
 use Rattle.bit_addressing.specs.declared.command.SpanCommand.{SpanCommand}

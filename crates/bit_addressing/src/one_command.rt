@@ -4,12 +4,12 @@
 
 ghost use Rattle.std.specs.Prelude.{◌≡◌, ◌+◌, ◌*◌, ◌^◌, ◌<◌, ◌≤◌, length, pos, ◌≤ℤ◌};
 ghost use Rattle.bit_addressing_memory.specs.Memory.{read_by};
-ghost use Rattle.bit_addressing_memory.specs.Pointer.{memory_place};
+ghost use Rattle.bit_addressing.specs.Pointer.{memory_place};
 ghost use Rattle.bit_addressing_span.specs.Span.{FitsIn};
 ghost use Rattle.bit_addressing.specs.Runs.{CarriesOut};
 
 use crate::command::{SpanCommand, SpanReply};
-use bit_addressing_memory::BitPtr;
+use crate::pointer::BitPtr;
 use bit_addressing_order::{BitIdx, BitOrder, BitRegister};
 use bit_addressing_span::BitSpan;
 

@@ -3,10 +3,18 @@ pub mod EntryLemmas
 pub mod MemoryLemmas
 pub mod OverwriteLemmas
 pub mod PlaceLemmas
-pub mod PointerLemmas
-pub mod PointerRangeLemmas
 pub mod WindowLemmas
--- the lemmas of orders
+pub mod PartialLemmas
+pub mod StoredLemmas
+pub mod PartsLemmas
+pub mod ShiftLemmas
+pub mod Changes
+pub mod Gathers
+pub mod Puts
+pub mod ShiftedWords
+pub mod Sweeps
+pub mod WayLemmas
+-- what public clauses cite of the crates below
 pub use Rattle.bit_addressing_order.proofs.CallerLemmas as OrderCallerLemmas
 pub use Rattle.bit_addressing_order.proofs.DigitLemmas
 pub use Rattle.bit_addressing_order.proofs.OrderLemmas

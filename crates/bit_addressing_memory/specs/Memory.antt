@@ -6,7 +6,7 @@ use Rattle.std.specs.Prelude.{ℕ, zero, suc, ◌+◌, ◌-◌, ◌/◌, ◌%◌
 use Rattle.std.specs.Prelude.{◌++◌, length, map, take, drop, slice_index_or}
 use Rattle.std.specs.List.{flat_map, range_with_len}
 use Rattle.bit_addressing_order.specs.Bits.{digit_at}
-use Rattle.bit_addressing_register.specs.declared.register.BitRegister.{Ghosts}
+use Rattle.bit_addressing_order.specs.declared.register.BitRegister.{Ghosts}
 
 -- how words are read as bits: how many bits a word has, and the digit of a word at an index
 pub record Reading (R : Type 0) : Type 0 where

@@ -1,4 +1,4 @@
--- Places in a memory, of any size: a word number and an index. No public clause cites this module.
+-- Places in a memory, of any size: a word number and an index.
 use Rattle.std.specs.Prelude.{ℕ, ◌+◌, ◌*◌}
 
 -- the place as one number, where a word has b bits

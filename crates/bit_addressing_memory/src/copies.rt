@@ -96,7 +96,7 @@ pub fn swap_entries<R: BitRegister, O: BitOrder<R>>(words: &mut [R], first: usiz
 
 // `copy_between`, from and to places of any size.
 #[tactic(auto, using(crate::proofs::CopyLemmas::between_steps))]
-pub(crate) fn copy_between_at<Q: BitRegister, P: BitOrder<Q>, R: BitRegister, O: BitOrder<R>>(
+pub fn copy_between_at<Q: BitRegister, P: BitOrder<Q>, R: BitRegister, O: BitOrder<R>>(
     from: &[Q],
     source: Place<Q>,
     words: &mut [R],
@@ -116,7 +116,7 @@ pub(crate) fn copy_between_at<Q: BitRegister, P: BitOrder<Q>, R: BitRegister, O:
 
 // `copy_within`, from and to places of any size; `upward` is whether the target is not past the source.
 #[tactic(auto, using(crate::proofs::CopyLemmas::within_steps))]
-pub(crate) fn copy_within_at<R: BitRegister, O: BitOrder<R>>(
+pub fn copy_within_at<R: BitRegister, O: BitOrder<R>>(
     words: &mut [R],
     source: Place<R>,
     target: Place<R>,
@@ -145,7 +145,7 @@ pub(crate) fn copy_within_at<R: BitRegister, O: BitOrder<R>>(
 
 // `swap_between`, at places of any size.
 #[tactic(auto, using(crate::proofs::CopyLemmas::between_steps))]
-pub(crate) fn swap_between_at<R: BitRegister, O: BitOrder<R>, Q: BitRegister, P: BitOrder<Q>>(
+pub fn swap_between_at<R: BitRegister, O: BitOrder<R>, Q: BitRegister, P: BitOrder<Q>>(
     words: &mut [R],
     first: Place<R>,
     others: &mut [Q],
@@ -171,11 +171,7 @@ pub(crate) fn swap_between_at<R: BitRegister, O: BitOrder<R>, Q: BitRegister, P:
 
 // `swap_entries`, at places of any size.
 #[tactic(auto, using(crate::proofs::CopyLemmas::swaps_two))]
-pub(crate) fn swap_at<R: BitRegister, O: BitOrder<R>>(
-    words: &mut [R],
-    first: Place<R>,
-    second: Place<R>,
-)
+pub fn swap_at<R: BitRegister, O: BitOrder<R>>(words: &mut [R], first: Place<R>, second: Place<R>)
     requires first_in { place_of R.BITS first < length words.old * R.BITS }
     requires second_in { place_of R.BITS second < length words.old * R.BITS }
     ensures swapped { Swaps (read_by R.BitRegister O.position) words.old words.new

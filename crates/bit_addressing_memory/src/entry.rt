@@ -73,7 +73,7 @@ pub fn replace_entry<R: BitRegister, O: BitOrder<R>>(
 
 // The bit at a place of any size.
 #[tactic(auto, using(crate::proofs::PlaceLemmas::word_within))]
-pub(crate) fn read_at<R: BitRegister, O: BitOrder<R>>(words: &[R], place: Place<R>) -> bool
+pub fn read_at<R: BitRegister, O: BitOrder<R>>(words: &[R], place: Place<R>) -> bool
     requires within { place_of R.BITS place < length words.now * R.BITS }
     ensures value { result ≡ entry (read_by R.BitRegister O.position) words.now (place_of R.BITS place) }
 {
@@ -82,7 +82,7 @@ pub(crate) fn read_at<R: BitRegister, O: BitOrder<R>>(words: &[R], place: Place<
 
 // Writes the bit at a place of any size.
 #[tactic(auto, using(crate::proofs::PlaceLemmas::word_within))]
-pub(crate) fn write_at<R: BitRegister, O: BitOrder<R>>(words: &mut [R], place: Place<R>, bit: bool)
+pub fn write_at<R: BitRegister, O: BitOrder<R>>(words: &mut [R], place: Place<R>, bit: bool)
     requires within { place_of R.BITS place < length words.old * R.BITS }
     ensures written { Writes (read_by R.BitRegister O.position)
         words.old words.new (place_of R.BITS place) bit }

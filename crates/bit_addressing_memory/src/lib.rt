@@ -1,14 +1,26 @@
-//! Memory as one list of bits: words in a bit order, their entries, copies of bits, and pointers.
+//! Memory as one list of bits, for every lawful order: entries, copies, parts of words, and moves by a sweep over words
+//! that counts itself.
 #![tactic(auto)]
 
-mod access;
 mod copies;
+mod direction;
 mod entry;
+mod masking;
+mod moves;
 mod place;
-mod pointer;
-mod pointer_range;
+pub mod places;
+mod shift;
+mod shifted;
+mod sweep;
 
+pub use bit_addressing_order::{
+    BitEnd, BitIdx, BitOrder, BitRegister, LocalBits, Lsb0, Msb0, OrderCandidate, Positions,
+    mask_from_at, mem, select_from_at,
+};
 pub use copies::{copy_between, copy_within, swap_between, swap_entries, swap_within};
+pub use direction::{Direction, direction_of, goes};
 pub use entry::{read_bit, read_entry, replace_entry, write_bit, write_entry};
-pub use pointer::{BitPtr, Dangling};
-pub use pointer_range::{BitPtrRange, EmptyRange};
+pub use masking::{each_digit, flipped, load_in, masked, no_digits, store_in, stored};
+pub use moves::move_in;
+pub use shift::{joined, raised};
+pub use sweep::{Sweep, Way, way_for};

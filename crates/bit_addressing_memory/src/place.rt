@@ -9,7 +9,7 @@ use std::marker::Model;
 
 // A place: the index of a bit in the word of this number.
 #[derive_where(Clone, Copy)]
-pub(crate) struct Place<R: BitRegister> {
+pub struct Place<R: BitRegister> {
     word: usize,
     index: BitIdx<R>,
 }

@@ -1,3 +1,5 @@
+mod ElementLemmas
+mod WidthLemmas
 pub mod CallerLemmas
 pub mod DigitLemmas
 mod MaskLemmas

@@ -1,3 +1,5 @@
+pub mod BitRegister
+pub mod RegisterLaws
 pub mod BitIdx
 pub mod BitMask
 pub mod BitOrder
@@ -6,6 +8,3 @@ pub mod MaskLaws
 pub mod OrderLaws
 pub mod StepLaws
 pub mod Text
--- the words of registers
-pub use Rattle.bit_addressing_register.specs.BitRegister
-pub use Rattle.bit_addressing_register.specs.RegisterLaws

@@ -4,7 +4,7 @@
 -- (positions that go by an odd step).
 use Rattle.std.proofs.Common.{◌≡◌, ℕ, ◌+◌, ◌-◌, ◌*◌, ◌%◌, ◌^◌, ◌<◌, refl, sym, inl, inr, arith}
 use Rattle.std.proofs.lemmas.Bool.{cases_order}
-use Rattle.bit_addressing_register.specs.BitRegister.{IsRegisterSize}
+use Rattle.bit_addressing_order.specs.BitRegister.{IsRegisterSize}
 use Rattle.bit_addressing_order.specs.BitOrder.{lower, upper, selectors_from, masks_from, IsLawful}
 use Rattle.bit_addressing_order.specs.MaskLaws.{IsMaskOf-mask_from, IsMaskOf-between, IsMaskOf-between_down}
 use Rattle.bit_addressing_order.specs.StepLaws.{steps_ordered}

@@ -3,7 +3,7 @@ use Rattle.std.proofs.Common.{pow-suc, ◌≡◌, ℕ, zero, suc, ◌+◌, ◌-�
 use Rattle.std.proofs.Common.{arith}
 use Rattle.std.proofs.Math.Nat.{mul_assoc, mul_comm, mul-sub, mul-mod_left, mul-le-mul_left, suc-mul}
 use Rattle.std.proofs.lemmas.Nat.{mul-mod, div-add-mod'}
-use Rattle.bit_addressing_register.specs.BitRegister.{IsRegisterSize}
+use Rattle.bit_addressing_order.specs.BitRegister.{IsRegisterSize}
 
 -- an odd number times d is even only where d is
 even_factor : (step d m : ℕ) → step % 2 ≡ 1 → step * d ≡ m * 2 → d ≡ d / 2 * 2

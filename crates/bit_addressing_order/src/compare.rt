@@ -8,8 +8,8 @@ ghost use Rattle.std.specs.Hash as fed;
 ghost use Rattle.std.specs.Ordering.{nat_cmp, on, as_partial_cmp};
 
 use crate::mask::BitMask;
+use crate::register::BitRegister;
 use crate::selector::BitSel;
-use bit_addressing_register::BitRegister;
 use std::cmp::Ordering;
 use std::hash::{Hash, Hasher};
 

@@ -6,7 +6,7 @@ ghost use Rattle.std.specs.List.{range_with_len};
 use crate::index::BitIdx;
 use crate::limits::Limits;
 use crate::ranges::EndRange;
-use bit_addressing_register::BitRegister;
+use crate::register::BitRegister;
 use std::marker::{Model, PhantomData};
 
 /// The end of a range of indices, from 0 to `BITS`: it says up to before which index the range

@@ -12,8 +12,8 @@ use crate::mask::BitMask;
 use crate::order::BitOrder;
 use crate::position::BitPos;
 use crate::ranges::IndexRange;
+use crate::register::BitRegister;
 use crate::selector::BitSel;
-use bit_addressing_register::BitRegister;
 use std::marker::{Model, PhantomData};
 
 /// The index of a bit in a word, from 0 to `BITS - 1`. A contract sees it as that number.

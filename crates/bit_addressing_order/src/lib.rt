@@ -1,4 +1,4 @@
-//! Checked places inside a word, and bit orders with laws that each order proves. It shows the registers too.
+//! Storage words as numbers, places inside a word, and lawful orders of its bits.
 #![tactic(auto)]
 
 mod compare;
@@ -6,13 +6,15 @@ mod end;
 mod index;
 mod limits;
 mod mask;
+pub mod mem;
 mod order;
 mod position;
 mod ranges;
+mod register;
 mod selector;
 mod text;
+mod widths;
 
-pub use bit_addressing_register::{BitRegister, mem};
 pub use end::BitEnd;
 pub use index::{BitIdx, BitIdxError};
 pub use limits::{AllOrNone, Limits};
@@ -23,4 +25,5 @@ pub use order::{
 };
 pub use position::BitPos;
 pub use ranges::{EndRange, IndexRange, Place, PlaceRange, SelectorRange};
+pub use register::BitRegister;
 pub use selector::BitSel;

@@ -7,8 +7,8 @@ ghost use Rattle.bit_addressing_order.specs.BitOrder.{IsOneBit};
 ghost use Rattle.bit_addressing_order.specs.BitMask.{IsUnionOf};
 
 use crate::limits::AllOrNone;
+use crate::register::BitRegister;
 use crate::selector::BitSel;
-use bit_addressing_register::BitRegister;
 use std::alloc::AllocError;
 use std::marker::Model;
 use std::ops::{BitAnd, BitOr, Not};

@@ -8,8 +8,8 @@ use crate::end::BitEnd;
 use crate::index::BitIdx;
 use crate::mask::BitMask;
 use crate::position::BitPos;
+use crate::register::BitRegister;
 use crate::selector::BitSel;
-use bit_addressing_register::BitRegister;
 
 /// The position of each index, with no law: the part of an order that `select_from_at` and
 /// `mask_from_at` work from.

@@ -4,8 +4,8 @@ ghost use Rattle.std.specs.Prelude.{◌≡◌, ℕ, ◌-◌, ◌^◌, ◌<◌, �
 
 use crate::limits::Limits;
 use crate::mask::BitMask;
+use crate::register::BitRegister;
 use crate::selector::BitSel;
-use bit_addressing_register::BitRegister;
 use std::marker::{Model, PhantomData};
 
 /// The position of a bit in a word, from 0 to `BITS - 1`: the bit weighs two to that power. A

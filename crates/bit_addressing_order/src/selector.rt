@@ -7,7 +7,7 @@ ghost use Rattle.bit_addressing_order.specs.BitOrder.{IsSelector};
 use crate::mask::BitMask;
 use crate::position::BitPos;
 use crate::ranges::SelectorRange;
-use bit_addressing_register::BitRegister;
+use crate::register::BitRegister;
 use std::alloc::AllocError;
 use std::marker::Model;
 

@@ -2,13 +2,12 @@
 
 use crate::candidates::{AllAtZero, EmptyMask, EmptyTail, OtherSelector};
 use bit_addressing_order::{
-    BitEnd, BitIdx, BitOrder, BitRegister, Lsb0, Msb0, OrderCandidate, disjoint_masks,
-    mask_from_at, select_from_at,
+    BitEnd, BitIdx, BitOrder, BitRegister, Lsb0, Msb0, disjoint_masks, mask_from_at, select_from_at,
 };
 use bit_addressing_sample_orders::word_callers::{
     both_positions, field, highest_four, parts, there_and_back, toggled,
 };
-use bit_addressing_sample_orders::{Count, FifthStep, Flipped, UpperHalfFirst};
+use bit_addressing_sample_orders::{Count, FifthStep};
 use bit_addressing_verify::{OrderFault, WordFault, verify, verify_for_type};
 use std::test::Fail;
 
@@ -22,40 +21,21 @@ fn first_three<O: BitOrder<u8>>() -> u8 {
 fn masks_of_a_users_orders(rt: HostRuntime) {
     assert!(rt; first_three::<Lsb0>() == 0b0000_0111);
     assert!(rt; first_three::<Msb0>() == 0b1110_0000);
-    assert!(rt; first_three::<Flipped>() == 0b0111_0000);
     assert!(rt; first_three::<FifthStep>() == 0b0010_1001);
 }
 
 #[test]
 fn positions_and_selectors_of_the_orders(rt: HostRuntime) -> Result<(), Fail> {
     // index, and its position under each order
-    let rows = [
-        (0, 0, 15, 4, 3),
-        (1, 1, 14, 5, 8),
-        (6, 6, 9, 2, 1),
-        (15, 15, 0, 11, 14),
-    ];
-    for (index, least, most, flipped, fifth) in rows {
+    let rows = [(0, 0, 15, 3), (1, 1, 14, 8), (6, 6, 9, 1), (15, 15, 0, 14)];
+    for (index, least, most, fifth) in rows {
         let index = BitIdx::<u16>::new(index)?;
         assert!(rt; index.position::<Lsb0>().into_inner() == least);
         assert!(rt; index.position::<Msb0>().into_inner() == most);
-        assert!(rt; index.position::<Flipped>().into_inner() == flipped);
         assert!(rt; index.position::<FifthStep>().into_inner() == fifth);
         assert!(rt; index.select::<Msb0>().into_inner().value() == 1 << most);
         assert!(rt; index.mask::<FifthStep>().into_inner().value() == 1 << fifth);
     }
-    Ok(())
-}
-
-#[test]
-fn an_order_of_one_register(rt: HostRuntime) -> Result<(), Fail> {
-    for (index, position) in [(0, 16), (15, 31), (16, 0), (31, 15)] {
-        let index = BitIdx::<u32>::new(index)?;
-        assert!(rt; index.position::<UpperHalfFirst>().into_inner() == position);
-    }
-    let mask = UpperHalfFirst::mask(None, BitEnd::new(16));
-    assert!(rt; mask.into_inner() == 0xffff_0000);
-    assert!(rt; verify_for_type::<u32, UpperHalfFirst>() == Ok(()));
     Ok(())
 }
 
@@ -80,7 +60,6 @@ fn masks_of_ranges_apart(rt: HostRuntime) -> Result<(), Fail> {
 fn lawful_orders_are_told_so(rt: HostRuntime) {
     assert!(rt; verify::<Lsb0>() == Ok(()));
     assert!(rt; verify::<Msb0>() == Ok(()));
-    assert!(rt; verify::<Flipped>() == Ok(()));
     assert!(rt; verify::<FifthStep>() == Ok(()));
 }
 
@@ -117,7 +96,7 @@ fn bits_are_flipped(rt: HostRuntime) -> Result<(), Fail> {
     let first = BitIdx::<u32>::new(1)?;
     assert!(rt; toggled::<u32, Msb0>(0, first) == 0x4000_0000);
     assert!(rt; toggled::<u32, Msb0>(0x4000_0000, first) == 0);
-    assert!(rt; toggled::<u8, Flipped>(0xff, BitIdx::new(0)?) == 0b1110_1111);
+    assert!(rt; toggled::<u8, FifthStep>(0xff, BitIdx::new(0)?) == 0b1111_0111);
     Ok(())
 }
 

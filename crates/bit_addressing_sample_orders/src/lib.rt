@@ -1,10 +1,11 @@
-//! Three orders of a user's own, how their bits are counted by hand, and what a user of the orders proves from their
-//! contracts alone.
+//! An order of a user's own, how the bits of orders are counted by hand, what a user of orders proves from their contracts
+//! alone, and words as texts.
 #![tactic(auto)]
 
 mod count;
 mod orders;
+pub mod texts;
 pub mod word_callers;
 
 pub use count::Count;
-pub use orders::{FifthStep, Flipped, UpperHalfFirst};
+pub use orders::FifthStep;

@@ -13,10 +13,11 @@ use Rattle.bit_addressing_order.specs.Bits.{digit_at}
 use Rattle.bit_addressing_order.specs.BitOrder.{IsLawful}
 use Rattle.bit_addressing_memory.specs.Memory.{Reading, entry, reading_in, touched}
 use Rattle.bit_addressing_memory.proofs.EntryLemmas.{entry_read}
-use Rattle.bit_addressing_span.specs.Partial.{part_mask}
-use Rattle.bit_addressing_span.specs.Parts.{AreMasked, ReadsDigits}
+use Rattle.bit_addressing_memory.specs.Partial.{part_mask}
+use Rattle.bit_addressing_span.specs.Parts.{AreMasked}
+use Rattle.bit_addressing_memory.specs.Partial.{ReadsDigits}
 use Rattle.bit_addressing_span.specs.Span.{extent}
-use Rattle.bit_addressing_span.proofs.PartialLemmas.{masked_digits}
+use Rattle.bit_addressing_memory.proofs.PartialLemmas.{masked_digits}
 
 -- a word of the list, and the list of it alone
 pub one_word : {R : Type 0} (words : List R) (j : ℕ) → j < length words

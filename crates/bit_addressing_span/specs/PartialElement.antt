@@ -1,7 +1,7 @@
 -- What a partial element shows: its word, and the part of it.
 use Rattle.std.specs.Prelude.{ℕ, ◌-◌, Bool, List, Option, map, bit_and}
 use Rattle.bit_addressing_memory.specs.Memory.{Reading, memory, piece}
-use Rattle.bit_addressing_span.specs.Partial.{part_mask}
+use Rattle.bit_addressing_memory.specs.Partial.{part_mask}
 use Rattle.bit_addressing_span.specs.declared.partial.PartialElement.{PartialElement}
 
 -- the memory of one word that a partial element is part of

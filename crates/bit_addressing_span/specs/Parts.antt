@@ -1,10 +1,11 @@
--- The parts of a span, a word each: where they are, and what reading one is.
+-- The parts of a span, a word each: where they are, and what reading them all is.
 --
 -- The part of word k: `part_from`, `part_upto`, `part_place`, `part_count`.
--- A read: `ReadsDigits`, and by it `ReadsPart` and `AreMasked`.
-use Rattle.std.specs.Prelude.{ℕ, ◌+◌, ◌-◌, ◌*◌, ◌<◌, ◌≤◌, ◌≡◌, Bool, false, List, min, slice_index}
-use Rattle.bit_addressing_memory.specs.Memory.{Reading, entry, touched}
+-- A read of all: `AreMasked`.
+use Rattle.std.specs.Prelude.{ℕ, ◌+◌, ◌-◌, ◌*◌, ◌<◌, List, min, slice_index}
+use Rattle.bit_addressing_memory.specs.Memory.{Reading, touched}
 use Rattle.bit_addressing_order.specs.Bits.{digit_at}
+use Rattle.bit_addressing_memory.specs.Partial.{ReadsDigits}
 use Rattle.bit_addressing_span.specs.Span.{Extent}
 
 -- the index at which a span's part of its word k begins: the head in the first word, 0 in each other
@@ -22,18 +23,6 @@ part_place b span k = (span.word + k) * b + part_from b span k
 -- how many bits it has
 abbrev pub part_count : ℕ → Extent → ℕ → ℕ
 part_count b span k = part_upto b span k - part_from b span k
-
--- the digits are the entries of the memory's word j at the indices from one up to before another, and false at each
--- other
-pub record ReadsDigits {R : Type 0} (reading : Reading R) (words : List R) (j : ℕ) (digit : ℕ → Bool) (from upto : ℕ)
-    : Type 0 where
-  pub inside : (i : ℕ) → from ≤ i → i < upto → i < reading.bits → digit i ≡ entry reading words (j * reading.bits + i)
-  pub below : (i : ℕ) → i < from → i < reading.bits → digit i ≡ false
-  pub above : (i : ℕ) → upto ≤ i → i < reading.bits → digit i ≡ false
-
--- the word has the entries of the memory's word j at the indices from one up to before another, and false at each other
-abbrev pub ReadsPart : {R : Type 0} → Reading R → List R → ℕ → R → ℕ → ℕ → Type 0
-ReadsPart reading words j word from upto = ReadsDigits reading words j (reading.digit word) from upto
 
 -- the numbers are the span's masked words, one after another: number k has the digits of the span's part of word k at
 -- the positions `at`, and no others

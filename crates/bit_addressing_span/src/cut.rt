@@ -6,7 +6,8 @@ ghost use Rattle.bit_addressing_memory.specs.Memory.{read_by, memory, piece, tou
 ghost use Rattle.bit_addressing_span.specs.Domain.{IsCut, IsEnclave, IsTail, domain_start, domain_bits};
 ghost use Rattle.bit_addressing_span.specs.Domain.{domain_numbers, option_bits, option_numbers};
 ghost use Rattle.bit_addressing_order.specs.Bits.{digit_at};
-ghost use Rattle.bit_addressing_span.specs.Parts.{AreMasked, ReadsDigits};
+ghost use Rattle.bit_addressing_span.specs.Parts.{AreMasked};
+ghost use Rattle.bit_addressing_memory.specs.Partial.{ReadsDigits};
 ghost use Rattle.bit_addressing_span.specs.Span.{extent, span_bits, FitsIn, LiesInside};
 ghost use Rattle.bit_addressing_span.specs.PartialElement.{partial_head, partial_tail, partial_bits, partial_numbers};
 

@@ -5,14 +5,15 @@ ghost use Rattle.std.specs.Prelude.{not, true, false, length, slice_index_or, mi
 ghost use Rattle.bit_addressing_span.specs.Domain.{IsCutOf, IsEnclave, domain_numbers};
 ghost use Rattle.bit_addressing_memory.specs.Memory.{indexed, read_by, entry, touched, Overwrites};
 ghost use Rattle.bit_addressing_span.specs.declared.span.TheConstants.{MAX_BITS};
-ghost use Rattle.bit_addressing_span.specs.Parts.{AreMasked, ReadsPart};
+ghost use Rattle.bit_addressing_span.specs.Parts.{AreMasked};
+ghost use Rattle.bit_addressing_memory.specs.Partial.{ReadsPart};
 ghost use Rattle.bit_addressing_span.specs.Span.{extent, FitsIn, LiesInside};
 ghost use Rattle.bit_addressing_span.specs.Parts.{part_from, part_upto, part_place, part_count};
 
 use crate::cut::cut_from;
 use crate::domain::Domain;
-use crate::masking::{each_digit, flipped, load_in, no_digits, store_in};
 use crate::span::{BitSpan, words_touched};
+use bit_addressing_memory::{each_digit, flipped, load_in, no_digits, store_in};
 use bit_addressing_order::{BitEnd, BitIdx, BitOrder, BitRegister};
 use std::marker::PhantomData;
 
@@ -184,7 +185,7 @@ impl<'a, R: BitRegister, O: BitOrder<R>> DomainMut<'a, R, O> {
     }
 
     /// Makes each bit of the part of word `k` that is in the span 0. Answers the word masked, as it was.
-    #[tactic(auto, using(crate::proofs::PartsLemmas::stores_none))]
+    #[tactic(auto, using(bit_addressing_memory::proofs::PartsLemmas::stores_none))]
     pub fn clear(&mut self, k: usize) -> R
         requires { k < touched R.BITS (domain_span self.old).head (domain_span self.old).len }
         ensures same { IsSameDomain self.old self.new }
@@ -199,7 +200,7 @@ impl<'a, R: BitRegister, O: BitOrder<R>> DomainMut<'a, R, O> {
     }
 
     /// Makes each bit of the part of word `k` that is in the span 1. Answers the word masked, as it was.
-    #[tactic(auto, using(crate::proofs::PartsLemmas::stores_each))]
+    #[tactic(auto, using(bit_addressing_memory::proofs::PartsLemmas::stores_each))]
     pub fn set(&mut self, k: usize) -> R
         requires { k < touched R.BITS (domain_span self.old).head (domain_span self.old).len }
         ensures same { IsSameDomain self.old self.new }

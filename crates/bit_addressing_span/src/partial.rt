@@ -2,9 +2,9 @@
 
 ghost use Rattle.std.specs.Prelude.{◌≡◌, ◌∷◌, [], ◌-◌, ◌<◌, ◌≤◌, length};
 ghost use Rattle.bit_addressing_memory.specs.Memory.{read_by};
-ghost use Rattle.bit_addressing_span.specs.Partial.{part_mask, IsMasked};
+ghost use Rattle.bit_addressing_memory.specs.Partial.{part_mask, IsMasked};
 
-use crate::masking::masked;
+use bit_addressing_memory::masked;
 use bit_addressing_order::{BitEnd, BitIdx, BitMask, BitOrder, BitRegister};
 use std::alloc::AllocError;
 use std::marker::PhantomData;

@@ -2,10 +2,10 @@
 
 ghost use Rattle.std.specs.Prelude.{◌≡◌, ◌+◌, ◌-◌, ◌<◌, ◌≤◌, Bool, true, false, not, length};
 ghost use Rattle.bit_addressing_memory.specs.Memory.{indexed, read_by, entry, Overwrites};
-ghost use Rattle.bit_addressing_span.specs.Partial.{part_mask};
-ghost use Rattle.bit_addressing_span.specs.Parts.{ReadsPart};
+ghost use Rattle.bit_addressing_memory.specs.Partial.{part_mask};
+ghost use Rattle.bit_addressing_memory.specs.Partial.{ReadsPart};
 
-use crate::masking::{each_digit, flipped, load_in, no_digits, store_in};
+use bit_addressing_memory::{each_digit, flipped, load_in, no_digits, store_in};
 use bit_addressing_order::{BitEnd, BitIdx, BitMask, BitOrder, BitRegister};
 use std::marker::PhantomData;
 
@@ -110,7 +110,7 @@ impl<'a, R: BitRegister, O: BitOrder<R>> PartialElementMut<'a, R, O> {
     ghost use Rattle.bit_addressing_span.specs.PartialElementMut.{part_head, part_tail, part_len};
 
     /// Writes the digits of `value` at the indices of the part. Answers the word masked, as it was.
-    #[tactic(auto, using(crate::proofs::PartsLemmas::first_part))]
+    #[tactic(auto, using(bit_addressing_memory::proofs::PartsLemmas::first_part))]
     pub fn store_value(&mut self, value: R) -> R
         ensures same { IsSamePart self.old self.new }
         ensures was { ReadsPart (read_by R.BitRegister O.position) (part_words self.old) 0 result
@@ -137,7 +137,7 @@ impl<'a, R: BitRegister, O: BitOrder<R>> PartialElementMut<'a, R, O> {
     }
 
     /// Makes each bit of the part 0. Answers the word masked, as it was.
-    #[tactic(auto, using(crate::proofs::PartsLemmas::stores_none))]
+    #[tactic(auto, using(bit_addressing_memory::proofs::PartsLemmas::stores_none))]
     pub fn clear(&mut self) -> R
         ensures same { IsSamePart self.old self.new }
         ensures was { ReadsPart (read_by R.BitRegister O.position) (part_words self.old) 0 result
@@ -150,7 +150,7 @@ impl<'a, R: BitRegister, O: BitOrder<R>> PartialElementMut<'a, R, O> {
     }
 
     /// Makes each bit of the part 1. Answers the word masked, as it was.
-    #[tactic(auto, using(crate::proofs::PartsLemmas::stores_each))]
+    #[tactic(auto, using(bit_addressing_memory::proofs::PartsLemmas::stores_each))]
     pub fn set(&mut self) -> R
         ensures same { IsSamePart self.old self.new }
         ensures was { ReadsPart (read_by R.BitRegister O.position) (part_words self.old) 0 result

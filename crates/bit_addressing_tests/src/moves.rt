@@ -2,12 +2,11 @@
 
 ghost use Rattle.std.specs.Prelude.{◌+◌, ◌*◌, ◌<◌, ◌≤◌};
 
+use crate::callers::{byte_reads, move_counted, move_list, move_within, own_array};
+use crate::plain::listed;
 use bit_addressing::mem::bits_of;
-use bit_addressing::{BitIdx, BitOrder, BitRegister, Lsb0, Msb0, read_bit};
-use bit_addressing_samples::callers::{
-    byte_reads, move_counted, move_list, move_within, own_array,
-};
-use bit_addressing_samples::{FifthStep, Flipped};
+use bit_addressing::{BitOrder, BitRegister, Lsb0, Msb0};
+use bit_addressing_sample_orders::{Count, FifthStep};
 
 #[test]
 fn moves_of_sixteen_bits(rt: HostRuntime) {
@@ -34,10 +33,10 @@ fn moves_of_sixteen_bits(rt: HostRuntime) {
 }
 
 #[test]
-fn moves_under_other_orders(rt: HostRuntime) {
+fn moves_under_another_order(rt: HostRuntime) {
     let mut words = [0x12u8, 0x34, 0x56];
-    let writes = move_list::<u8, Flipped>(&mut words, 4, 0, 16);
-    assert!(rt; words == [0x23, 0x45, 0x56]);
+    let writes = move_list::<u8, FifthStep>(&mut words, 4, 8, 16);
+    assert!(rt; words == [0x12, 0x63, 0x41]);
     assert!(rt; writes <= 2);
     let (words, writes) = own_array::<u8, FifthStep>(0x12, 0x34, 0x56);
     assert!(rt; words == [0x63, 0x41, 0x56]);
@@ -50,21 +49,9 @@ fn moves_under_other_orders(rt: HostRuntime) {
 // How many bits a plain list has: those of four words of 64.
 const LISTED: usize = 256;
 
-// The bits of so many words as a plain list, the places past them false.
-fn plain_bits<R: BitRegister, O: BitOrder<R>>(words: &[R]) -> [bool; LISTED] {
-    let bits = bits_of::<R>();
-    let mut list = [false; LISTED];
-    for k in 0..LISTED {
-        if k / bits < words.len() {
-            let index = BitIdx::new_unchecked((k % bits) as u8);
-            list[k] = read_bit::<R, O>(words[k / bits], index);
-        }
-    }
-    list
-}
-
 // Whether a move of these words leaves what a plain copy of their bits leaves.
 fn agrees<R: BitRegister, O: BitOrder<R>, const N: usize>(
+    count: Count,
     before: [R; N],
     source: usize,
     target: usize,
@@ -75,23 +62,23 @@ fn agrees<R: BitRegister, O: BitOrder<R>, const N: usize>(
     requires source_listed { source + len ≤ LISTED }
     requires target_listed { target + len ≤ LISTED }
 {
-    let own = plain_bits::<R, O>(&before);
+    let own = listed(count, &before);
     let mut copied = own;
     for i in 0..len {
         copied[target + i] = own[source + i];
     }
     let mut words = before;
     let _ = move_within::<R, O>(&mut words, source, target, len);
-    plain_bits::<R, O>(&words) == copied
+    listed(count, &words) == copied
 }
 
 // The first source, target and length up to 24, 24 and 40 whose move over nine bytes is another than
 // a plain copy.
-fn first_fault<O: BitOrder<u8>>(before: [u8; 9]) -> Option<(usize, usize, usize)> {
+fn first_fault<O: BitOrder<u8>>(count: Count, before: [u8; 9]) -> Option<(usize, usize, usize)> {
     for source in 0..25 {
         for target in 0..25 {
             for len in 0..41 {
-                if !agrees::<u8, O, 9>(before, source, target, len) {
+                if !agrees::<u8, O, 9>(count, before, source, target, len) {
                     return Some((source, target, len));
                 }
             }
@@ -103,9 +90,9 @@ fn first_fault<O: BitOrder<u8>>(before: [u8; 9]) -> Option<(usize, usize, usize)
 #[test]
 fn every_small_move_is_a_plain_copy(rt: HostRuntime) {
     let before = [0x12, 0x34, 0x56, 0x78, 0x9a, 0xbc, 0xde, 0xf0, 0x5b];
-    assert!(rt; first_fault::<Lsb0>(before) == None);
-    assert!(rt; first_fault::<Msb0>(before) == None);
-    assert!(rt; first_fault::<Flipped>(before) == None);
+    assert!(rt; first_fault::<Lsb0>(Count::Lowest, before) == None);
+    assert!(rt; first_fault::<Msb0>(Count::Highest, before) == None);
+    assert!(rt; first_fault::<FifthStep>(Count::Fifths, before) == None);
 }
 
 #[test]
@@ -128,9 +115,9 @@ fn some_moves_of_wide_words_are_plain_copies(rt: HostRuntime) {
         let (source, target, len) = (source as usize, target as usize, len as usize);
         assert!(rt; source + len <= 96 && target + len <= 96);
         let agreed = (
-            agrees::<u32, Lsb0, 3>(before, source, target, len),
-            agrees::<u32, Msb0, 3>(before, source, target, len),
-            agrees::<u32, Flipped, 3>(before, source, target, len),
+            agrees::<u32, Lsb0, 3>(Count::Lowest, before, source, target, len),
+            agrees::<u32, Msb0, 3>(Count::Highest, before, source, target, len),
+            agrees::<u32, FifthStep, 3>(Count::Fifths, before, source, target, len),
         );
         assert!(rt;
             agreed == (true, true, true),
@@ -142,6 +129,7 @@ fn some_moves_of_wide_words_are_plain_copies(rt: HostRuntime) {
 // The first source, target and length whose move over four words is another than a plain copy, of those that
 // begin and end at edges of words, inside one, and over one, two, three and four of them, either way.
 fn first_wide_fault<R: BitRegister, O: BitOrder<R>>(
+    count: Count,
     before: [R; 4],
 ) -> Option<(usize, usize, usize)> {
     let b = bits_of::<R>();
@@ -174,7 +162,7 @@ fn first_wide_fault<R: BitRegister, O: BitOrder<R>>(
         if source > most || target > most || len > most - source || len > most - target {
             return Some((source, target, len));
         }
-        if !agrees::<R, O, 4>(before, source, target, len) {
+        if !agrees::<R, O, 4>(count, before, source, target, len) {
             return Some((source, target, len));
         }
     }
@@ -187,9 +175,9 @@ where
     R: BitRegister,
 {
     [
-        first_wide_fault::<R, Lsb0>(before),
-        first_wide_fault::<R, Msb0>(before),
-        first_wide_fault::<R, Flipped>(before),
+        first_wide_fault::<R, Lsb0>(Count::Lowest, before),
+        first_wide_fault::<R, Msb0>(Count::Highest, before),
+        first_wide_fault::<R, FifthStep>(Count::Fifths, before),
     ]
 }
 

@@ -3,11 +3,11 @@
 ghost use Rattle.std.specs.Prelude.{◌≡◌, IfOk};
 ghost use Rattle.bit_addressing.specs.Span.{extent};
 
+use crate::callers::set_and_read;
 use bit_addressing::{
     BitIdx, BitOrder, BitRegister, BitSpan, Lsb0, Msb0, SpanCommand, SpanReply, all_fit, disjoint,
     order_of_spans_is_free, run,
 };
-use bit_addressing_samples::callers::set_and_read;
 use std::process::Abort;
 use std::test::Fail;
 

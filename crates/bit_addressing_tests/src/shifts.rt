@@ -1,14 +1,13 @@
 //! Rows of directions and of words cut by shifts.
 
 use bit_addressing::{BitRegister, Direction, Lsb0, Msb0, direction_of, goes, joined, raised};
-use bit_addressing_samples::{FifthStep, Flipped};
+use bit_addressing_sample_orders::FifthStep;
 
-// The directions of the orders of the crate, and of two others.
-fn directions<R: BitRegister>() -> [Option<Direction>; 4] {
+// The directions of the orders of the crate, and of another one.
+fn directions<R: BitRegister>() -> [Option<Direction>; 3] {
     [
         direction_of::<R, Lsb0>(),
         direction_of::<R, Msb0>(),
-        direction_of::<R, Flipped>(),
         direction_of::<R, FifthStep>(),
     ]
 }
@@ -18,7 +17,6 @@ fn directions_of_orders(rt: HostRuntime) {
     let wanted = [
         Some(Direction::Ascending),
         Some(Direction::Descending),
-        None,
         None,
     ];
     assert!(rt; directions::<u8>() == wanted);

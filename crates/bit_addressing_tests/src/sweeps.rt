@@ -1,7 +1,7 @@
 //! Rows of a sweep.
 
+use crate::callers::{put_ends, put_in_part};
 use bit_addressing::{Sweep, Way, way_for};
-use bit_addressing_samples::callers::{put_ends, put_in_part};
 
 #[test]
 fn ways_of_a_move(rt: HostRuntime) {

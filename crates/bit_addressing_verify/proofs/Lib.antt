@@ -1,5 +1,5 @@
 mod VerifyLemmas
--- the lemmas of orders
+-- what public clauses cite of the crates below
 pub use Rattle.bit_addressing_order.proofs.CallerLemmas
 pub use Rattle.bit_addressing_order.proofs.DigitLemmas
 pub use Rattle.bit_addressing_order.proofs.OrderLemmas

@@ -1,7 +1,7 @@
 pub mod OrderFault
 pub mod VerifySteps
 pub mod WordFault
--- the words of orders and registers
+-- what public clauses cite of the crates below
 pub use Rattle.bit_addressing_order.specs.BitIdx
 pub use Rattle.bit_addressing_order.specs.BitMask
 pub use Rattle.bit_addressing_order.specs.BitOrder

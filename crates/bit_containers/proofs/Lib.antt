@@ -2,7 +2,7 @@ pub mod CallerLemmas
 pub mod KnownRows
 pub mod RepeatedLemmas
 pub mod RetainLemmas
--- the lemmas of windows and vectors that callers cite
+-- what public clauses cite of the crates below
 pub use Rattle.bit_containers_vector.proofs.CountLemmas
 pub use Rattle.bit_containers_vector.proofs.LendLemmas
 pub use Rattle.bit_containers_vector.proofs.VectorLemmas

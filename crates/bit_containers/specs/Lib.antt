@@ -1,6 +1,6 @@
 pub mod Repeated
 pub mod Retained
--- the words of containers
+-- what public clauses cite of the crates below
 pub use Rattle.bit_containers_array.specs.Array
 pub use Rattle.bit_containers_array.specs.FromView
 pub use Rattle.bit_containers_array.specs.Left as ArrayLeft
@@ -17,29 +17,30 @@ pub use Rattle.bit_containers_box.specs.Box
 pub use Rattle.bit_containers_box.specs.Fill as BoxFill
 pub use Rattle.bit_containers_box.specs.Left as BoxLeft
 pub use Rattle.bit_containers_box.specs.Lending as BoxLending
--- of windows
 pub use Rattle.bit_slice_views.specs.BitRef
 pub use Rattle.bit_slice_views.specs.Compare
 pub use Rattle.bit_slice_views.specs.Ends
 pub use Rattle.bit_slice_views.specs.Parts as DomainParts
 pub use Rattle.bit_slice_views.specs.Texts
 pub use Rattle.bit_slice_views.specs.View
-pub use Rattle.bit_slice_writes.specs.Combined
-pub use Rattle.bit_slice_writes.specs.Frame
-pub use Rattle.bit_slice_writes.specs.Pair
-pub use Rattle.bit_slice_writes.specs.Parts
-pub use Rattle.bit_slice_writes.specs.ViewMut
+pub use Rattle.bit_slice_views_mut.specs.Combined
+pub use Rattle.bit_slice_views_mut.specs.Frame
+pub use Rattle.bit_slice_views_mut.specs.Pair
+pub use Rattle.bit_slice_views_mut.specs.Parts
+pub use Rattle.bit_slice_views_mut.specs.ViewMut
 pub use Rattle.bit_slice_access.specs.BitMut
 pub use Rattle.bit_slice_access.specs.Fills
 pub use Rattle.bit_slice_access.specs.Part
 pub use Rattle.bit_slice_access.specs.PartLender
 pub use Rattle.bit_slice_access.specs.Shows
 pub use Rattle.bit_slice_iterators.specs.Indices
--- of splits, by which a predicate is asked
 pub use Rattle.bit_slice_splits.specs.Ways
--- of word paths, memories and sweeps
-pub use Rattle.bit_slice_paths.specs.Steps
-pub use Rattle.bit_addressing.specs.Memory
-pub use Rattle.bit_addressing.specs.Moves
-pub use Rattle.bit_addressing.specs.Sweep
-pub use Rattle.bit_addressing.specs.Ways as SweepWays
+pub use Rattle.bit_slice_words.specs.PathLaws
+pub use Rattle.bit_slice_words.specs.Steps
+pub use Rattle.bit_addressing_memory.specs.BitOrder
+pub use Rattle.bit_addressing_memory.specs.BitRegister
+pub use Rattle.bit_addressing_memory.specs.Memory
+pub use Rattle.bit_addressing_memory.specs.Moves
+pub use Rattle.bit_addressing_memory.specs.OrderLaws
+pub use Rattle.bit_addressing_memory.specs.Sweep
+pub use Rattle.bit_addressing_memory.specs.Ways as SweepWays

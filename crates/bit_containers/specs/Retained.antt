@@ -3,7 +3,7 @@ use Rattle.std.specs.Prelude.{ℕ, ◌≡◌, ◌+◌, ◌*◌, Bool, List, [], 
 use Rattle.std.specs.Fn.{Mut}
 use Rattle.std.specs.List.Retain.{IsFiltered}
 use Rattle.std.proofs.Common.{Bor}
-use Rattle.bit_addressing.specs.Memory.{Reading, memory, with_piece}
+use Rattle.bit_addressing_memory.specs.Memory.{Reading, memory, with_piece}
 use Rattle.bit_containers_vector.specs.Vector.{vec_bits, vec_head, visible, room}
 use Rattle.bit_containers_vector.specs.declared.vector.BitVec.{BitVec}
 use Rattle.bit_slice_splits.specs.Ways.{Asked}

@@ -4,31 +4,114 @@
 mod retain;
 mod to_bits;
 
-pub use bit_addressing::{
-    BitIdx, BitOrder, BitRegister, BitSpanError, Domain, DomainMut, LocalBits, Lsb0, MAX_BITS,
-    Msb0, Sweep, Way, mem, move_in, way_for,
-};
+pub use bit_addressing_memory::BitIdx;
+pub use bit_addressing_memory::BitOrder;
+pub use bit_addressing_memory::BitRegister;
+pub use bit_addressing_memory::LocalBits;
+pub use bit_addressing_memory::Lsb0;
+pub use bit_addressing_memory::Msb0;
+pub use bit_addressing_memory::OrderCandidate;
+pub use bit_addressing_memory::Positions;
+pub use bit_addressing_memory::Sweep;
+pub use bit_addressing_memory::Way;
+pub use bit_addressing_memory::mask_from_at;
+pub use bit_addressing_memory::mem;
+pub use bit_addressing_memory::move_in;
+pub use bit_addressing_memory::select_from_at;
+pub use bit_addressing_memory::way_for;
+pub use bit_addressing_span::BitSpanError;
+pub use bit_addressing_span::Domain;
+pub use bit_addressing_span::DomainMut;
+pub use bit_addressing_span::MAX_BITS;
+pub use bit_addressing_span::PartialElement;
 pub use bit_containers_array as array;
-pub use bit_containers_array::{BitArray, BitArrayZero, TryFromBitSliceError};
+pub use bit_containers_array::BitArray;
+pub use bit_containers_array::BitArrayZero;
+pub use bit_containers_array::BitsOwned;
+pub use bit_containers_array::TryFromBitSliceError;
+pub use bit_containers_array::apply;
 pub use bit_containers_box as boxed;
-pub use bit_containers_box::{BitBox, IntoBoxed};
-pub use bit_containers_lending::{BitsOwned, apply};
-pub use bit_containers_vector::{BitVec, Drain, SliceFault, Splice};
-pub use bit_slice_access::{
-    BitMut, BitRangeMut, BitSliceIndexMut, BitsAccess, BitsCopy, BitsCut, BitsFill, BitsParts, Part,
-};
-pub use bit_slice_edits::BitsEdits;
-pub use bit_slice_iterators::{
-    BitRefIter, BitValIter, BitsIter, Indices, Iter, IterOnes, IterZeros, Ones, Sought, Zeros,
-};
-pub use bit_slice_paths::{Steps, WordPaths, by_bits};
-pub use bit_slice_stores::{BitStore, BitViewSized};
-pub use bit_slice_views::{
-    BitDomain, BitRange, BitRef, BitSlice, BitSliceIndex, Bits, ViewLimits, from_ref,
-    into_bit_domain, write_bits, write_groups,
-};
-pub use bit_slice_writes::{
-    BitSliceMut, BitView, BitsMut, BitsWindow, Pair, and_view, from_mut, or_view, xor_view,
-};
+pub use bit_containers_box::BitBox;
+pub use bit_containers_box::IntoBoxed;
+pub use bit_containers_vector::BitVec;
+pub use bit_containers_vector::Drain;
+pub use bit_containers_vector::SliceFault;
+pub use bit_containers_vector::Splice;
+pub use bit_slice::WindowCommand;
+pub use bit_slice::WindowReply;
+pub use bit_slice::pieces;
+pub use bit_slice::run_window;
+pub use bit_slice::splitting;
+pub use bit_slice::words;
+pub use bit_slice_access::BitDomainMut;
+pub use bit_slice_access::BitMut;
+pub use bit_slice_access::BitRangeMut;
+pub use bit_slice_access::BitSliceIndexMut;
+pub use bit_slice_access::BitsAccess;
+pub use bit_slice_access::BitsCopy;
+pub use bit_slice_access::BitsCut;
+pub use bit_slice_access::BitsDomains;
+pub use bit_slice_access::BitsEdits;
+pub use bit_slice_access::BitsFill;
+pub use bit_slice_access::BitsParts;
+pub use bit_slice_access::Halves;
+pub use bit_slice_access::Part;
+pub use bit_slice_access::WindowDomainMut;
+pub use bit_slice_fields::BitField;
+pub use bit_slice_fields::BitFieldMut;
+pub use bit_slice_fields::FieldOrder;
+pub use bit_slice_fields::Integral;
+pub use bit_slice_fields::store_load_be;
+pub use bit_slice_fields::store_load_le;
+pub use bit_slice_iterators::BitRefIter;
+pub use bit_slice_iterators::BitValIter;
+pub use bit_slice_iterators::BitsIter;
+pub use bit_slice_iterators::BitsPieces;
+pub use bit_slice_iterators::BitsPiecesMut;
+pub use bit_slice_iterators::Chunks;
+pub use bit_slice_iterators::ChunksExact;
+pub use bit_slice_iterators::ChunksExactMut;
+pub use bit_slice_iterators::ChunksMut;
+pub use bit_slice_iterators::Iter;
+pub use bit_slice_iterators::IterMut;
+pub use bit_slice_iterators::IterOnes;
+pub use bit_slice_iterators::IterZeros;
+pub use bit_slice_iterators::RChunks;
+pub use bit_slice_iterators::RChunksExact;
+pub use bit_slice_iterators::RChunksExactMut;
+pub use bit_slice_iterators::RChunksMut;
+pub use bit_slice_iterators::Windows;
+pub use bit_slice_splits::BitsSplits;
+pub use bit_slice_splits::BitsSplitsMut;
+pub use bit_slice_splits::RSplit;
+pub use bit_slice_splits::RSplitMut;
+pub use bit_slice_splits::RSplitN;
+pub use bit_slice_splits::RSplitNMut;
+pub use bit_slice_splits::Split;
+pub use bit_slice_splits::SplitInclusive;
+pub use bit_slice_splits::SplitInclusiveMut;
+pub use bit_slice_splits::SplitMut;
+pub use bit_slice_splits::SplitN;
+pub use bit_slice_splits::SplitNMut;
+pub use bit_slice_views::BitDomain;
+pub use bit_slice_views::BitRange;
+pub use bit_slice_views::BitRef;
+pub use bit_slice_views::BitSlice;
+pub use bit_slice_views::BitSliceIndex;
+pub use bit_slice_views::BitStore;
+pub use bit_slice_views::BitViewSized;
+pub use bit_slice_views::Bits;
+pub use bit_slice_views::ViewLimits;
+pub use bit_slice_views::from_ref;
+pub use bit_slice_views::into_bit_domain;
+pub use bit_slice_views_mut::BitSliceMut;
+pub use bit_slice_views_mut::BitView;
+pub use bit_slice_views_mut::BitsMut;
+pub use bit_slice_views_mut::BitsWindow;
+pub use bit_slice_views_mut::Pair;
+pub use bit_slice_views_mut::from_mut;
+pub use bit_slice_words::Steps;
+pub use bit_slice_words::WordPaths;
+pub use bit_slice_words::by_bits;
 pub use retain::Retain;
 pub use to_bits::ToBits;

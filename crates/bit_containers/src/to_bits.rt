@@ -1,7 +1,7 @@
 //! Windows made into vectors of their own.
 
 ghost use Rattle.std.specs.Prelude.{◌≡◌, ℕ, ◌+◌, ◌*◌, ◌%◌, ◌<◌, ◌≤◌, ◌++◌, length, replicate, IfOk};
-ghost use Rattle.bit_addressing.specs.Memory.{read_by, Copies};
+ghost use Rattle.bit_addressing_memory.specs.Memory.{read_by, Copies};
 ghost use Rattle.bit_addressing_span.specs.declared.span.TheConstants.{MAX_BITS};
 ghost use Rattle.bit_containers.specs.Repeated.{repeated};
 ghost use Rattle.bit_containers_vector.specs.Count.{words_for};
@@ -9,11 +9,10 @@ ghost use Rattle.bit_containers_vector.specs.Grown.{HoldsAlone};
 ghost use Rattle.bit_containers_vector.specs.Vector.{vec_bits, vec_head};
 ghost use Rattle.bit_slice_views.specs.View.{view_bits};
 
-use bit_addressing::{BitOrder, BitRegister, copy_between, mem};
+use bit_addressing_memory::{BitOrder, BitRegister, copy_between, mem};
 use bit_containers_vector::BitVec;
-use bit_slice_stores::BitStore;
-use bit_slice_views::{BitSlice, Bits};
-use bit_slice_writes::BitSliceMut;
+use bit_slice_views::{BitSlice, BitStore, Bits};
+use bit_slice_views_mut::BitSliceMut;
 use std::alloc::{AllocError, Global};
 
 /// What windows make of themselves: vectors of their bits. Each call takes memory.
@@ -56,7 +55,7 @@ impl<'a, T: BitStore, O: BitOrder<T>> ToBits<T, O> for BitSlice<'a, T, O> {
 }
 
 impl<'a, T: BitStore, O: BitOrder<T>> ToBits<T, O> for BitSliceMut<'a, T, O> {
-    ghost use Rattle.bit_slice_writes.specs.ViewMut.{lent_place};
+    ghost use Rattle.bit_slice_views_mut.specs.ViewMut.{lent_place};
 
     ghost head = { λ view. lent_place view % T.BITS };
 

@@ -4,7 +4,7 @@
 use Rattle.std.proofs.Common.{◌≡◌, ℕ, ◌+◌, ◌-◌, ◌*◌, ◌<◌, ◌≤◌, Bool, false, List, [], ◌∷◌, ◌++◌, length, min}
 use Rattle.std.proofs.Common.{get_or, sym, ap, ◌∙◌, arith, rules, refl}
 use Rattle.std.proofs.lemmas.List.{places, same_lists, length-take, length-drop}
-use Rattle.bit_addressing.specs.Memory.{Reading, memory, piece}
+use Rattle.bit_addressing_memory.specs.Memory.{Reading, memory, piece}
 use Rattle.bit_addressing_memory.proofs.MemoryLemmas.{piece_all, piece_piece}
 use Rattle.bit_addressing_memory.proofs.WindowLemmas.{length-window}
 use Rattle.bit_addressing_span.specs.declared.span.TheConstants.{MAX_BITS}

@@ -1,6 +1,6 @@
 -- What is left of an array's bits.
 use Rattle.std.specs.Prelude.{Bool, List}
-use Rattle.bit_addressing.specs.Memory.{Reading, piece}
+use Rattle.bit_addressing_memory.specs.Memory.{Reading, piece}
 use Rattle.bit_containers_array.specs.Array.{array_bits, array_with, array_words}
 use Rattle.bit_containers_array.specs.declared.iter.IntoIter.{IntoIter}
 

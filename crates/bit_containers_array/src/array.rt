@@ -2,14 +2,14 @@
 
 ghost use Rattle.std.specs.Prelude.{◌≡◌, ◌*◌, ◌<◌, ◌≤◌, false, length, min, slice_index_or};
 ghost use Rattle.std.specs.Fn.{FnOnceReturnsAtMut};
-ghost use Rattle.bit_addressing.specs.Memory.{memory, piece, read_by, reading_in};
+ghost use Rattle.bit_addressing_memory.specs.Memory.{memory, piece, read_by, reading_in};
 ghost use Rattle.bit_addressing_span.specs.declared.span.TheConstants.{MAX_BITS};
 
-use bit_addressing::{BitOrder, BitRegister, MAX_BITS, mem};
-use bit_containers_lending::{BitsOwned, apply};
-use bit_slice_stores::BitViewSized;
-use bit_slice_views::{BitSlice, Bits};
-use bit_slice_writes::BitsMut;
+use crate::owned::{BitsOwned, apply};
+use bit_addressing_memory::{BitOrder, BitRegister, mem};
+use bit_addressing_span::MAX_BITS;
+use bit_slice_views::{BitSlice, BitViewSized, Bits};
+use bit_slice_views_mut::BitsMut;
 use std::marker::PhantomData;
 use std::ops::Index;
 
@@ -20,7 +20,7 @@ pub struct BitArray<A: BitViewSized, O: BitOrder<A::Store>> {
     pub(crate) order: PhantomData<O>,
 }
 
-#[tactic(auto, using(bit_slice_writes::proofs::FrameLemmas::frames))]
+#[tactic(auto, using(bit_slice_views_mut::proofs::FrameLemmas::frames))]
 impl<A: BitViewSized, O: BitOrder<A::Store>> BitArray<A, O> {
     ghost use Rattle.bit_containers_array.specs.Array.{array_bits};
 
@@ -85,10 +85,10 @@ impl<A: BitViewSized, O: BitOrder<A::Store>> Bits for BitArray<A, O> {
     }
 }
 
-#[tactic(auto, using(bit_slice_writes::proofs::FrameLemmas::frames))]
+#[tactic(auto, using(bit_slice_views_mut::proofs::FrameLemmas::frames))]
 impl<A: BitViewSized, O: BitOrder<A::Store>> BitsMut for BitArray<A, O> {
     ghost use Rattle.std.specs.Prelude.{refl};
-    ghost use Rattle.bit_slice_writes.specs.Frame.{frame_of};
+    ghost use Rattle.bit_slice_views_mut.specs.Frame.{frame_of};
     ghost use Rattle.bit_containers_array.specs.Array.{array_bits, array_words};
     ghost use Rattle.bit_containers_array.specs.ArrayLaws.{first_window, first_within};
 

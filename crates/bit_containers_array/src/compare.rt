@@ -1,15 +1,14 @@
 //! Arrays of one type compared and hashed by their lists.
 
 ghost use Rattle.std.specs.Ordering.{as_partial_cmp};
-ghost use Rattle.bit_addressing.specs.Memory.{read_by, reading_in};
+ghost use Rattle.bit_addressing_memory.specs.Memory.{read_by, reading_in};
 ghost use Rattle.bit_slice_views.specs.Compare.{bits_eq, bits_cmp, bits_fed, bits_equiv, bits_per, bits_total};
 ghost use Rattle.bit_slice_views.specs.Compare.{bits_ties, bits_po, bits_alike};
 
 use crate::array::BitArray;
-use bit_addressing::{BitOrder, BitRegister};
-use bit_slice_paths::WordPaths;
-use bit_slice_stores::BitViewSized;
-use bit_slice_views::Bits;
+use bit_addressing_memory::{BitOrder, BitRegister};
+use bit_slice_views::{BitViewSized, Bits};
+use bit_slice_words::WordPaths;
 use std::cmp::Ordering;
 use std::hash::{Hash, Hasher};
 

@@ -1,16 +1,15 @@
 //! Arrays of bits made: from words, from none, from a window.
 
 ghost use Rattle.std.specs.Prelude.{◌≡◌, ◌*◌, ◌↔◌, false, length, min, replicate, IsOk, IfOk, IfErr};
-ghost use Rattle.bit_addressing.specs.Memory.{read_by};
+ghost use Rattle.bit_addressing_memory.specs.Memory.{read_by};
 ghost use Rattle.bit_addressing_span.specs.declared.span.TheConstants.{MAX_BITS};
 ghost use Rattle.bit_slice_views.specs.View.{view_bits, view_head};
 
 use crate::array::BitArray;
 use crate::error::TryFromBitSliceError;
-use bit_addressing::{BitOrder, BitRegister};
-use bit_slice_stores::BitViewSized;
-use bit_slice_views::{BitSlice, Bits};
-use bit_slice_writes::BitsMut;
+use bit_addressing_memory::{BitOrder, BitRegister};
+use bit_slice_views::{BitSlice, BitViewSized, Bits};
+use bit_slice_views_mut::BitsMut;
 
 impl<A: BitViewSized, O: BitOrder<A::Store>> From<A> for BitArray<A, O> {
     ghost from_gives = { λ words array. array.words ≡ words };

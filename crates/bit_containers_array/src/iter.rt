@@ -4,17 +4,16 @@ ghost use Rattle.std.specs.Prelude.{◌≡◌, ⊤, length, IfSome, Some};
 ghost use Rattle.std.specs.Borrow.{Array, follows, sem};
 ghost use Rattle.std.specs.Iterator.{YieldsFirst, YieldsLast, item_count, UpTo};
 ghost use Rattle.std.specs.Iterator.SizeHint.{IsWithinCount};
-ghost use Rattle.bit_addressing.specs.Memory.{piece, read_by};
+ghost use Rattle.bit_addressing_memory.specs.Memory.{piece, read_by};
 ghost use Rattle.bit_slice_views.specs.View.{view_bits};
-ghost use Rattle.bit_slice_writes.specs.ViewMut.{lent_bits, lent_lender, lent_words};
+ghost use Rattle.bit_slice_views_mut.specs.ViewMut.{lent_bits, lent_lender, lent_words};
 
 use crate::array::BitArray;
-use bit_addressing::{BitOrder, BitRegister};
-use bit_containers_lending::BitsOwned;
+use crate::owned::BitsOwned;
+use bit_addressing_memory::{BitOrder, BitRegister};
 use bit_slice_iterators::{BitsIter, Iter};
-use bit_slice_stores::BitViewSized;
-use bit_slice_views::{BitRef, BitSlice, Bits};
-use bit_slice_writes::BitSliceMut;
+use bit_slice_views::{BitRef, BitSlice, BitViewSized, Bits};
+use bit_slice_views_mut::BitSliceMut;
 use std::alloc::AllocError;
 use std::iter::FusedIterator;
 

@@ -1,4 +1,4 @@
-//! Fixed numbers of bits: the bits of a word or of an array of words, owned.
+//! Arrays of bits: the list of a word or of an array of words, owned; and what an array lends.
 #![tactic(auto)]
 
 mod array;
@@ -7,11 +7,12 @@ mod convert;
 mod error;
 mod iter;
 mod operators;
+mod owned;
 mod text;
 mod zero;
 
 pub use array::BitArray;
-pub use bit_containers_lending::BitsOwned;
 pub use error::TryFromBitSliceError;
 pub use iter::IntoIter;
+pub use owned::{BitsOwned, apply};
 pub use zero::BitArrayZero;

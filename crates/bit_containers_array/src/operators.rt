@@ -3,16 +3,15 @@
 
 ghost use Rattle.std.specs.Prelude.{◌≡◌, ◌&&◌, ◌||◌, map, not};
 ghost use Rattle.std.specs.Bool.{xor};
-ghost use Rattle.bit_addressing.specs.Memory.{read_by};
-ghost use Rattle.bit_slice_writes.specs.Combined.{combined};
-ghost use Rattle.bit_slice_writes.specs.ViewMut.{lent_bits, lent_frame};
+ghost use Rattle.bit_addressing_memory.specs.Memory.{read_by};
+ghost use Rattle.bit_slice_views_mut.specs.Combined.{combined};
+ghost use Rattle.bit_slice_views_mut.specs.ViewMut.{lent_bits, lent_frame};
 
 use crate::array::BitArray;
-use bit_addressing::{BitOrder, BitRegister};
-use bit_slice_paths::WordPaths;
-use bit_slice_stores::BitViewSized;
-use bit_slice_views::Bits;
-use bit_slice_writes::{BitSliceMut, BitsMut, and_view, or_view, xor_view};
+use bit_addressing_memory::{BitOrder, BitRegister};
+use bit_slice_views::{BitViewSized, Bits};
+use bit_slice_views_mut::{BitSliceMut, BitsMut, and_view, or_view, xor_view};
+use bit_slice_words::WordPaths;
 use std::ops::{BitAnd, BitAndAssign, BitOr, BitOrAssign, BitXor, BitXorAssign, Not};
 
 /// Each bit becomes what it and the other's bit are both; those past the other's end are cleared.

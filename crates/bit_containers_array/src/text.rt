@@ -2,13 +2,12 @@
 
 ghost use Rattle.std.specs.Prelude.{true, false, Some};
 ghost use Rattle.std.specs.Fmt.{WritesOnOk};
-ghost use Rattle.bit_addressing.specs.Memory.{read_by};
+ghost use Rattle.bit_addressing_memory.specs.Memory.{read_by};
 ghost use Rattle.bit_slice_views.specs.Texts.{bits_text, groups_text};
 
 use crate::array::BitArray;
-use bit_addressing::{BitOrder, BitRegister};
-use bit_slice_stores::BitViewSized;
-use bit_slice_views::{write_bits, write_groups};
+use bit_addressing_memory::{BitOrder, BitRegister};
+use bit_slice_views::{BitViewSized, write_bits, write_groups};
 use std::fmt;
 
 impl<A: BitViewSized, O: BitOrder<A::Store>> fmt::Display for BitArray<A, O> {

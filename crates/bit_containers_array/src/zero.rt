@@ -1,12 +1,11 @@
 //! The array without a bit set.
 
 ghost use Rattle.std.specs.Prelude.{◌≡◌, false, length, replicate};
-ghost use Rattle.bit_addressing.specs.Memory.{read_by};
+ghost use Rattle.bit_addressing_memory.specs.Memory.{read_by};
 
 use crate::array::BitArray;
-use bit_addressing::BitOrder;
-use bit_slice_stores::BitViewSized;
-use bit_slice_views::Bits;
+use bit_addressing_memory::BitOrder;
+use bit_slice_views::{BitViewSized, Bits};
 use std::marker::PhantomData;
 
 /// The array whose bits are all 0. A contract knows this constant.

@@ -7,7 +7,7 @@ use Rattle.std.proofs.Common.{inl, inr, Result, IfOk}
 use Rattle.std.proofs.lemmas.Bool.{cases_lt}
 use Rattle.std.proofs.lemmas.List.{drop_all, length-take-le, take_all}
 use Rattle.std.proofs.Math.Nat.{mul-le-mul_right}
-use Rattle.bit_addressing.specs.Memory.{Reading, memory, piece}
+use Rattle.bit_addressing_memory.specs.Memory.{Reading, memory, piece}
 use Rattle.bit_addressing_memory.proofs.MemoryLemmas.{length-memory}
 use Rattle.bit_addressing_memory.proofs.WindowLemmas.{length-window}
 use Rattle.bit_containers_vector.specs.Count.{words_for}

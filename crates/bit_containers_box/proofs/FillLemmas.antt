@@ -4,11 +4,11 @@
 use Rattle.std.proofs.Common.{◌≡◌, ℕ, ◌+◌, ◌-◌, ◌*◌, ◌<◌, ◌≤◌, Bool, false, not, List, length, take, drop, map, replicate}
 use Rattle.std.proofs.Common.{arith, ap, ap₂, sym, ◌∙◌}
 use Rattle.std.proofs.lemmas.List.{places, same_lists, length-replicate, get_or-replicate, drop-map, take-map, length-take-le}
-use Rattle.bit_addressing.specs.Memory.{Reading, entry, memory, piece, with_piece, Overwrites}
-use Rattle.bit_addressing.specs.Moves.{Moves}
+use Rattle.bit_addressing_memory.specs.Memory.{Reading, entry, memory, piece, with_piece, Overwrites}
+use Rattle.bit_addressing_memory.specs.Moves.{Moves}
 use Rattle.bit_addressing_memory.proofs.MemoryLemmas.{length-memory, memory_overwritten, piece_all}
 use Rattle.bit_addressing_memory.proofs.WindowLemmas.{length-window, window_bit}
-use Rattle.bit_slice_changes.proofs.ListLemmas.{inverted_list, overwritten_list}
+use Rattle.bit_slice_words.proofs.ListLemmas.{inverted_list, overwritten_list}
 use Rattle.bit_containers_vector.specs.Count.{words_for}
 use Rattle.bit_containers_vector.proofs.CountLemmas.{words_hold, words_within}
 use Rattle.bit_containers_box.specs.Box.{box_bits, box_rest, box_shown, box_visible}

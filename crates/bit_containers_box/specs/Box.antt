@@ -3,10 +3,10 @@
 -- Its list: `box_bits`. Where it lies: `box_words`, `box_head`; which of its words are visible: `box_visible`, and what
 -- it holds behind them: `box_rest`. How it is made: `IsBoxed`. What is written of it: `Combines`.
 use Rattle.std.specs.Prelude.{ℕ, ◌≡◌, ◌+◌, [], Bool, List, length, take, drop}
-use Rattle.bit_addressing.specs.Memory.{Reading, memory, piece}
+use Rattle.bit_addressing_memory.specs.Memory.{Reading, memory, piece}
 use Rattle.bit_containers_vector.specs.Count.{words_for}
-use Rattle.bit_slice_writes.specs.Combined.{combined}
-use Rattle.bit_slice_writes.specs.Frame.{Frame, frame_of}
+use Rattle.bit_slice_views_mut.specs.Combined.{combined}
+use Rattle.bit_slice_views_mut.specs.Frame.{Frame, frame_of}
 use Rattle.bit_containers_box.specs.declared.boxed.BitBox.{BitBox}
 
 -- all words that it holds

@@ -1,6 +1,6 @@
 -- What is written of the visible words of a box of bits, or beside its list, and what a copy of it holds.
 use Rattle.std.specs.Prelude.{ℕ, ◌≡◌, ◌*◌, [], Bool, false, List, length, map, not, replicate}
-use Rattle.bit_addressing.specs.Memory.{Reading, memory, with_piece}
+use Rattle.bit_addressing_memory.specs.Memory.{Reading, memory, with_piece}
 use Rattle.bit_containers_box.specs.Box.{box_bits, box_head, box_rest, box_visible, box_words}
 use Rattle.bit_containers_box.specs.declared.boxed.BitBox.{BitBox}
 

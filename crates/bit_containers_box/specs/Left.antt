@@ -1,6 +1,6 @@
 -- What is left of the bits of a box.
 use Rattle.std.specs.Prelude.{Bool, List}
-use Rattle.bit_addressing.specs.Memory.{Reading, memory, piece}
+use Rattle.bit_addressing_memory.specs.Memory.{Reading, memory, piece}
 use Rattle.bit_containers_box.specs.declared.iter.IntoIter.{IntoIter}
 
 -- the bits that an iterator has not given yet, at words that are read so

@@ -2,7 +2,7 @@
 use Rattle.std.proofs.Common.{◌≡◌, ◌+◌, ◌<◌, ◌≤◌, ◌∙◌, List, length, ap}
 use Rattle.std.specs.Coded.{le_prop}
 use Rattle.std.specs.Vec.{with_items_from}
-use Rattle.bit_addressing.specs.Memory.{Reading, memory, piece}
+use Rattle.bit_addressing_memory.specs.Memory.{Reading, memory, piece}
 use Rattle.bit_containers_vector.specs.Lending.{as_many}
 use Rattle.bit_containers_box.specs.Box.{box_bits, box_head, box_rest, box_visible}
 use Rattle.bit_containers_box.specs.declared.boxed.BitBox.{BitBox}

@@ -2,13 +2,12 @@
 
 ghost use Rattle.std.specs.Prelude.{◌≡◌, ◌+◌, ◌*◌, ◌<◌, ◌≤◌, length};
 ghost use Rattle.std.specs.Fn.{FnOnceReturnsAtMut};
-ghost use Rattle.bit_addressing.specs.Memory.{read_by, reading_in};
+ghost use Rattle.bit_addressing_memory.specs.Memory.{read_by, reading_in};
 ghost use Rattle.bit_addressing_span.specs.declared.span.TheConstants.{MAX_BITS};
 
-use bit_addressing::{BitOrder, BitRegister};
-use bit_slice_stores::BitStore;
-use bit_slice_views::{BitSlice, Bits};
-use bit_slice_writes::BitsMut;
+use bit_addressing_memory::{BitOrder, BitRegister};
+use bit_slice_views::{BitSlice, BitStore, Bits};
+use bit_slice_views_mut::BitsMut;
 use std::marker::PhantomData;
 
 /// Bits in words of their own: a list that does not grow.
@@ -43,10 +42,10 @@ impl<T: BitStore, O: BitOrder<T>> Bits for BitBox<T, O> {
     }
 }
 
-#[tactic(auto, using(bit_slice_writes::proofs::FrameLemmas::frames))]
+#[tactic(auto, using(bit_slice_views_mut::proofs::FrameLemmas::frames))]
 impl<T: BitStore, O: BitOrder<T>> BitsMut for BitBox<T, O> {
     ghost use Rattle.std.specs.Prelude.{refl};
-    ghost use Rattle.bit_slice_writes.specs.FrameLaws.{shown_window, shown_fits};
+    ghost use Rattle.bit_slice_views_mut.specs.FrameLaws.{shown_window, shown_fits};
     ghost use Rattle.bit_containers_box.specs.Box.{box_bits, box_frame, box_head, box_words};
 
     ghost Lender = { Unit {0} };

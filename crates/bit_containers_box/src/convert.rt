@@ -2,17 +2,16 @@
 
 ghost use Rattle.std.specs.Prelude.{◌≡◌, ◌*◌, ◌≤◌, ◌↔◌, length, IfErr, IfOk, IsOk};
 ghost use Rattle.std.specs.Box.{boxed_slice_items};
-ghost use Rattle.bit_addressing.specs.Memory.{memory, read_by};
+ghost use Rattle.bit_addressing_memory.specs.Memory.{memory, read_by};
 ghost use Rattle.bit_addressing_span.specs.declared.span.TheConstants.{MAX_BITS};
 ghost use Rattle.bit_containers_box.specs.Box.{box_bits, box_head, box_words, IsBoxed};
 ghost use Rattle.bit_containers_vector.specs.Vector.{vec_bits, vec_head, vec_words};
 
 use crate::boxed::BitBox;
-use bit_addressing::BitOrder;
+use bit_addressing_memory::BitOrder;
 use bit_containers_vector::BitVec;
 use bit_slice_iterators::{BitsIter, Iter};
-use bit_slice_stores::BitStore;
-use bit_slice_views::BitRef;
+use bit_slice_views::{BitRef, BitStore};
 use std::boxed::BoxedSlice;
 
 /// What `try_from_boxed_slice` does.

@@ -1,13 +1,13 @@
 //! What is written of all visible words, or beside the list.
 
 ghost use Rattle.std.specs.Prelude.{◌≡◌};
-ghost use Rattle.bit_addressing.specs.Memory.{read_by};
+ghost use Rattle.bit_addressing_memory.specs.Memory.{read_by};
 ghost use Rattle.bit_containers_box.specs.Fill.{Aligned, FillsBeside, Flips};
 
 use crate::boxed::BitBox;
 use crate::words::{fill_first, flip_first, move_first, words_taken};
-use bit_addressing::BitOrder;
-use bit_slice_stores::BitStore;
+use bit_addressing_memory::BitOrder;
+use bit_slice_views::BitStore;
 use std::ops::Not;
 
 impl<T: BitStore, O: BitOrder<T>> BitBox<T, O> {

@@ -1,15 +1,15 @@
 //! Vectors of bits that become boxes.
 
 ghost use Rattle.std.specs.Prelude.{◌≡◌, ℕ, Bool, List, IfOk, IsOk};
-ghost use Rattle.bit_addressing.specs.Memory.{read_by};
+ghost use Rattle.bit_addressing_memory.specs.Memory.{read_by};
 ghost use Rattle.bit_containers_box.specs.Box.{IsBoxed};
 ghost use Rattle.bit_containers_box.specs.Left.{left_bits, left_words};
 
 use crate::boxed::BitBox;
 use crate::iter::IntoIter;
-use bit_addressing::BitOrder;
+use bit_addressing_memory::BitOrder;
 use bit_containers_vector::BitVec;
-use bit_slice_stores::BitStore;
+use bit_slice_views::BitStore;
 use std::alloc::AllocFailed;
 
 /// What becomes a box of its own bits: a vector, whose words are not copied.

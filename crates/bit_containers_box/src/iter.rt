@@ -4,17 +4,16 @@ ghost use Rattle.std.specs.Prelude.{◌≡◌, ◌+◌, ◌*◌, ◌^◌, ◌<�
 ghost use Rattle.std.specs.Borrow.{Array, follows, sem};
 ghost use Rattle.std.specs.Iterator.{YieldsFirst, YieldsLast, item_count, UpTo};
 ghost use Rattle.std.specs.Iterator.SizeHint.{IsWithinCount};
-ghost use Rattle.bit_addressing.specs.Memory.{read_by};
+ghost use Rattle.bit_addressing_memory.specs.Memory.{read_by};
 ghost use Rattle.bit_addressing_span.specs.declared.span.TheConstants.{MAX_BITS};
 ghost use Rattle.bit_containers_box.specs.Box.{box_bits, box_words};
 ghost use Rattle.bit_slice_views.specs.View.{view_bits};
-ghost use Rattle.bit_slice_writes.specs.ViewMut.{lent_bits, lent_lender, lent_words};
+ghost use Rattle.bit_slice_views_mut.specs.ViewMut.{lent_bits, lent_lender, lent_words};
 
 use crate::boxed::BitBox;
-use bit_addressing::{BitOrder, BitRegister};
-use bit_slice_stores::BitStore;
-use bit_slice_views::{BitSlice, Bits};
-use bit_slice_writes::BitSliceMut;
+use bit_addressing_memory::{BitOrder, BitRegister};
+use bit_slice_views::{BitSlice, BitStore, Bits};
+use bit_slice_views_mut::BitSliceMut;
 use std::alloc::AllocError;
 use std::iter::FusedIterator;
 use std::marker::PhantomData;

@@ -2,18 +2,17 @@
 
 ghost use Rattle.std.specs.Prelude.{◌≡◌, ◌≤◌, length, take};
 ghost use Rattle.std.specs.Borrow.{Array, follows, sem};
-ghost use Rattle.bit_addressing.specs.Memory.{read_by};
+ghost use Rattle.bit_addressing_memory.specs.Memory.{read_by};
 ghost use Rattle.bit_containers_box.specs.Box.{box_bits, box_head, box_visible};
 ghost use Rattle.bit_containers_box.specs.Lending.{with_words};
 ghost use Rattle.bit_slice_views.specs.View.{view_bits};
-ghost use Rattle.bit_slice_writes.specs.ViewMut.{lent_bits, lent_lender, lent_place, lent_words};
+ghost use Rattle.bit_slice_views_mut.specs.ViewMut.{lent_bits, lent_lender, lent_place, lent_words};
 
 use crate::boxed::BitBox;
 use crate::words::words_taken;
-use bit_addressing::BitOrder;
-use bit_slice_stores::BitStore;
-use bit_slice_views::{BitSlice, Bits};
-use bit_slice_writes::BitSliceMut;
+use bit_addressing_memory::BitOrder;
+use bit_slice_views::{BitSlice, BitStore, Bits};
+use bit_slice_views_mut::BitSliceMut;
 
 impl<T: BitStore, O: BitOrder<T>> BitBox<T, O> {
     ghost use Rattle.bit_containers_box.specs.contracts.boxed.BitBox.{the_row};

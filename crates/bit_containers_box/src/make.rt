@@ -3,7 +3,7 @@
 ghost use Rattle.std.specs.Prelude.{◌≡◌, ◌*◌, ◌≤◌, ◌↔◌, [], ◌∷◌, List, Bool, length, IfErr, IfOk, IsOk};
 ghost use Rattle.std.specs.Box.{boxed_slice_items};
 ghost use Rattle.std.specs.Iterator.{Drains, IsFinite, size};
-ghost use Rattle.bit_addressing.specs.Memory.{memory, read_by};
+ghost use Rattle.bit_addressing_memory.specs.Memory.{memory, read_by};
 ghost use Rattle.bit_addressing_span.specs.declared.span.TheConstants.{MAX_BITS};
 ghost use Rattle.bit_containers_box.specs.Box.{box_bits, box_head, box_rest, box_words, IsBoxed};
 ghost use Rattle.bit_containers_box.specs.Fill.{HoldsAlone};
@@ -11,11 +11,10 @@ ghost use Rattle.bit_containers_vector.specs.Vector.{vec_bits, vec_head, vec_wor
 ghost use Rattle.bit_slice_views.specs.View.{view_bits, view_head};
 
 use crate::boxed::BitBox;
-use bit_addressing::{BitOrder, BitRegister};
+use bit_addressing_memory::{BitOrder, BitRegister};
 use bit_containers_vector::BitVec;
-use bit_slice_stores::{BitStore, BitViewSized};
-use bit_slice_views::{BitSlice, Bits};
-use bit_slice_writes::BitsMut;
+use bit_slice_views::{BitSlice, BitStore, BitViewSized, Bits};
+use bit_slice_views_mut::BitsMut;
 use std::alloc::{AllocError, AllocFailed, Global};
 use std::boxed::BoxedSlice;
 use std::marker::PhantomData;

@@ -1,13 +1,13 @@
 //! The work on the words of a box.
 
 ghost use Rattle.std.specs.Prelude.{◌≡◌, ◌+◌, ◌*◌, ◌<◌, ◌≤◌, ◌^◌, length, map, not, replicate, take, drop};
-ghost use Rattle.bit_addressing.specs.Memory.{memory, piece, read_by, with_piece};
-ghost use Rattle.bit_addressing.specs.Moves.{Moves};
+ghost use Rattle.bit_addressing_memory.specs.Memory.{memory, piece, read_by, with_piece};
+ghost use Rattle.bit_addressing_memory.specs.Moves.{Moves};
 ghost use Rattle.bit_containers_vector.specs.Count.{words_for};
 
-use bit_addressing::{BitOrder, BitRegister, mem};
-use bit_slice_changes::{fill_in, move_words, not_in};
-use bit_slice_stores::BitStore;
+use bit_addressing_memory::{BitOrder, BitRegister, mem};
+use bit_slice_views::BitStore;
+use bit_slice_words::{fill_in, move_words, not_in};
 
 // How many words so many bits take.
 pub(crate) fn words_taken<T: BitRegister>(bits: usize) -> usize

@@ -1,11 +1,10 @@
 //! Sets of numbers, and growth without a refusal.
 
-use bit_addressing::{BitOrder, Lsb0, Msb0};
-use bit_containers_callers::numbers::NumberSet;
-use bit_containers_callers::reserved::{push_within, reserve_and_push};
+use crate::numbers::NumberSet;
+use crate::reserved::{push_within, reserve_and_push};
+use bit_addressing_memory::{BitOrder, Lsb0, Msb0};
 use bit_containers_vector::BitVec;
-use bit_slice_stores::BitStore;
-use bit_slice_views::Bits;
+use bit_slice_views::{BitStore, Bits};
 use std::alloc::{AllocError, Global};
 
 // Whether sets of 0, 1, 4 and of 2, 20 are what they should be, apart and together.

@@ -1,74 +1,111 @@
-//! Equal lists at two heads, with different dead bits.
+//! Equality, order and hash: of one list at two heads, with different dead bits; of arrays, and of their refusals.
 
-use crate::vectors::Start;
-use bit_addressing::{Lsb0, Msb0};
+use bit_addressing_memory::{Lsb0, Msb0};
+use bit_containers_array::{BitArray, TryFromBitSliceError};
+use bit_containers_box::BitBox;
 use bit_containers_vector::BitVec;
-use bit_slice_paths::WordPaths;
-use bit_slice_stores::BitStore;
-use bit_slice_views::Bits;
+use bit_slice_views::{BitSlice, Bits};
+use bit_slice_views_mut::BitsMut;
+use bit_slice_words::WordPaths;
 use std::alloc::{AllocError, Global};
 use std::cmp::Ordering;
 use std::hash::{DefaultHasher, Hash, Hasher};
+use std::process::Abort;
 
-// The hash of a value.
-fn hashed<T: Hash>(value: &T) -> u64 {
+// The hash of a value, which `Hash` feeds.
+fn hashed<H: Hash>(value: &H) -> u64 {
     let mut state = DefaultHasher::new();
     value.hash(&mut state);
     state.finish()
 }
 
-// The bits of a vector, from the head of another on, with dead bits that are ones.
-fn moved<T: BitStore, O: WordPaths<T>>(
-    alloc: Global,
-    bits: &BitVec<T, O>,
-    start: Start,
-) -> Result<BitVec<T, O>, AllocError> {
-    let mut other = start.vector::<T, O>(alloc)?;
-    other.clear();
-    if bits.len() > 1000 {
-        return Ok(other);
-    }
-    other.extend_from_bitslice(bits)?;
-    other.set_uninitialized(true);
-    Ok(other)
+// Whether two values compare so, and are equal and hash alike where they do.
+fn agree<V: Ord + Hash>(left: &V, right: &V, wanted: Ordering) -> bool {
+    let is_equal = wanted == Ordering::Equal;
+    let ordered = left.cmp(right) == wanted && left.partial_cmp(right) == Some(wanted);
+    ordered && (left == right) == is_equal && (hashed(left) == hashed(right)) == is_equal
 }
 
-// Whether a list at two heads is equal, and differs once a bit comes behind.
-fn alike<T: BitStore, O: WordPaths<T>>(
+// Nine bits from a head on, and one bit beside them.
+fn made<O: WordPaths<u8>>(
     alloc: Global,
-    start: Start,
-    other: Start,
-) -> Result<bool, AllocError> {
-    let mut left = start.vector::<T, O>(alloc)?;
-    left.set_uninitialized(false);
-    let mut right = moved(alloc, &left, other)?;
-    let equal = left == right && hashed(&left) == hashed(&right);
-    let even = left.cmp(&right) == Ordering::Equal;
+    head: usize,
+    dead: bool,
+) -> Result<BitVec<u8, O>, AllocError> {
+    let words = [0u8; 2];
+    let list = [0x0b5cu16];
+    let list = BitSlice::<u16, Msb0>::from_place(&list, 5, 9);
+    let mut made = BitVec::from_bitslice(
+        alloc,
+        BitSlice::<u8, O>::from_place(&words, head % 7, 9),
+    )?;
+    made.set_uninitialized(dead);
+    if made.len() == list.len() {
+        made.clone_from_bitslice(&list);
+    }
+    Ok(made)
+}
+
+// Whether vectors and boxes of one list at two heads are equal, and the vectors differ once a bit comes behind.
+fn alike<O: WordPaths<u8>>(alloc: Global, head: usize, other: usize) -> Result<bool, AllocError> {
+    let mut left = made::<O>(alloc, head, false)?;
+    let mut right = made::<O>(alloc, other, true)?;
+    let equal = agree(&left, &right, Ordering::Equal);
     if left.len() > 100 || right.len() > 100 {
         return Ok(false);
     }
     right.push(false)?;
-    let longer = left < right && left != right;
+    let longer = agree(&left, &right, Ordering::Less);
     left.push(true)?;
-    Ok(
-        equal
-            && even
-            && longer
-            && left > right
-            && left.partial_cmp(&right) == Some(Ordering::Greater),
-    )
+    let greater = agree(&left, &right, Ordering::Greater);
+    let left = BitBox::from_vec(made::<O>(alloc, head, true)?).map_err(AllocError::from)?;
+    let mut right = BitBox::from_vec(made::<O>(alloc, other, false)?).map_err(AllocError::from)?;
+    let boxed = agree(&left, &right, Ordering::Equal);
+    right.invert();
+    // the first bit of the list is a zero
+    let less = agree(&left, &right, Ordering::Less);
+    let none = agree(&BitBox::<u8, O>::empty(alloc), &left, Ordering::Less);
+    Ok(equal && longer && greater && boxed && less && none)
 }
 
 #[test]
 fn lists_at_two_heads(rt: HostRuntime) -> Result<(), AllocError> {
-    for k in 0..40usize {
-        for j in 0..8usize {
-            let start = Start::nth(k);
-            let other = Start::nth(j);
-            assert!(rt; alike::<u8, Lsb0>(rt.alloc(), start, other)?);
-            assert!(rt; alike::<u8, Msb0>(rt.alloc(), start, other)?);
-            assert!(rt; alike::<u16, Msb0>(rt.alloc(), start, other)?);
+    for head in 0..7usize {
+        for other in 0..7usize {
+            assert!(rt; alike::<Lsb0>(rt.alloc(), head, other)?);
+            assert!(rt; alike::<Msb0>(rt.alloc(), head, other)?);
         }
     }
     Ok(())
+}
+
+#[test]
+fn equal_arrays_hash_alike(rt: HostRuntime) {
+    let left = BitArray::<[u8; 2], Msb0>::new([0x12, 0x34]);
+    let right = BitArray::<[u8; 2], Msb0>::from([0x12, 0x34]);
+    assert!(rt; agree(&left, &right, Ordering::Equal));
+    // the first bit that differs decides: under `Msb0` the highest, under `Lsb0` the lowest
+    let other = BitArray::<[u8; 2], Msb0>::new([0x92, 0x34]);
+    assert!(rt; agree(&left, &other, Ordering::Less));
+    let low = BitArray::<u8, Lsb0>::new(0x01);
+    assert!(rt; agree(&low, &BitArray::new(0x80), Ordering::Greater));
+    // the list and nothing else: a window of the same bits hashes alike, and other words of them are equal
+    assert!(rt; hashed(&left) == hashed(&left.as_bitslice()));
+    let wide = BitArray::<u16, Msb0>::new(0x1234);
+    assert!(rt; wide.eq_bits(&left) && hashed(&wide) == hashed(&left));
+}
+
+#[test]
+fn refusals_are_compared(rt: HostRuntime) {
+    let short = TryFromBitSliceError::UnequalLen {
+        actual: 3,
+        expected: 8,
+    };
+    let long = TryFromBitSliceError::UnequalLen {
+        actual: 16,
+        expected: 8,
+    };
+    let misaligned = TryFromBitSliceError::Misaligned;
+    let copy = short;
+    assert!(rt; copy == short && short != long && short < long && long < misaligned);
 }

@@ -1,33 +1,26 @@
-//! The tests of containers of bits, against plain lists, and rows.
+//! The tests of arrays, vectors and boxes of bits, and of what they lend; and what a user proves from their contracts alone.
 #![tactic(auto)]
 
+pub mod arrays;
+#[cfg(test)]
+mod boxes_lent;
 #[cfg(test)]
 mod callers;
 #[cfg(test)]
+mod changes;
+#[cfg(test)]
 mod compared;
 #[cfg(test)]
-mod edits;
-#[cfg(test)]
-mod heads;
-#[cfg(test)]
-mod lent;
+mod kept;
 #[cfg(test)]
 mod made;
 #[cfg(test)]
 mod memory;
+pub mod numbers;
 #[cfg(test)]
-mod plain;
-#[cfg(test)]
-mod rows;
+mod readme;
+pub mod reserved;
 #[cfg(test)]
 mod taken;
 #[cfg(test)]
-mod texts;
-#[cfg(test)]
-mod vectors;
-#[cfg(test)]
-mod windows;
-#[cfg(test)]
-mod words;
-#[cfg(test)]
-mod written;
+mod vectors_lent;

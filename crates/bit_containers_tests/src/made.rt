@@ -1,129 +1,62 @@
-//! Vectors made of the words and the bits of others, which begin at each head, against plain lists.
+//! Boxes and vectors made by a bound alone: of words and arrays of words, and of what becomes a box.
 
-use crate::plain::{List, Plain, repeated};
-use crate::vectors::{STARTS, Start, shows, visible, whole};
-use bit_addressing::{BitOrder, Lsb0, Msb0};
+ghost use Rattle.std.specs.Prelude.{◌*◌, ◌≤◌};
+ghost use Rattle.bit_addressing_span.specs.declared.span.TheConstants.{MAX_BITS};
+
+use bit_addressing_memory::{BitOrder, Lsb0, Msb0};
+use bit_containers_box::{BitBox, IntoBoxed};
 use bit_containers_vector::BitVec;
-use bit_slice_iterators::BitsIter;
-use bit_slice_stores::BitStore;
-use bit_slice_views::Bits;
-use bit_slice_writes::BitsMut;
+use bit_slice_views::{BitViewSized, Bits};
 use std::alloc::{AllocError, Global};
+use std::process::Abort;
 
-// Whether all bits of the visible words are copied.
-fn are_words_copied<T: BitStore, O: BitOrder<T> + Plain>(
+// A box of an array's bits.
+fn boxed<A: BitViewSized, O: BitOrder<A::Store>>(
     alloc: Global,
-    start: Start,
-) -> Result<bool, AllocError> {
-    let words = start.words::<T, O>(alloc)?;
-    let vector = start.vector::<T, O>(alloc)?;
-    let all = vector.as_raw_slice();
-    if all.len().saturating_mul(T::BITS as usize) > 1000 {
-        return Ok(false);
-    }
-    let copied = BitVec::<T, O>::from_slice(alloc, all)?;
-    let tried = BitVec::<T, O>::try_from_slice(alloc, all);
-    let mut listed = 0usize;
-    for k in 0..all.len() {
-        let wanted = words.cut(listed, T::BITS as usize);
-        let element = BitVec::<T, O>::from_element(alloc, all[k])?;
-        if !shows(&element, 0, &wanted) {
-            return Ok(false);
-        }
-        listed = listed.wrapping_add(T::BITS as usize);
-    }
-    let same = shows(&copied, 0, &words) && tried.map_or(false, |made| shows(&made, 0, &words));
-    Ok(same && listed == words.len)
+    array: &A,
+) -> Result<BitBox<A::Store, O>, AllocError>
+    requires { A.COUNT * A.Store.BITS ≤ MAX_BITS }
+{
+    BitBox::from_array(alloc, array)
 }
 
-// Whether the visible words are taken over, as all their bits and as those from the head on.
-fn are_words_taken_over<T: BitStore, O: BitOrder<T> + Plain>(
+// A vector of them.
+fn all_of<A: BitViewSized, O: BitOrder<A::Store>>(
     alloc: Global,
-    start: Start,
-) -> Result<bool, AllocError> {
-    let words = start.words::<T, O>(alloc)?;
-    let list = start.list::<T, O>(alloc)?;
-    let given = start.vector::<T, O>(alloc)?.into_vec();
-    let others = Vec::from(start.vector::<T, O>(alloc)?);
-    let items = start.vector::<T, O>(alloc)?.into_vec();
-    let part = start.vector::<T, O>(alloc)?.into_vec();
-    let width = T::BITS as usize;
-    let most = given.len().saturating_mul(width);
-    let items_most = items.len().saturating_mul(width);
-    let held = part.len().saturating_mul(width);
-    if most > 1000 || items_most > 1000 {
-        return Ok(false);
-    }
-    if start.head >= width || start.head + start.len > held {
-        return Ok(false);
-    }
-    let whole = shows(&BitVec::<T, O>::from_vec(given), 0, &words);
-    let Ok(tried) = BitVec::<T, O>::try_from_vec(others) else {
-        return Ok(false)
-    };
-    let tried_whole = shows(&tried, 0, &words);
-    let again = BitVec::<T, O>::try_from(tried.into_vec());
-    let tried_again = again.map_or(false, |made| shows(&made, 0, &words));
-    let collected = BitVec::<T, O>::collect_elements(alloc, items.into_iter())?;
-    let placed = BitVec::<T, O>::from_place(part, start.head, start.len);
-    let known = shows(&collected, 0, &words) && shows(&placed, start.head, &list);
-    Ok(whole && tried_whole && tried_again && known && visible(placed) == words)
-}
-
-// Whether the bits of a vector are collected, and put into an empty one, and one bit is repeated as often.
-fn are_bits_collected<T: BitStore, O: BitOrder<T> + Plain>(
-    alloc: Global,
-    start: Start,
-) -> Result<bool, AllocError> {
-    let list = start.list::<T, O>(alloc)?;
-    let vector = start.vector::<T, O>(alloc)?;
-    if vector.len() > 1000 {
-        return Ok(false);
-    }
-    let collected = BitVec::<T, O>::collect(alloc, vector.iter().by_vals())?;
-    let none = BitVec::<T, O>::new(alloc);
-    let mut roomy = BitVec::<T, O>::with_capacity(alloc, start.len)?;
-    let empty = shows(&none, 0, &list.cut(0, 0)) && shows(&roomy, 0, &list.cut(0, 0));
-    roomy.extend_from_bitslice(&vector)?;
-    let ones = BitVec::<T, O>::repeat(alloc, true, start.len)?;
-    let zeros = BitVec::<T, O>::repeat(alloc, false, start.len)?;
-    let same = shows(&collected, 0, &list) && shows(&roomy, 0, &list);
-    let alike = shows(&ones, 0, &repeated(true, start.len))
-        && shows(&zeros, 0, &repeated(false, start.len));
-    let filled = visible(ones) == repeated(true, whole::<T>(start.len));
-    Ok(empty && same && alike && filled)
-}
-
-// Whether each visible byte is taken as an array of one.
-fn are_arrays_copied<O: BitOrder<u8> + Plain>(
-    alloc: Global,
-    start: Start,
-) -> Result<bool, AllocError> {
-    let vector = start.vector::<u8, O>(alloc)?;
-    for byte in vector.as_raw_slice() {
-        let pair = [*byte, !*byte];
-        let one = BitVec::<u8, O>::from_array(alloc, byte)?;
-        let two = BitVec::<u8, O>::from_array(alloc, &pair)?;
-        let bits = List::of::<u8, O>(&pair);
-        if !shows(&one, 0, &bits.cut(0, 8)) || !shows(&two, 0, &bits) {
-            return Ok(false);
-        }
-    }
-    Ok(true)
+    array: &A,
+) -> Result<BitVec<A::Store, O>, AllocError>
+    requires { A.COUNT * A.Store.BITS ≤ MAX_BITS }
+{
+    BitVec::from_array(alloc, array)
 }
 
 #[test]
-fn vectors_are_made_of_words_and_bits(rt: HostRuntime) -> Result<(), AllocError> {
-    for k in 0..STARTS {
-        let start = Start::nth(k);
-        assert!(rt; are_words_copied::<u8, Lsb0>(rt.alloc(), start)?);
-        assert!(rt; are_words_copied::<u8, Msb0>(rt.alloc(), start)?);
-        assert!(rt; are_words_taken_over::<u8, Lsb0>(rt.alloc(), start)?);
-        assert!(rt; are_words_taken_over::<u8, Msb0>(rt.alloc(), start)?);
-        assert!(rt; are_bits_collected::<u8, Lsb0>(rt.alloc(), start)?);
-        assert!(rt; are_bits_collected::<u8, Msb0>(rt.alloc(), start)?);
-        assert!(rt; are_arrays_copied::<Lsb0>(rt.alloc(), start)?);
-        assert!(rt; are_arrays_copied::<Msb0>(rt.alloc(), start)?);
+fn arrays_become_boxes_and_vectors(rt: HostRuntime) -> Result<(), AllocError> {
+    let alloc = rt.alloc();
+    let bits = boxed::<[u8; 2], Msb0>(alloc, &[0b1000_0001, 0b0100_0000])?;
+    assert!(rt; bits.len() == 16 && bits[0] && bits[7] && bits[9] && bits.count_ones() == 3);
+    assert!(rt; bits.into_boxed_slice().as_slice() == [0b1000_0001u8, 0b0100_0000].as_slice());
+    let bits = boxed::<u16, Lsb0>(alloc, &0x8001)?;
+    assert!(rt; bits.len() == 16 && bits[0] && bits[15] && bits.count_ones() == 2);
+    let none = boxed::<[u64; 0], Lsb0>(alloc, &[])?;
+    assert!(rt; none.is_empty() && none.into_boxed_slice().len() == 0);
+    let bits = all_of::<[u16; 2], Msb0>(alloc, &[0x1234, 0x5678])?;
+    assert!(rt; bits.count_ones() == 13 && bits.len() == 32);
+    Ok(())
+}
+
+// How many ones a vector has as a box, and how many bits one after another.
+fn counted<V: IntoBoxed + Drop>(vector: V, other: V) -> (usize, usize) {
+    match (vector.into_boxed_slice(), other.into_iter()) {
+        (Ok(bits), Ok(iter)) => (bits.count_ones(), iter.len()),
+        _ => (100, 100),
     }
+}
+
+#[test]
+fn vectors_become_boxes(rt: HostRuntime) -> Result<(), AllocError> {
+    let alloc = rt.alloc();
+    let vector = BitVec::<u8, Msb0>::from_element(alloc, 0b0001_0101)?;
+    assert!(rt; counted(vector.clone()?, vector) == (3, 8));
     Ok(())
 }

@@ -1,67 +1,51 @@
 //! Room for bits: what is reserved, what stays, and bits that come without a refusal.
 
-use crate::plain::Plain;
-use crate::vectors::{STARTS, Start, shows};
-use bit_addressing::{BitOrder, Lsb0, Msb0};
+use bit_addressing_memory::{BitOrder, Lsb0, Msb0};
 use bit_containers_vector::BitVec;
-use bit_slice_stores::BitStore;
-use bit_slice_views::Bits;
+use bit_slice_views::{BitSlice, BitStore, Bits};
 use std::alloc::{AllocError, Global};
 
-// Pushes so many bits, and says whether the capacity was no lower after any.
-fn push_all<T: BitStore, O: BitOrder<T>>(
-    vector: &mut BitVec<T, O>,
+// Whether so many bits come in the memory that was reserved for them, and none of it is given back when the list is cut.
+fn reserved<O: BitOrder<u8>>(
+    alloc: Global,
+    head: usize,
     more: usize,
+    is_exact: bool,
 ) -> Result<bool, AllocError> {
+    let words = [0x5au8, 0xc3];
+    let window = BitSlice::<u8, O>::from_place(&words, head % 8, 5);
+    let mut vector = BitVec::<u8, O>::from_bitslice(alloc, window)?;
     let before = vector.capacity();
+    if vector.len() > 1000 || more > 1000 {
+        return Ok(false);
+    }
+    if is_exact {
+        vector.reserve_exact(more)?;
+    } else {
+        vector.reserve(more)?;
+    }
+    let kept = vector.capacity();
     for k in 0..more {
         if vector.len() > 1000 {
             return Ok(false);
         }
         vector.push(k % 3 == 0)?;
-        if vector.capacity() != before {
+        if vector.capacity() != kept {
             return Ok(false);
         }
     }
-    Ok(true)
-}
-
-// Whether a reservation leaves list and head, and that many bits then come in the same memory.
-fn reserved<T: BitStore, O: BitOrder<T> + Plain>(
-    alloc: Global,
-    start: Start,
-    more: usize,
-    exact: bool,
-) -> Result<bool, AllocError> {
-    let list = start.list::<T, O>(alloc)?;
-    let mut vector = start.vector::<T, O>(alloc)?;
-    let before = vector.capacity();
-    if vector.len() > 1000 || more > 1000 {
-        return Ok(false);
-    }
-    if exact {
-        vector.reserve_exact(more)?;
-    } else {
-        vector.reserve(more)?;
-    }
-    let wanted = start.len.wrapping_add(more);
-    let roomy = vector.capacity() >= wanted && vector.capacity() >= before;
-    let same = shows(&vector, start.head, &list);
-    let grown = push_all(&mut vector, more)?;
-    let kept = vector.capacity();
+    let roomy = kept >= before && kept >= vector.len();
     vector.truncate(1);
     let cut = vector.capacity() == kept;
     vector.clear();
-    Ok(roomy && same && grown && cut && vector.capacity() == kept)
+    Ok(roomy && cut && vector.capacity() == kept)
 }
 
 #[test]
 fn what_is_reserved_is_there(rt: HostRuntime) -> Result<(), AllocError> {
-    for k in 0..STARTS {
-        let start = Start::nth(k);
-        assert!(rt; reserved::<u8, Lsb0>(rt.alloc(), start, 30, false)?);
-        assert!(rt; reserved::<u8, Msb0>(rt.alloc(), start, 11, true)?);
-        assert!(rt; reserved::<u32, Msb0>(rt.alloc(), start, 0, false)?);
+    for head in 0..8usize {
+        assert!(rt; reserved::<Lsb0>(rt.alloc(), head, 30, false)?);
+        assert!(rt; reserved::<Msb0>(rt.alloc(), head, 11, true)?);
     }
     Ok(())
 }

@@ -4,8 +4,8 @@ use Rattle.std.proofs.Common.{◌≡◌, ℕ, ◌+◌, ◌*◌, ◌<◌, ◌≤�
 use Rattle.std.proofs.Math.Nat.{mul-le-mul_right}
 use Rattle.std.proofs.lemmas.List.{length-take}
 use Rattle.bit_addressing_span.specs.declared.span.TheConstants.{MAX_BITS}
-use Rattle.bit_addressing.specs.declared.BitRegister.{Ghosts}
-use Rattle.bit_addressing.specs.Memory.{Reading, memory, piece, read_by}
+use Rattle.bit_addressing_memory.specs.declared.BitRegister.{Ghosts}
+use Rattle.bit_addressing_memory.specs.Memory.{Reading, memory, piece, read_by}
 use Rattle.bit_containers_vector.specs.Vector.{vec_bits, vec_head, room, HasRoomFor}
 use Rattle.bit_containers_vector.specs.declared.vector.BitVec.{BitVec}
 

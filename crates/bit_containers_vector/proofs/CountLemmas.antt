@@ -3,7 +3,7 @@ use Rattle.std.proofs.Common.{◌≡◌, ℕ, ◌+◌, ◌-◌, ◌*◌, ◌<◌
 use Rattle.std.proofs.lemmas.Bool.{cases_lt}
 use Rattle.std.proofs.lemmas.List.{take_at}
 use Rattle.std.proofs.lemmas.Grind.{div_ceil_times}
-use Rattle.bit_addressing.specs.Memory.{piece}
+use Rattle.bit_addressing_memory.specs.Memory.{piece}
 use Rattle.bit_containers_vector.specs.Count.{words_for}
 
 -- no bits of a list

@@ -3,12 +3,12 @@ use Rattle.std.proofs.Common.{◌≡◌, ℕ, ◌+◌, ◌-◌, ◌*◌, ◌<◌
 use Rattle.std.proofs.Common.{◌∙◌, inl}
 use Rattle.std.proofs.lemmas.List.{places, same_lists}
 use Rattle.std.specs.Prelude.{vec_capacity}
-use Rattle.bit_addressing.specs.Memory.{Reading, entry, memory, piece, Overwrites}
+use Rattle.bit_addressing_memory.specs.Memory.{Reading, entry, memory, piece, Overwrites}
 use Rattle.bit_addressing_memory.proofs.MemoryLemmas.{length-memory, entry_memory}
 use Rattle.bit_slice_iterators.proofs.BitLemmas.{piece_one}
 use Rattle.bit_addressing_memory.proofs.WindowLemmas.{window_beside}
-use Rattle.bit_slice_changes.specs.Rotations.{rotated_from}
-use Rattle.bit_slice_changes.proofs.ListLemmas.{rotated_left_list}
+use Rattle.bit_slice_words.specs.Rotations.{rotated_from}
+use Rattle.bit_slice_words.proofs.ListLemmas.{rotated_left_list}
 use Rattle.bit_containers_vector.specs.Drained.{Cut}
 use Rattle.bit_containers_vector.specs.Vector.{vec_bits}
 use Rattle.bit_containers_vector.specs.declared.vector.BitVec.{BitVec}

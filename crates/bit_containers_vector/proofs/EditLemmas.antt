@@ -4,7 +4,7 @@ use Rattle.std.proofs.Common.{arith, ◌∙◌, inl, inr, length-set, get_or-set
 use Rattle.std.proofs.lemmas.Bool.{cases_eq}
 use Rattle.std.proofs.lemmas.List.{places, same_lists}
 use Rattle.std.specs.List.{insert, remove}
-use Rattle.bit_addressing.specs.Memory.{piece, with_piece}
+use Rattle.bit_addressing_memory.specs.Memory.{piece, with_piece}
 
 -- one more at the end, those from a place on moved one further, and then that place written
 pub inserted : (xs : List Bool) (i n : ℕ) (b : Bool) → n ≡ length xs → i ≤ n

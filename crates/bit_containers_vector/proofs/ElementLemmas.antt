@@ -2,7 +2,7 @@
 use Rattle.std.proofs.Common.{◌≡◌, ℕ, ◌+◌, ◌*◌, ◌≤◌, Bool, List, [], ◌∷◌, ◌++◌, length, arith, sym, ap, ◌∙◌, append_assoc, length-append}
 use Rattle.std.proofs.Math.Nat.{mul-le-mul_right}
 use Rattle.std.proofs.lemmas.List.{append-nil}
-use Rattle.bit_addressing.specs.Memory.{Reading, memory}
+use Rattle.bit_addressing_memory.specs.Memory.{Reading, memory}
 use Rattle.bit_addressing_memory.proofs.MemoryLemmas.{length-memory, memory-append}
 
 -- no words

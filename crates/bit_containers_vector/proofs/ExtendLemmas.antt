@@ -2,7 +2,7 @@
 use Rattle.std.proofs.Common.{◌≡◌, ℕ, ◌+◌, ◌-◌, ◌*◌, ◌<◌, ◌≤◌, Bool, false, List, [], ◌++◌, length, replicate, arith, ap, ap₂, sym}
 use Rattle.std.proofs.Common.{◌∙◌, refl, length-append, append_assoc, append-nil}
 use Rattle.std.proofs.lemmas.List.{places, same_lists, length-take-le, length-replicate}
-use Rattle.bit_addressing.specs.Memory.{Reading, memory, with_piece}
+use Rattle.bit_addressing_memory.specs.Memory.{Reading, memory, with_piece}
 use Rattle.bit_addressing_memory.proofs.MemoryLemmas.{length-memory}
 use Rattle.bit_containers_vector.specs.Count.{words_for}
 use Rattle.bit_containers_vector.specs.Grown.{Extends}

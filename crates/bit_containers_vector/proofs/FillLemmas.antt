@@ -4,12 +4,12 @@ use Rattle.std.proofs.Common.{arith, ap, ap₂, sym, ◌∙◌, inl, inr}
 use Rattle.std.proofs.Math.Nat.{mul-le-mul_right}
 use Rattle.std.specs.Prelude.{vec_capacity}
 use Rattle.std.proofs.lemmas.List.{places, same_lists, length-replicate, get_or-replicate, length-take-le, drop-map, take-map}
-use Rattle.bit_addressing.specs.Memory.{Reading, entry, memory, piece, with_piece, Overwrites}
-use Rattle.bit_addressing.specs.Moves.{Moves}
+use Rattle.bit_addressing_memory.specs.Memory.{Reading, entry, memory, piece, with_piece, Overwrites}
+use Rattle.bit_addressing_memory.specs.Moves.{Moves}
 use Rattle.bit_addressing_memory.proofs.MemoryLemmas.{length-memory, memory_overwritten}
 use Rattle.bit_addressing_memory.proofs.MemoryLemmas.{piece_all}
 use Rattle.bit_addressing_memory.proofs.WindowLemmas.{window_beside, window_bit}
-use Rattle.bit_slice_changes.proofs.ListLemmas.{inverted_list, overwritten_list}
+use Rattle.bit_slice_words.proofs.ListLemmas.{inverted_list, overwritten_list}
 use Rattle.bit_containers_vector.specs.Count.{words_for}
 use Rattle.bit_containers_vector.specs.Fill.{Aligned, FillsBeside, FillsWords, Flips}
 use Rattle.bit_containers_vector.specs.Lending.{HasWords}

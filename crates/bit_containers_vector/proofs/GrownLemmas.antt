@@ -4,7 +4,7 @@ use Rattle.std.proofs.Common.{take, replicate, get_or, arith, ap, apâ‚‚, sym, â—
 use Rattle.std.proofs.lemmas.List.{places, same_lists, take_all, length-replicate, length-take-le}
 use Rattle.std.proofs.lemmas.List.FromFn.{length-map-range_with_len, get_or-map-range_with_len}
 use Rattle.std.proofs.Common.{zero-add}
-use Rattle.bit_addressing.specs.Memory.{Reading, memory, digits, piece, with_piece, Overwrites}
+use Rattle.bit_addressing_memory.specs.Memory.{Reading, memory, digits, piece, with_piece, Overwrites}
 use Rattle.bit_addressing_memory.proofs.MemoryLemmas.{length-memory, memory-append, memory-take, memory_overwritten}
 use Rattle.bit_containers_vector.specs.Count.{words_for}
 use Rattle.bit_containers_vector.proofs.CountLemmas.{words_hold, words_within, words_more}

@@ -2,11 +2,11 @@
 use Rattle.std.proofs.Common.{◌≡◌, ℕ, ◌+◌, ◌*◌, ◌<◌, ◌≤◌, Bool, false, List, length, take, replicate, get_or}
 use Rattle.std.proofs.Common.{arith, ap, ap₂, sym, ◌∙◌, refl, zero-add}
 use Rattle.std.proofs.lemmas.List.{places, same_lists, take_all, length-replicate, get_or-replicate}
-use Rattle.bit_addressing.specs.Memory.{Reading, entry, memory, piece, with_piece, Copies, Overwrites}
+use Rattle.bit_addressing_memory.specs.Memory.{Reading, entry, memory, piece, with_piece, Copies, Overwrites}
 use Rattle.bit_addressing_memory.proofs.MemoryLemmas.{length-memory}
 use Rattle.bit_addressing_memory.proofs.MemoryLemmas.{memory_overwritten, piece_all}
 use Rattle.bit_addressing_memory.proofs.WindowLemmas.{length-window, window_bit}
-use Rattle.bit_slice_changes.proofs.ListLemmas.{overwritten_list}
+use Rattle.bit_slice_words.proofs.ListLemmas.{overwritten_list}
 use Rattle.bit_containers_vector.specs.Count.{words_for}
 use Rattle.bit_containers_vector.specs.Grown.{HoldsAlone, Repeats}
 use Rattle.bit_containers_vector.specs.Vector.{vec_bits, visible}

@@ -4,7 +4,7 @@ use Rattle.std.proofs.Common.{sym, ◌∙◌, refl, Result, Ok, Err, OnOk, if◌
 use Rattle.std.proofs.Math.Nat.{mul-le-mul_right}
 use Rattle.std.proofs.lemmas.List.{take_all, take-take, length-take-le, length-replicate}
 use Rattle.std.specs.Prelude.{vec_capacity}
-use Rattle.bit_addressing.specs.Memory.{Reading, entry, memory, piece, Overwrites}
+use Rattle.bit_addressing_memory.specs.Memory.{Reading, entry, memory, piece, Overwrites}
 use Rattle.bit_addressing_memory.proofs.MemoryLemmas.{length-memory, length-piece, get_or-piece, memory-append}
 use Rattle.bit_addressing_memory.proofs.WindowLemmas.{window_bit}
 use Rattle.bit_containers_vector.specs.Count.{words_for}

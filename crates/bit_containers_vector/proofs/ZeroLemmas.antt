@@ -2,8 +2,8 @@
 use Rattle.std.proofs.Common.{◌≡◌, ℕ, false, ap, ◌∙◌}
 use Rattle.std.specs.Prelude.{◌==◌}
 use Rattle.std.proofs.lemmas.Nat.Bits.{bit_at-zero}
-use Rattle.bit_addressing.specs.Memory.{indexed}
-use Rattle.bit_addressing.specs.Bits.{digit_at}
+use Rattle.bit_addressing_memory.specs.Memory.{indexed}
+use Rattle.bit_addressing_memory.specs.Bits.{digit_at}
 
 -- each of its digits is 0
 pub zero_digit : {T : Type 0} (number : T → ℕ) (at : ℕ → ℕ) (z : T) → number z ≡ 0 → (i : ℕ)

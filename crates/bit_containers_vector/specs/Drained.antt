@@ -1,6 +1,6 @@
 -- Bits that were taken out of the middle of a vector.
 use Rattle.std.specs.Prelude.{ℕ, ◌≡◌, ◌+◌, ◌-◌, ◌*◌, ◌≤◌, ◌++◌, Bool, List, length, take, drop}
-use Rattle.bit_addressing.specs.Memory.{Reading, memory, piece}
+use Rattle.bit_addressing_memory.specs.Memory.{Reading, memory, piece}
 use Rattle.bit_slice_views.specs.View.{view_bits}
 use Rattle.bit_containers_vector.specs.Vector.{vec_bits, vec_head, vec_words, room}
 use Rattle.bit_containers_vector.specs.declared.vector.BitVec.{BitVec}

@@ -1,6 +1,6 @@
 -- What is written of all visible words of a vector of bits, or beside its list.
 use Rattle.std.specs.Prelude.{◌≡◌, ◌+◌, ◌*◌, Bool, length, map, not, replicate}
-use Rattle.bit_addressing.specs.Memory.{Reading, memory, piece, with_piece}
+use Rattle.bit_addressing_memory.specs.Memory.{Reading, memory, piece, with_piece}
 use Rattle.bit_containers_vector.specs.Vector.{vec_bits, vec_head, visible, room}
 use Rattle.bit_containers_vector.specs.declared.vector.BitVec.{BitVec}
 

@@ -1,6 +1,6 @@
 -- A vector of bits that has grown at its end.
 use Rattle.std.specs.Prelude.{ℕ, ◌≡◌, ◌+◌, ◌-◌, ◌*◌, ◌++◌, Bool, false, List, length, replicate, take}
-use Rattle.bit_addressing.specs.Memory.{Reading, memory, with_piece}
+use Rattle.bit_addressing_memory.specs.Memory.{Reading, memory, with_piece}
 use Rattle.bit_containers_vector.specs.Count.{words_for}
 use Rattle.bit_containers_vector.specs.Vector.{vec_bits, vec_head, vec_words, visible}
 use Rattle.bit_containers_vector.specs.declared.vector.BitVec.{BitVec}

@@ -4,7 +4,7 @@ use Rattle.std.specs.Coded.{le_prop}
 use Rattle.std.specs.List.{length_refill}
 use Rattle.std.specs.Vec.{with_items_from}
 use Rattle.std.specs.declared.vec.Vec.{Vec}
-use Rattle.bit_addressing.specs.Memory.{Reading, memory, piece}
+use Rattle.bit_addressing_memory.specs.Memory.{Reading, memory, piece}
 use Rattle.bit_containers_vector.specs.Vector.{vec_bits, vec_head, visible, room}
 use Rattle.bit_containers_vector.specs.declared.vector.BitVec.{BitVec}
 

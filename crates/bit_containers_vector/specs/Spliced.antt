@@ -4,7 +4,7 @@
 -- bits that are gone and still to come, `gone_bits`, `splice_left` of them. How it goes on: `CanStep`, `Steps`,
 -- `StepsBack`.
 use Rattle.std.specs.Prelude.{ℕ, ◌≡◌, ◌-◌, ◌*◌, ◌≤◌, ◌++◌, ◌∷◌, [], Bool, List, length, Option, MatchOption}
-use Rattle.bit_addressing.specs.Memory.{Reading, memory, piece}
+use Rattle.bit_addressing_memory.specs.Memory.{Reading, memory, piece}
 use Rattle.bit_containers_vector.specs.Vector.{vec_words}
 use Rattle.bit_containers_vector.specs.declared.vector.BitVec.{BitVec}
 use Rattle.bit_containers_vector.specs.declared.splice.Splice.{Splice}

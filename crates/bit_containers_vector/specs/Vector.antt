@@ -2,9 +2,9 @@
 --
 -- Its list: `vec_bits`. Where it lies: `vec_words`, `vec_head`, `visible`. Its memory: `room`, `HasRoomFor`.
 use Rattle.std.specs.Prelude.{ℕ, ◌≡◌, ◌+◌, ◌-◌, ◌*◌, ◌≤◌, Bool, List, length, take, vec_capacity}
-use Rattle.bit_addressing.specs.Memory.{Reading, memory, piece}
-use Rattle.bit_slice_writes.specs.Combined.{combined}
-use Rattle.bit_slice_writes.specs.Frame.{Frame, frame_of}
+use Rattle.bit_addressing_memory.specs.Memory.{Reading, memory, piece}
+use Rattle.bit_slice_views_mut.specs.Combined.{combined}
+use Rattle.bit_slice_views_mut.specs.Frame.{Frame, frame_of}
 use Rattle.bit_containers_vector.specs.Count.{words_for}
 use Rattle.bit_containers_vector.specs.declared.vector.BitVec.{BitVec}
 

@@ -1,16 +1,15 @@
 //! Vectors of bits compared and hashed by their lists: dead bits, head and memory play no part.
 
 ghost use Rattle.std.specs.Ordering.{as_partial_cmp};
-ghost use Rattle.bit_addressing.specs.Memory.{read_by, reading_in};
+ghost use Rattle.bit_addressing_memory.specs.Memory.{read_by, reading_in};
 ghost use Rattle.bit_slice_views.specs.Compare.{bits_eq, bits_cmp, bits_fed, bits_equiv, bits_per, bits_total};
 ghost use Rattle.bit_slice_views.specs.Compare.{bits_ties, bits_po, bits_alike};
 ghost use Rattle.bit_containers_vector.specs.Vector.{vec_bits};
 
 use crate::vector::BitVec;
-use bit_addressing::{BitOrder, BitRegister};
-use bit_slice_paths::WordPaths;
-use bit_slice_stores::BitStore;
-use bit_slice_views::Bits;
+use bit_addressing_memory::{BitOrder, BitRegister};
+use bit_slice_views::{BitStore, Bits};
+use bit_slice_words::WordPaths;
 use std::cmp::Ordering;
 use std::hash::{Hash, Hasher};
 

@@ -1,7 +1,7 @@
 //! Vectors of bits made of words where these are not too many, and seen as words and as bits one after another.
 
 ghost use Rattle.std.specs.Prelude.{◌≡◌, ◌-◌, ◌*◌, ◌^◌, ◌≤◌, length, min, take, IfErr, IfOk, IsOk, ◌↔◌};
-ghost use Rattle.bit_addressing.specs.Memory.{memory, read_by};
+ghost use Rattle.bit_addressing_memory.specs.Memory.{memory, read_by};
 ghost use Rattle.bit_addressing_span.specs.declared.span.TheConstants.{MAX_BITS};
 ghost use Rattle.bit_containers_vector.specs.SliceFault.{IsTooLong};
 ghost use Rattle.bit_containers_vector.specs.declared.slice_fault.SliceFault.TheVariants.{Memory};
@@ -10,10 +10,10 @@ ghost use Rattle.bit_containers_vector.specs.Vector.{vec_bits, vec_head, vec_wor
 use crate::slice_fault::SliceFault;
 use crate::vector::BitVec;
 use crate::words::words_taken;
-use bit_addressing::{BitOrder, BitRegister, BitSpanError, MAX_BITS, mem};
+use bit_addressing_memory::{BitOrder, BitRegister, mem};
+use bit_addressing_span::{BitSpanError, MAX_BITS};
 use bit_slice_iterators::{BitsIter, Iter};
-use bit_slice_stores::BitStore;
-use bit_slice_views::BitRef;
+use bit_slice_views::{BitRef, BitStore};
 use std::alloc::Global;
 
 impl<T: BitStore, O: BitOrder<T>> BitVec<T, O> {

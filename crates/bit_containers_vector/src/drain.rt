@@ -6,7 +6,7 @@ ghost use Rattle.std.specs.Iterator.SizeHint.{IsWithinCount};
 ghost use Rattle.std.specs.Borrow.{sem};
 ghost use mathlib.Core.Option.{none};
 ghost use denote.Follow.{follows_so};
-ghost use Rattle.bit_addressing.specs.Memory.{piece, read_by};
+ghost use Rattle.bit_addressing_memory.specs.Memory.{piece, read_by};
 ghost use Rattle.bit_addressing_span.specs.declared.span.TheConstants.{MAX_BITS};
 ghost use Rattle.bit_slice_views.specs.View.{view_bits};
 ghost use Rattle.bit_containers_vector.specs.Drained.{drain_bits, Cut, IsCut};
@@ -14,9 +14,8 @@ ghost use Rattle.bit_containers_vector.specs.Vector.{vec_bits, vec_words};
 
 use crate::vector::BitVec;
 use crate::words::turn;
-use bit_addressing::{BitOrder, BitRegister};
-use bit_slice_stores::BitStore;
-use bit_slice_views::{BitRange, BitSlice, Bits};
+use bit_addressing_memory::{BitOrder, BitRegister};
+use bit_slice_views::{BitRange, BitSlice, BitStore, Bits};
 use std::iter::FusedIterator;
 
 /// The bits of a range that a vector no longer has: read from both ends, each once, and then `None` for good.

@@ -2,16 +2,15 @@
 
 ghost use Rattle.std.specs.Prelude.{◌≡◌, ◌+◌, ◌-◌, ◌%◌, ◌<◌, ◌≤◌, drop, false, length, slice_index_or, IsOk, IfOk, OnOk, OnErr};
 ghost use Rattle.std.specs.List.{insert, remove, swap_remove};
-ghost use Rattle.bit_addressing.specs.Memory.{read_by};
+ghost use Rattle.bit_addressing_memory.specs.Memory.{read_by};
 ghost use Rattle.bit_addressing_span.specs.declared.span.TheConstants.{MAX_BITS};
 ghost use Rattle.bit_containers_vector.specs.Grown.{HoldsAlone};
 ghost use Rattle.bit_containers_vector.specs.Vector.{vec_bits, vec_head, room, HasRoomFor, IsAsBefore, Shortens};
 
 use crate::vector::BitVec;
-use bit_addressing::{BitOrder, BitRegister};
-use bit_slice_stores::BitStore;
-use bit_slice_views::{BitSlice, Bits};
-use bit_slice_writes::BitsMut;
+use bit_addressing_memory::{BitOrder, BitRegister};
+use bit_slice_views::{BitSlice, BitStore, Bits};
+use bit_slice_views_mut::BitsMut;
 use std::alloc::AllocError;
 
 #[tactic(auto, using(crate::proofs::EditLemmas::edits))]

@@ -1,15 +1,15 @@
 //! What is written of all visible words, or beside the list.
 
 ghost use Rattle.std.specs.Prelude.{◌≡◌, ◌+◌, ◌*◌, ◌^◌, ◌<◌, ◌≤◌, length, take};
-ghost use Rattle.bit_addressing.specs.Memory.{read_by};
+ghost use Rattle.bit_addressing_memory.specs.Memory.{read_by};
 ghost use Rattle.bit_containers_vector.specs.Count.{words_for};
 ghost use Rattle.bit_containers_vector.specs.Fill.{Aligned, FillsBeside, FillsWords, Flips};
 ghost use Rattle.bit_containers_vector.specs.Vector.{words_held};
 
 use crate::vector::BitVec;
 use crate::words::{fill, flip, set_words, shift, words_taken};
-use bit_addressing::{BitOrder, BitRegister, mem};
-use bit_slice_stores::BitStore;
+use bit_addressing_memory::{BitOrder, BitRegister, mem};
+use bit_slice_views::BitStore;
 use std::ops::Not;
 
 impl<T: BitStore, O: BitOrder<T>> BitVec<T, O> {

@@ -2,16 +2,15 @@
 
 ghost use Rattle.std.specs.Prelude.{◌≡◌, ◌+◌, ◌-◌, ◌*◌, ◌<◌, ◌≤◌, ◌↔◌, ◌∷◌, ◌++◌, [], length, IsOk, OnOk, OnErr};
 ghost use Rattle.std.specs.Prelude.{IsSome, IfSome};
-ghost use Rattle.bit_addressing.specs.Memory.{memory, piece, read_by};
+ghost use Rattle.bit_addressing_memory.specs.Memory.{memory, piece, read_by};
 ghost use Rattle.bit_addressing_span.specs.declared.span.TheConstants.{MAX_BITS};
 ghost use Rattle.bit_containers_vector.specs.Grown.{Extends, Lengthened};
 ghost use Rattle.bit_containers_vector.specs.Vector.{vec_bits, room, HasRoomFor, IsAsBefore, Shortens};
 
 use crate::vector::BitVec;
 use crate::words::{copy, extend_words, put, shift};
-use bit_addressing::{BitOrder, BitRegister, mem};
-use bit_slice_stores::BitStore;
-use bit_slice_views::{BitRange, Bits};
+use bit_addressing_memory::{BitOrder, BitRegister, mem};
+use bit_slice_views::{BitRange, BitStore, Bits};
 use std::alloc::AllocError;
 
 impl<T: BitStore, O: BitOrder<T>> BitVec<T, O> {

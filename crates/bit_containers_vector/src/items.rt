@@ -2,16 +2,15 @@
 
 ghost use Rattle.std.specs.Prelude.{◌≡◌, ℕ, ◌+◌, ◌-◌, ◌*◌, ◌≤◌, ◌++◌, ◌∷◌, [], List, Bool, length, take, drop, IfOk, IsOk, OnErr, OnOk};
 ghost use Rattle.std.specs.Iterator.{Drains, Yields, IsFinite, size};
-ghost use Rattle.bit_addressing.specs.Memory.{memory, read_by};
+ghost use Rattle.bit_addressing_memory.specs.Memory.{memory, read_by};
 ghost use Rattle.bit_addressing_span.specs.declared.span.TheConstants.{MAX_BITS};
 ghost use Rattle.bit_containers_vector.specs.Answers.{Answers};
 ghost use Rattle.bit_containers_vector.specs.Grown.{Extends};
 ghost use Rattle.bit_containers_vector.specs.Vector.{vec_bits, vec_head, room, HasRoomFor, IsAsBefore};
 
 use crate::vector::BitVec;
-use bit_addressing::{BitOrder, BitRegister};
-use bit_slice_stores::BitStore;
-use bit_slice_views::Bits;
+use bit_addressing_memory::{BitOrder, BitRegister};
+use bit_slice_views::{BitStore, Bits};
 use std::alloc::{AllocError, Global};
 
 impl<T: BitStore, O: BitOrder<T>> BitVec<T, O> {

@@ -3,19 +3,18 @@
 ghost use Rattle.std.specs.Prelude.{◌≡◌, length};
 ghost use Rattle.std.specs.Fn.{FnOnceReturnsAtMut};
 ghost use Rattle.std.specs.Borrow.{Array, follows, sem};
-ghost use Rattle.bit_addressing.specs.Memory.{read_by};
-ghost use Rattle.bit_addressing.specs.Sweep.{IsFresh, sweep_lender, sweep_words};
+ghost use Rattle.bit_addressing_memory.specs.Memory.{read_by};
+ghost use Rattle.bit_addressing_memory.specs.Sweep.{IsFresh, sweep_lender, sweep_words};
 ghost use Rattle.bit_containers_vector.specs.Lending.{with_words, HasWords};
 ghost use Rattle.bit_containers_vector.specs.Vector.{vec_bits, vec_head, vec_words, visible};
 ghost use Rattle.bit_slice_views.specs.View.{view_bits};
-ghost use Rattle.bit_slice_writes.specs.ViewMut.{lent_bits, lent_lender, lent_place, lent_words};
+ghost use Rattle.bit_slice_views_mut.specs.ViewMut.{lent_bits, lent_lender, lent_place, lent_words};
 
 use crate::vector::BitVec;
 use crate::words::words_taken;
-use bit_addressing::{BitOrder, BitRegister, Sweep, Way};
-use bit_slice_stores::BitStore;
-use bit_slice_views::{BitSlice, Bits};
-use bit_slice_writes::BitSliceMut;
+use bit_addressing_memory::{BitOrder, BitRegister, Sweep, Way};
+use bit_slice_views::{BitSlice, BitStore, Bits};
+use bit_slice_views_mut::BitSliceMut;
 
 impl<T: BitStore, O: BitOrder<T>> BitVec<T, O> {
     ghost use Rattle.bit_containers_vector.specs.contracts.vector.BitVec.{the_row};

@@ -1,7 +1,7 @@
 //! Vectors of bits made of windows, of words and of nothing, and given back as words.
 
 ghost use Rattle.std.specs.Prelude.{◌≡◌, ◌+◌, ◌*◌, ◌<◌, ◌≤◌, ◌↔◌, [], ◌∷◌, length, replicate, IfErr, IfOk, IsOk};
-ghost use Rattle.bit_addressing.specs.Memory.{memory, piece, read_by};
+ghost use Rattle.bit_addressing_memory.specs.Memory.{memory, piece, read_by};
 ghost use Rattle.bit_addressing_span.specs.declared.span.TheConstants.{MAX_BITS};
 ghost use Rattle.bit_containers_vector.specs.Count.{words_for};
 ghost use Rattle.bit_containers_vector.specs.Grown.{HoldsAlone, Repeats};
@@ -10,9 +10,9 @@ ghost use Rattle.bit_slice_views.specs.View.{view_bits, view_head};
 
 use crate::vector::BitVec;
 use crate::words::{copy, extend_words, fill, words_taken};
-use bit_addressing::{BitOrder, BitRegister, MAX_BITS, mem};
-use bit_slice_stores::{BitStore, BitViewSized};
-use bit_slice_views::{BitSlice, Bits};
+use bit_addressing_memory::{BitOrder, BitRegister, mem};
+use bit_addressing_span::MAX_BITS;
+use bit_slice_views::{BitSlice, BitStore, BitViewSized, Bits};
 use std::alloc::{AllocError, Global};
 use std::marker::PhantomData;
 

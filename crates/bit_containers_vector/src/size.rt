@@ -1,7 +1,7 @@
 //! How many bits a vector has, and how many it has memory for.
 
 ghost use Rattle.std.specs.Prelude.{◌≡◌, ◌+◌, ◌-◌, ◌*◌, ◌^◌, ◌<◌, ◌≤◌, ◌++◌, [], length, min, replicate, take, IsOk, OnOk, OnErr};
-ghost use Rattle.bit_addressing.specs.Memory.{read_by};
+ghost use Rattle.bit_addressing_memory.specs.Memory.{read_by};
 ghost use Rattle.bit_addressing_span.specs.declared.span.TheConstants.{MAX_BITS};
 ghost use Rattle.bit_containers_vector.specs.Grown.{Extends};
 ghost use Rattle.bit_containers_vector.specs.Vector.{vec_bits, vec_head, visible, room, HasRoomFor, IsAsBefore, IsSame};
@@ -9,8 +9,8 @@ ghost use Rattle.bit_containers_vector.specs.Vector.{Shortens, Shows};
 
 use crate::vector::BitVec;
 use crate::words::{fill, words_taken};
-use bit_addressing::{BitOrder, BitRegister, mem};
-use bit_slice_stores::BitStore;
+use bit_addressing_memory::{BitOrder, BitRegister, mem};
+use bit_slice_views::BitStore;
 use std::alloc::AllocError;
 
 #[tactic(auto, using(crate::proofs::VectorLemmas::unchanged))]

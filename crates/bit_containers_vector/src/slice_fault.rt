@@ -1,6 +1,6 @@
 //! Why words make no vector of bits.
 
-use bit_addressing::BitSpanError;
+use bit_addressing_span::BitSpanError;
 use thiserror::Error;
 
 /// Why words make no vector of bits: they are too many, or there is no memory. In bitvec it is a `BitSpanError` alone.

@@ -3,7 +3,7 @@
 ghost use Rattle.std.specs.Prelude.{◌≡◌, ℕ, ◌+◌, ◌-◌, ◌*◌, ◌<◌, ◌≤◌, ◌++◌, List, Bool, length, take, drop, IfSome, Some, OnErr, OnOk};
 ghost use Rattle.std.specs.Iterator.{Drains, Yields, IsFinite, UpTo, at_most, size};
 ghost use Rattle.std.specs.Iterator.SizeHint.{IsWithinCount};
-ghost use Rattle.bit_addressing.specs.Memory.{entry, piece, read_by};
+ghost use Rattle.bit_addressing_memory.specs.Memory.{entry, piece, read_by};
 ghost use Rattle.bit_addressing_span.specs.declared.span.TheConstants.{MAX_BITS};
 ghost use Rattle.bit_containers_vector.specs.Drained.{IsCut};
 ghost use Rattle.bit_containers_vector.specs.Spliced.{gone_bits, CanStep, Steps, StepsBack};
@@ -11,9 +11,8 @@ ghost use Rattle.bit_containers_vector.specs.Spliced.{splice_items, splice_left,
 ghost use Rattle.bit_containers_vector.specs.Vector.{vec_bits, vec_head, vec_words, room};
 
 use crate::vector::BitVec;
-use bit_addressing::{BitOrder, BitRegister, read_entry};
-use bit_slice_stores::BitStore;
-use bit_slice_views::{BitRange, Bits};
+use bit_addressing_memory::{BitOrder, BitRegister, read_entry};
+use bit_slice_views::{BitRange, BitStore, Bits};
 use std::alloc::AllocError;
 use std::iter::FusedIterator;
 

@@ -2,14 +2,13 @@
 
 ghost use Rattle.std.specs.Prelude.{◌≡◌, ◌<◌, false, true, length, slice_index_or, Some};
 ghost use Rattle.std.specs.Fmt.{WritesOnOk};
-ghost use Rattle.bit_addressing.specs.Memory.{read_by};
+ghost use Rattle.bit_addressing_memory.specs.Memory.{read_by};
 ghost use Rattle.bit_slice_views.specs.Texts.{bits_text, groups_text};
 ghost use Rattle.bit_containers_vector.specs.Vector.{vec_bits};
 
 use crate::vector::BitVec;
-use bit_addressing::{BitOrder, BitRegister};
-use bit_slice_stores::BitStore;
-use bit_slice_views::{Bits, write_bits, write_groups};
+use bit_addressing_memory::{BitOrder, BitRegister};
+use bit_slice_views::{BitStore, Bits, write_bits, write_groups};
 use std::fmt;
 use std::ops::Index;
 

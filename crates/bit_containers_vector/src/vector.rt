@@ -2,13 +2,12 @@
 
 ghost use Rattle.std.specs.Prelude.{◌≡◌, ◌+◌, ◌*◌, ◌<◌, ◌≤◌, [], length};
 ghost use Rattle.std.specs.Fn.{FnOnceReturnsAtMut};
-ghost use Rattle.bit_addressing.specs.Memory.{read_by, reading_in};
+ghost use Rattle.bit_addressing_memory.specs.Memory.{read_by, reading_in};
 ghost use Rattle.bit_addressing_span.specs.declared.span.TheConstants.{MAX_BITS};
 
-use bit_addressing::{BitOrder, BitRegister};
-use bit_slice_stores::BitStore;
-use bit_slice_views::{BitSlice, Bits};
-use bit_slice_writes::BitsMut;
+use bit_addressing_memory::{BitOrder, BitRegister};
+use bit_slice_views::{BitSlice, BitStore, Bits};
+use bit_slice_views_mut::BitsMut;
 use std::alloc::Global;
 use std::marker::PhantomData;
 
@@ -62,11 +61,11 @@ impl<T: BitStore, O: BitOrder<T>> Bits for BitVec<T, O> {
     }
 }
 
-#[tactic(auto, using(bit_slice_writes::proofs::FrameLemmas::frames))]
+#[tactic(auto, using(bit_slice_views_mut::proofs::FrameLemmas::frames))]
 impl<T: BitStore, O: BitOrder<T>> BitsMut for BitVec<T, O> {
     ghost use Rattle.std.specs.Prelude.{ℕ, refl};
-    ghost use Rattle.bit_slice_writes.specs.Frame.{frame_of};
-    ghost use Rattle.bit_slice_writes.specs.FrameLaws.{shown_window, shown_fits};
+    ghost use Rattle.bit_slice_views_mut.specs.Frame.{frame_of};
+    ghost use Rattle.bit_slice_views_mut.specs.FrameLaws.{shown_window, shown_fits};
     ghost use Rattle.bit_containers_vector.specs.Vector.{vec_bits, vec_words, words_held};
 
     ghost Lender = { ℕ };

@@ -2,14 +2,14 @@
 
 ghost use Rattle.std.specs.Prelude.{◌≡◌, ◌+◌, ◌-◌, ◌*◌, ◌<◌, ◌≤◌, ◌^◌, ◌++◌, length, take, replicate, not, IsOk, OnOk, OnErr};
 ghost use Rattle.std.specs.Prelude.{vec_capacity};
-ghost use Rattle.bit_addressing.specs.Memory.{entry, read_by, Copies, Overwrites, Writes};
-ghost use Rattle.bit_addressing.specs.Moves.{Moves};
-ghost use Rattle.bit_slice_changes.specs.Rotations.{rotated_from};
+ghost use Rattle.bit_addressing_memory.specs.Memory.{entry, read_by, Copies, Overwrites, Writes};
+ghost use Rattle.bit_addressing_memory.specs.Moves.{Moves};
+ghost use Rattle.bit_slice_words.specs.Rotations.{rotated_from};
 ghost use Rattle.bit_containers_vector.specs.Count.{words_for};
 
-use bit_addressing::{BitOrder, BitRegister, copy_between, mem, write_entry};
-use bit_slice_changes::{fill_in, move_words, not_in, rotate_left_in};
-use bit_slice_stores::BitStore;
+use bit_addressing_memory::{BitOrder, BitRegister, copy_between, mem, write_entry};
+use bit_slice_views::BitStore;
+use bit_slice_words::{fill_in, move_words, not_in, rotate_left_in};
 use std::alloc::AllocError;
 
 // How many words so many bits take.

@@ -1,142 +1,41 @@
-//! Windows of bits, whole: the items of the crates below. A window is a part of a slice of words, from any bit on, to
-//! read and to write as a list; words and arrays of words are seen as bits; windows come in pieces and hold whole
-//! numbers.
+//! Windows of bits, whole: a window is a part of a slice of words, from any bit on, to read and to write as a list; words
+//! and arrays of words are seen as bits; windows come in pieces and hold whole numbers; commands are carried out at one.
+//!
+//! What types and calls are built of stands in modules: `words`, `pieces` and `splitting`.
 #![tactic(auto)]
 
-pub use bit_addressing::BitIdx;
-pub use bit_addressing::BitOrder;
-pub use bit_addressing::BitRegister;
-pub use bit_addressing::BitSpanError;
-pub use bit_addressing::Domain;
-pub use bit_addressing::DomainMut;
-pub use bit_addressing::LocalBits;
-pub use bit_addressing::Lsb0;
-pub use bit_addressing::MAX_BITS;
-pub use bit_addressing::Msb0;
-pub use bit_addressing::Sweep;
-pub use bit_addressing::mem;
-pub use bit_slice_access::BitMut;
-pub use bit_slice_access::BitRangeMut;
-pub use bit_slice_access::BitSliceIndexMut;
-pub use bit_slice_access::BitsAccess;
-pub use bit_slice_access::BitsCopy;
-pub use bit_slice_access::BitsCut;
-pub use bit_slice_access::BitsFill;
-pub use bit_slice_access::BitsParts;
-pub use bit_slice_access::Part;
-pub use bit_slice_changes::and_in;
-pub use bit_slice_changes::fill_in;
-pub use bit_slice_changes::move_words;
-pub use bit_slice_changes::not_in;
-pub use bit_slice_changes::or_in;
-pub use bit_slice_changes::reverse_in;
-pub use bit_slice_changes::rotate_left_in;
-pub use bit_slice_changes::rotate_right_in;
-pub use bit_slice_changes::shift_left_in;
-pub use bit_slice_changes::shift_right_in;
-pub use bit_slice_changes::xor_in;
-pub use bit_slice_commands::WindowCommand;
-pub use bit_slice_commands::WindowReply;
-pub use bit_slice_commands::run_window;
-pub use bit_slice_domains::BitDomainMut;
-pub use bit_slice_domains::BitsDomains;
-pub use bit_slice_domains::Halves;
-pub use bit_slice_domains::WindowDomainMut;
-pub use bit_slice_edits::BitsEdits;
-pub use bit_slice_fields::BitField;
-pub use bit_slice_fields::BitFieldMut;
-pub use bit_slice_fields::FieldOrder;
-pub use bit_slice_fields::Integral;
-pub use bit_slice_fields::store_load_be;
-pub use bit_slice_fields::store_load_le;
-pub use bit_slice_iterators::BitRefIter;
-pub use bit_slice_iterators::BitValIter;
-pub use bit_slice_iterators::BitsIter;
-pub use bit_slice_iterators::Indices;
-pub use bit_slice_iterators::Iter;
-pub use bit_slice_iterators::IterOnes;
-pub use bit_slice_iterators::IterZeros;
-pub use bit_slice_iterators::Ones;
-pub use bit_slice_iterators::Sought;
-pub use bit_slice_iterators::Zeros;
-pub use bit_slice_paths::Steps;
-pub use bit_slice_paths::WordPaths;
-pub use bit_slice_paths::by_bits;
-pub use bit_slice_pieces::Backward;
-pub use bit_slice_pieces::BackwardExact;
-pub use bit_slice_pieces::BitsPieces;
-pub use bit_slice_pieces::Chunks;
-pub use bit_slice_pieces::ChunksExact;
-pub use bit_slice_pieces::Cuts;
-pub use bit_slice_pieces::ExactCuts;
-pub use bit_slice_pieces::Forward;
-pub use bit_slice_pieces::ForwardExact;
-pub use bit_slice_pieces::Pieces;
-pub use bit_slice_pieces::RChunks;
-pub use bit_slice_pieces::RChunksExact;
-pub use bit_slice_pieces::Single;
-pub use bit_slice_pieces::Sliding;
-pub use bit_slice_pieces::Windows;
-pub use bit_slice_pieces_mut::BitsPiecesMut;
-pub use bit_slice_pieces_mut::ChunksExactMut;
-pub use bit_slice_pieces_mut::ChunksMut;
-pub use bit_slice_pieces_mut::EachBit;
-pub use bit_slice_pieces_mut::IterMut;
-pub use bit_slice_pieces_mut::PiecesMut;
-pub use bit_slice_pieces_mut::RChunksExactMut;
-pub use bit_slice_pieces_mut::RChunksMut;
-pub use bit_slice_scans::Edges;
-pub use bit_slice_scans::between;
-pub use bit_slice_scans::compare_in;
-pub use bit_slice_scans::contains_in;
-pub use bit_slice_scans::count_ones_in;
-pub use bit_slice_scans::count_zeros_in;
-pub use bit_slice_scans::edges_of;
-pub use bit_slice_scans::equal_in;
-pub use bit_slice_scans::first_in;
-pub use bit_slice_scans::last_in;
-pub use bit_slice_splits::BitsSplits;
-pub use bit_slice_splits::FromBack;
-pub use bit_slice_splits::FromFront;
-pub use bit_slice_splits::InclusiveBack;
-pub use bit_slice_splits::InclusiveFront;
-pub use bit_slice_splits::Parting;
-pub use bit_slice_splits::RSplit;
-pub use bit_slice_splits::RSplitN;
-pub use bit_slice_splits::Split;
-pub use bit_slice_splits::SplitInclusive;
-pub use bit_slice_splits::SplitN;
-pub use bit_slice_splits::Splits;
-pub use bit_slice_splits::SplitsN;
-pub use bit_slice_splits::Way;
-pub use bit_slice_splits::asked_in;
-pub use bit_slice_splits_mut::AtMost;
-pub use bit_slice_splits_mut::BitsSplitsMut;
-pub use bit_slice_splits_mut::RSplitMut;
-pub use bit_slice_splits_mut::RSplitNMut;
-pub use bit_slice_splits_mut::SplitInclusiveMut;
-pub use bit_slice_splits_mut::SplitMut;
-pub use bit_slice_splits_mut::SplitNMut;
-pub use bit_slice_splits_mut::SplitsMut;
-pub use bit_slice_stores::BitStore;
-pub use bit_slice_stores::BitViewSized;
-pub use bit_slice_views::BitDomain;
-pub use bit_slice_views::BitRange;
-pub use bit_slice_views::BitRef;
-pub use bit_slice_views::BitSlice;
-pub use bit_slice_views::BitSliceIndex;
-pub use bit_slice_views::Bits;
-pub use bit_slice_views::ViewLimits;
-pub use bit_slice_views::from_ref;
-pub use bit_slice_views::into_bit_domain;
-pub use bit_slice_views::write_bits;
-pub use bit_slice_views::write_groups;
-pub use bit_slice_writes::BitSliceMut;
-pub use bit_slice_writes::BitView;
-pub use bit_slice_writes::BitsMut;
-pub use bit_slice_writes::BitsWindow;
-pub use bit_slice_writes::Pair;
-pub use bit_slice_writes::and_view;
-pub use bit_slice_writes::from_mut;
-pub use bit_slice_writes::or_view;
-pub use bit_slice_writes::xor_view;
+mod command;
+pub mod pieces;
+mod runner;
+pub mod splitting;
+pub mod words;
+
+pub use bit_addressing_memory::{
+    BitIdx, BitOrder, BitRegister, LocalBits, Lsb0, Msb0, OrderCandidate, Positions, Sweep, Way,
+    mask_from_at, mem, move_in, select_from_at, way_for,
+};
+pub use bit_addressing_span::{BitSpanError, Domain, DomainMut, MAX_BITS, PartialElement};
+pub use bit_slice_access::{
+    BitDomainMut, BitMut, BitRangeMut, BitSliceIndexMut, BitsAccess, BitsCopy, BitsCut,
+    BitsDomains, BitsEdits, BitsFill, BitsParts, Halves, Part, WindowDomainMut,
+};
+pub use bit_slice_fields::{
+    BitField, BitFieldMut, FieldOrder, Integral, store_load_be, store_load_le,
+};
+pub use bit_slice_iterators::{
+    BitRefIter, BitValIter, BitsIter, BitsPieces, BitsPiecesMut, Chunks, ChunksExact,
+    ChunksExactMut, ChunksMut, Iter, IterMut, IterOnes, IterZeros, RChunks, RChunksExact,
+    RChunksExactMut, RChunksMut, Windows,
+};
+pub use bit_slice_splits::{
+    BitsSplits, BitsSplitsMut, RSplit, RSplitMut, RSplitN, RSplitNMut, Split, SplitInclusive,
+    SplitInclusiveMut, SplitMut, SplitN, SplitNMut,
+};
+pub use bit_slice_views::{
+    BitDomain, BitRange, BitRef, BitSlice, BitSliceIndex, BitStore, BitViewSized, Bits, ViewLimits,
+    from_ref, into_bit_domain,
+};
+pub use bit_slice_views_mut::{BitSliceMut, BitView, BitsMut, BitsWindow, Pair, from_mut};
+pub use bit_slice_words::{Steps, WordPaths, by_bits};
+pub use command::{WindowCommand, WindowReply};
+pub use runner::run_window;

@@ -2,8 +2,8 @@
 --
 -- What writes through a part make of the window: `part_kept`. In lists: `piece_set` and `piece_same` of PartLemmas.
 use Rattle.std.proofs.Common.{◌≡◌, ℕ, ◌+◌, ◌*◌, ◌≤◌, Bool, List, length, sym, ap, ◌∙◌, arith}
-use Rattle.bit_addressing.specs.Memory.{Reading, memory, piece, with_piece}
-use Rattle.bit_slice_writes.specs.Frame.{Frame, frame_of}
+use Rattle.bit_addressing_memory.specs.Memory.{Reading, memory, piece, with_piece}
+use Rattle.bit_slice_views_mut.specs.Frame.{Frame, frame_of}
 use Rattle.bit_slice_access.specs.Part.{part_lender, part_whole, part_around}
 use Rattle.bit_slice_access.specs.Shows.{IsPartOf}
 use Rattle.bit_slice_access.specs.declared.part.Part.{Part}

@@ -2,3 +2,6 @@ pub mod CallerLemmas
 pub mod FillLemmas
 pub mod PartLemmas
 pub mod SwapLemmas
+mod PartEditLemmas
+pub mod SpanLemmas
+pub mod CutLemmas

@@ -7,11 +7,11 @@ use Rattle.std.proofs.Common.{take, drop, get_or, set}
 use Rattle.std.proofs.Common.{arith, refl, sym, ap, ◌∙◌, inl, inr, rules, length-set, get_or-set_same, get_or-set_other}
 use Rattle.std.proofs.lemmas.Bool.{cases_lt, cases_eq}
 use Rattle.std.proofs.lemmas.List.{ext_get_or, get_or-take, get_or-drop, take-take, drop-drop, same_lists, places}
-use Rattle.bit_addressing.specs.Memory.{Reading, memory, piece, with_piece}
+use Rattle.bit_addressing_memory.specs.Memory.{Reading, memory, piece, with_piece}
 use Rattle.bit_addressing_memory.proofs.MemoryLemmas.{piece_piece, length-piece, get_or-piece, length-memory}
 use Rattle.bit_addressing_memory.proofs.MemoryLemmas.{length-with_piece, with_piece_below, with_piece_inside}
 use Rattle.bit_addressing_memory.proofs.MemoryLemmas.{with_piece_above}
-use Rattle.bit_slice_writes.specs.Frame.{Frame, frame_of}
+use Rattle.bit_slice_views_mut.specs.Frame.{Frame, frame_of}
 use Rattle.bit_slice_access.specs.PartLender.{PartLender}
 
 -- the bits of a window whose words, place and length are known

@@ -3,10 +3,14 @@ pub mod Fills
 pub mod Part
 pub mod PartLender
 pub mod Shows
--- the words of windows, memories, orders and registers
-pub use Rattle.bit_addressing.specs.BitOrder
-pub use Rattle.bit_addressing.specs.BitRegister
-pub use Rattle.bit_addressing.specs.Bits
-pub use Rattle.bit_addressing.specs.Memory
+pub mod Halves
+pub mod Domain
+pub mod Cut
+pub mod Lending
+-- what public clauses cite of the crates below
+pub use Rattle.bit_addressing_memory.specs.BitOrder
+pub use Rattle.bit_addressing_memory.specs.BitRegister
+pub use Rattle.bit_addressing_memory.specs.Bits
+pub use Rattle.bit_addressing_memory.specs.Memory
 pub use Rattle.bit_slice_views.specs.View
-pub use Rattle.bit_slice_writes.specs.Frame
+pub use Rattle.bit_slice_views_mut.specs.Frame

@@ -3,8 +3,8 @@
 -- What it writes in: `part_view`, `part_loan`. The window that it is cut from: `part_head`, `part_len`, its bits as
 -- they are now, `part_whole`, and its frame, `part_around`. Whose words they are: `part_lender`.
 use Rattle.std.specs.Prelude.{ℕ, Bool, List}
-use Rattle.bit_addressing.specs.Memory.{Reading, memory, piece}
-use Rattle.bit_slice_writes.specs.Frame.{Frame, frame_of}
+use Rattle.bit_addressing_memory.specs.Memory.{Reading, memory, piece}
+use Rattle.bit_slice_views_mut.specs.Frame.{Frame, frame_of}
 use Rattle.bit_slice_access.specs.PartLender.{PartLender}
 use Rattle.bit_slice_access.specs.declared.part.Part.{Part}
 

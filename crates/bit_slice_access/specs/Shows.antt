@@ -2,11 +2,11 @@
 --
 -- A part: `IsPartOf`. Both parts of a split: `SplitsAt`.
 use Rattle.std.specs.Prelude.{ℕ, ◌≡◌, ◌+◌, ◌<◌, ◌≤◌, ◌^◌, Bool, List, length}
-use Rattle.bit_addressing.specs.Memory.{Reading, piece}
+use Rattle.bit_addressing_memory.specs.Memory.{Reading, piece}
 use Rattle.bit_addressing_span.specs.declared.span.TheConstants.{MAX_BITS}
-use Rattle.bit_slice_writes.specs.Frame.{Frame}
-use Rattle.bit_slice_writes.specs.declared.pair.Pair.{Pair}
-use Rattle.bit_slice_writes.specs.Pair.{pair_len, pair_mid, pair_place, pair_view}
+use Rattle.bit_slice_views_mut.specs.Frame.{Frame}
+use Rattle.bit_slice_views_mut.specs.declared.pair.Pair.{Pair}
+use Rattle.bit_slice_views_mut.specs.Pair.{pair_len, pair_mid, pair_place, pair_view}
 use Rattle.bit_slice_access.specs.Part.{part_view, part_head, part_len, part_whole, part_around}
 use Rattle.bit_slice_access.specs.declared.part.Part.{Part}
 

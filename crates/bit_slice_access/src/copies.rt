@@ -1,10 +1,10 @@
 //! Bits of a window copied inside it, and exchanged with those of another.
 
 ghost use Rattle.std.specs.Prelude.{◌≡◌, ◌+◌, ◌-◌, ◌≤◌, length};
-ghost use Rattle.bit_addressing.specs.Memory.{piece, with_piece};
+ghost use Rattle.bit_addressing_memory.specs.Memory.{piece, with_piece};
 
 use bit_slice_views::{BitRange, Bits};
-use bit_slice_writes::BitsMut;
+use bit_slice_views_mut::BitsMut;
 
 /// The copies of a window that no single lower call makes: of every `BitsMut`.
 pub trait BitsCopy: BitsMut {

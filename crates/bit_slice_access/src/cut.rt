@@ -2,10 +2,10 @@
 
 ghost use Rattle.std.specs.Prelude.{◌≡◌, ◌-◌, ◌<◌, ◌≤◌, ◌↔◌, IfSome, IsSome, length};
 ghost use Rattle.bit_slice_access.specs.Shows.{SplitsAt};
-ghost use Rattle.bit_slice_writes.specs.Pair.{pair_loan};
+ghost use Rattle.bit_slice_views_mut.specs.Pair.{pair_loan};
 
 use bit_slice_views::Bits;
-use bit_slice_writes::{BitsMut, BitsWindow, Pair};
+use bit_slice_views_mut::{BitsMut, BitsWindow, Pair};
 
 /// The cuts of a window beside `split_at_mut`: of every `BitsWindow`.
 pub trait BitsCut: BitsWindow {

@@ -4,7 +4,7 @@ ghost use Rattle.std.specs.Prelude.{◌≡◌, length, slice_index_or, false};
 ghost use Rattle.bit_slice_access.specs.Fills.{Filled};
 
 use bit_slice_views::Bits;
-use bit_slice_writes::BitsMut;
+use bit_slice_views_mut::BitsMut;
 
 /// The changes of a window by a closure: of every `BitsMut`.
 ///

@@ -2,7 +2,7 @@
 
 ghost use Rattle.std.specs.Prelude.{◌≡◌, ℕ, ◌-◌, ◌<◌, ◌≤◌, ◌↔◌, IsTrue, length};
 ghost use Rattle.std.specs.Borrow.{GName};
-ghost use Rattle.bit_addressing.specs.Memory.{read_by};
+ghost use Rattle.bit_addressing_memory.specs.Memory.{read_by};
 ghost use Rattle.bit_slice_access.specs.BitMut.{bit_view, bit_loan, bit_index};
 ghost use Rattle.bit_slice_access.specs.Part.{part_loan};
 ghost use Rattle.bit_slice_access.specs.Shows.{IsPartOf};
@@ -11,7 +11,7 @@ use crate::bit_mut::BitMut;
 use crate::copies::place_in;
 use crate::part::Part;
 use bit_slice_views::{BitRange, Bits};
-use bit_slice_writes::{BitsMut, BitsWindow};
+use bit_slice_views_mut::{BitsMut, BitsWindow};
 use std::ops::{Range, RangeFrom, RangeFull, RangeInclusive, RangeTo, RangeToInclusive};
 
 /// What `get_mut` and `index_mut` take: an index, or one of the six kinds of ranges.

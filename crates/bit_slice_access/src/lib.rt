@@ -1,25 +1,32 @@
-//! Bits and parts of a window, to write, and what is built of single writes.
+//! Bits and parts of a list to write, by index and range, and the words of a writable window.
 #![tactic(auto)]
 
 mod access;
+mod bit_domain_mut;
 mod bit_mut;
-mod callers;
 mod copies;
 mod cut;
+mod domain_mut;
+mod domains;
+mod edits;
 mod fills;
+mod halves;
 mod index_mut;
 mod part;
 mod parts;
+mod windows;
+mod words;
 
 pub use access::BitsAccess;
+pub use bit_domain_mut::BitDomainMut;
 pub use bit_mut::BitMut;
-pub use callers::{
-    fill_from, fill_range, flip_each, set_at_front, set_by_bits, set_in_part, set_in_words,
-    set_last, set_where_inside,
-};
 pub use copies::BitsCopy;
 pub use cut::BitsCut;
+pub use domain_mut::WindowDomainMut;
+pub use domains::BitsDomains;
+pub use edits::BitsEdits;
 pub use fills::BitsFill;
+pub use halves::Halves;
 pub use index_mut::{BitRangeMut, BitSliceIndexMut};
 pub use part::Part;
 pub use parts::BitsParts;

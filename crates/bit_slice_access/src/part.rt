@@ -2,13 +2,13 @@
 
 ghost use Rattle.std.specs.Prelude.{◌≡◌, ◌+◌, ◌*◌, ◌<◌, ◌≤◌, ◌^◌, length};
 ghost use Rattle.std.specs.Fn.{FnOnceReturnsAtMut};
-ghost use Rattle.bit_addressing.specs.Memory.{memory, piece, read_by};
+ghost use Rattle.bit_addressing_memory.specs.Memory.{memory, piece, read_by};
 ghost use Rattle.bit_addressing_span.specs.declared.span.TheConstants.{MAX_BITS};
-ghost use Rattle.bit_slice_writes.specs.Frame.{frame_of};
+ghost use Rattle.bit_slice_views_mut.specs.Frame.{frame_of};
 
-use bit_addressing::BitRegister;
+use bit_addressing_memory::BitRegister;
 use bit_slice_views::{BitSlice, Bits};
-use bit_slice_writes::{BitsMut, BitsWindow};
+use bit_slice_views_mut::{BitsMut, BitsWindow};
 
 /// Some bits of a window, as a window of its own: what a range lends.
 ///

@@ -2,13 +2,14 @@
 
 ghost use Rattle.std.specs.Prelude.{◌≡◌, ℕ, ◌+◌, ◌-◌, ◌<◌, ◌≤◌, ◌↔◌, IfSome, IsSome, false, length};
 ghost use Rattle.std.specs.Prelude.{drop, slice_index_or, take};
-ghost use Rattle.bit_addressing.specs.Memory.{piece, read_by};
+ghost use Rattle.bit_addressing_memory.specs.Memory.{piece, read_by};
 ghost use Rattle.bit_addressing_span.specs.Domain.{domain_bits, IsCut};
 ghost use Rattle.bit_slice_views.specs.BitRef.{bit_value};
 ghost use Rattle.bit_slice_views.specs.Parts.{parts_bits, IsBitCut};
 ghost use Rattle.bit_slice_views.specs.View.{view_bits};
 
-use bit_addressing::{BitOrder, BitRegister, Domain};
+use bit_addressing_memory::{BitOrder, BitRegister};
+use bit_addressing_span::Domain;
 use bit_slice_views::{BitDomain, BitRef, BitSlice, BitSliceIndex, Bits};
 
 /// The parts of a list of bits, as shared windows: of every `Bits`. A shared window has calls of the same names whose

@@ -5,8 +5,8 @@
 use Rattle.std.proofs.Common.{◌≡◌, ℕ, ◌-◌, ◌<◌, Bool, true, false, List, sym, ap, ◌∙◌, arith}
 use Rattle.std.specs.Prelude.{ℤ}
 use Rattle.std.proofs.lemmas.List.{ext_get_or}
-use Rattle.bit_addressing.specs.Bits.{digit_at, bits_in_order}
-use Rattle.bit_addressing.proofs.OrderCallerLemmas.{get_or-bits_in_order, length-bits_in_order}
+use Rattle.bit_addressing_memory.specs.Bits.{digit_at, bits_in_order}
+use Rattle.bit_addressing_memory.proofs.OrderCallerLemmas.{get_or-bits_in_order, length-bits_in_order}
 use Rattle.bit_slice_fields.specs.Number.{weight, field_bits}
 use Rattle.bit_slice_fields.specs.Whole.{FitsIn, low_digits, wrapped}
 use Rattle.bit_slice_fields.proofs.DigitsLemmas.{same_digits}

@@ -13,8 +13,8 @@ use Rattle.std.proofs.lemmas.List.{ext_get_or}
 use Rattle.std.proofs.lemmas.Nat.{or_lt, div-add-mod'}
 use Rattle.std.proofs.lemmas.Nat.Bits.{bit_at_or, bit_at-pow_same, bit_at-pow_other, bit_at-lt, bit_at-zero}
 use Rattle.std.proofs.lemmas.Nat.Bits.{bit_at_cat_low, same_from_bits_below}
-use Rattle.bit_addressing.specs.Bits.{digit_at, bits_in_order}
-use Rattle.bit_addressing.proofs.OrderCallerLemmas.{get_or-bits_in_order, length-bits_in_order}
+use Rattle.bit_addressing_memory.specs.Bits.{digit_at, bits_in_order}
+use Rattle.bit_addressing_memory.proofs.OrderCallerLemmas.{get_or-bits_in_order, length-bits_in_order}
 use Rattle.bit_slice_fields.specs.Digits.{HasDigits}
 use Rattle.bit_slice_fields.specs.Number.{weight, field_bits}
 use Rattle.bit_slice_fields.specs.Whole.{low_digits}

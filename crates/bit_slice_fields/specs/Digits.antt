@@ -1,6 +1,6 @@
 -- The digits of a number and the bits of a window, one by one. No public clause cites this module.
 use Rattle.std.specs.Prelude.{◌≡◌, ℕ, ◌<◌, ◌^◌, Bool, false, List, length, slice_index_or}
-use Rattle.bit_addressing.specs.Bits.{digit_at}
+use Rattle.bit_addressing_memory.specs.Bits.{digit_at}
 use Rattle.bit_slice_fields.specs.Number.{weight}
 use Rattle.bit_slice_fields.specs.declared.digits.Cut.{Cut}
 

@@ -1,8 +1,8 @@
 pub mod Digits
 pub mod Number
 pub mod Whole
--- the words of windows, memories, orders and registers
-pub use Rattle.bit_slice_views.specs.BitOrder
-pub use Rattle.bit_slice_views.specs.BitRegister
-pub use Rattle.bit_slice_views.specs.Bits
-pub use Rattle.bit_slice_views.specs.Memory
+-- what public clauses cite of the crates below
+pub use Rattle.bit_addressing_memory.specs.BitOrder
+pub use Rattle.bit_addressing_memory.specs.BitRegister
+pub use Rattle.bit_addressing_memory.specs.Bits
+pub use Rattle.bit_addressing_memory.specs.Memory

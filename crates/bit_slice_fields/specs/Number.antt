@@ -4,7 +4,7 @@
 -- word is a segment. Each bit weighs a power of two: `weight` is the exponent. A whole number in a window: `field_bits`.
 -- Which end of a word counts lowest: `CountsFrom`.
 use Rattle.std.specs.Prelude.{◌≡◌, ℕ, ℤ, ◌+◌, ◌-◌, ◌*◌, ◌/◌, ◌<◌, Bool, true, false, List, min}
-use Rattle.bit_addressing.specs.Bits.{bits_in_order}
+use Rattle.bit_addressing_memory.specs.Bits.{bits_in_order}
 use Rattle.bit_slice_fields.specs.Whole.{low_digits}
 
 -- the first bit of the segment that bit i lies in

@@ -1,16 +1,16 @@
 //! The digits of a number and the bits of a window, one by one.
 
 ghost use Rattle.std.specs.Prelude.{◌≡◌, ℕ, ◌+◌, ◌-◌, ◌*◌, ◌^◌, ◌<◌, ◌≤◌, length, cond, bit_or};
-ghost use Rattle.bit_addressing.specs.Bits.{bits_in_order, digit_at};
-ghost use Rattle.bit_addressing.specs.Memory.{memory, piece, read_by};
+ghost use Rattle.bit_addressing_memory.specs.Bits.{bits_in_order, digit_at};
+ghost use Rattle.bit_addressing_memory.specs.Memory.{memory, piece, read_by};
 ghost use Rattle.bit_slice_fields.specs.Digits.{cut_weight, HasDigits};
 ghost use Rattle.bit_slice_fields.specs.Number.{field_bits};
 ghost use Rattle.bit_slice_fields.specs.Whole.{FitsIn};
 ghost use Rattle.bit_slice_views.specs.View.{view_bits};
-ghost use Rattle.bit_slice_writes.specs.Frame.{KeepsBeside};
+ghost use Rattle.bit_slice_views_mut.specs.Frame.{KeepsBeside};
 
 use crate::integral::Integral;
-use bit_addressing::{BitOrder, BitRegister, mem, write_entry};
+use bit_addressing_memory::{BitOrder, BitRegister, mem, write_entry};
 use bit_slice_views::{BitSlice, Bits};
 
 // How the bits of a window weigh: which end of a word counts lowest, whether the first segment does, and the index of
@@ -85,7 +85,7 @@ pub(crate) fn gathered<T: BitRegister, O: BitOrder<T>>(view: BitSlice<'_, T, O>,
 }
 
 // Makes the `len` bits from a place on the digits of a number.
-#[tactic(auto, using(bit_slice_changes::proofs::StretchLemmas::stretch_steps))]
+#[tactic(auto, using(bit_slice_words::proofs::ChangedStretchLemmas::stretch_steps))]
 pub(crate) fn scatter<T: BitRegister, O: BitOrder<T>>(
     words: &mut [T],
     place: usize,

@@ -6,8 +6,8 @@ ghost use Rattle.bit_slice_fields.specs.Number.{field_bits};
 use crate::digits::{Cut, store_window};
 use crate::field::BitField;
 use crate::integral::Integral;
-use bit_addressing::BitRegister;
-use bit_slice_writes::BitsMut;
+use bit_addressing_memory::BitRegister;
+use bit_slice_views_mut::BitsMut;
 
 /// A window of bits that a whole number is stored in.
 ///

@@ -6,7 +6,7 @@ ghost use Rattle.bit_slice_fields.specs.Whole.{wrapped};
 
 use crate::field_mut::BitFieldMut;
 use crate::integral::Integral;
-use bit_addressing::BitRegister;
+use bit_addressing_memory::BitRegister;
 
 /// Stores a number and loads it again, the first segment lowest: the answer is the number modulo `2^len`, its sign
 /// extended.

@@ -3,7 +3,7 @@
 ghost use Rattle.std.specs.Prelude.{Bool, true, false};
 ghost use Rattle.bit_slice_fields.specs.Number.{CountsFrom};
 
-use bit_addressing::{BitOrder, BitRegister, Lsb0, Msb0};
+use bit_addressing_memory::{BitOrder, BitRegister, Lsb0, Msb0};
 
 /// An order that counts a word's digits in turn, from the lowest or from the highest: `Lsb0` and `Msb0`.
 pub trait FieldOrder<T: BitRegister>: BitOrder<T> {

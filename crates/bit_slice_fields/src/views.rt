@@ -5,10 +5,10 @@ ghost use Rattle.std.specs.Prelude.{◌≡◌, ◌%◌, ◌<◌};
 use crate::field::BitField;
 use crate::field_mut::BitFieldMut;
 use crate::order::FieldOrder;
-use bit_addressing::{BitRegister, mem};
+use bit_addressing_memory::{BitRegister, mem};
 use bit_slice_access::Part;
 use bit_slice_views::BitSlice;
-use bit_slice_writes::{BitSliceMut, BitsMut, BitsWindow};
+use bit_slice_views_mut::{BitSliceMut, BitsMut, BitsWindow};
 
 impl<T: BitRegister, O: FieldOrder<T>> BitField for BitSlice<'_, T, O> {
     ghost use Rattle.bit_slice_views.specs.View.{view_head};
@@ -31,7 +31,7 @@ impl<T: BitRegister, O: FieldOrder<T>> BitField for BitSlice<'_, T, O> {
 
 impl<T: BitRegister, O: FieldOrder<T>> BitField for BitSliceMut<'_, T, O> {
     ghost use Rattle.std.specs.Prelude.{◌%◌};
-    ghost use Rattle.bit_slice_writes.specs.ViewMut.{lent_place};
+    ghost use Rattle.bit_slice_views_mut.specs.ViewMut.{lent_place};
 
     ghost low_first = { O.LOW_FIRST };
 

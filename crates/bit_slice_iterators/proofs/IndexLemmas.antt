@@ -5,10 +5,10 @@ use Rattle.std.proofs.Common.{◌≡◌, ◌⊎◌, ℕ, suc, ◌+◌, ◌-◌, 
 use Rattle.std.proofs.Common.{Some, None, length, get_or, position, count_by, refl, sym, ap, ◌∙◌, inl, inr, arith}
 use Rattle.std.proofs.lemmas.List.Quantifiers.{position-Some}
 use Rattle.std.proofs.lemmas.List.Recursion.{is_count_by}
-use Rattle.bit_addressing.specs.Memory.{piece}
+use Rattle.bit_addressing_memory.specs.Memory.{piece}
 use Rattle.bit_addressing_memory.proofs.MemoryLemmas.{length-piece, get_or-piece, piece_all, piece_join}
-use Rattle.bit_slice_scans.specs.Found.{last_position}
-use Rattle.bit_slice_scans.proofs.FoundLemmas.{position-None, last_position-Some, last_position-None}
+use Rattle.bit_slice_words.specs.Found.{last_position}
+use Rattle.bit_slice_words.proofs.FoundLemmas.{position-None, last_position-Some, last_position-None}
 use Rattle.bit_slice_iterators.proofs.BitLemmas.{piece_one}
 use Rattle.bit_slice_iterators.specs.Indices.{indices}
 

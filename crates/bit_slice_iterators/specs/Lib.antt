@@ -1,9 +1,14 @@
 pub mod Indices
--- the words of windows, memories, orders and registers
-pub use Rattle.bit_addressing.specs.BitOrder
-pub use Rattle.bit_addressing.specs.BitRegister
-pub use Rattle.bit_addressing.specs.Bits
-pub use Rattle.bit_addressing.specs.Memory
-pub use Rattle.bit_slice_scans.specs.Found
+pub mod Cuts
+pub mod Lending
+pub mod PiecesMut
+pub mod Remainder
+-- what public clauses cite of the crates below
+pub use Rattle.bit_addressing_memory.specs.BitOrder
+pub use Rattle.bit_addressing_memory.specs.BitRegister
+pub use Rattle.bit_addressing_memory.specs.Bits
+pub use Rattle.bit_addressing_memory.specs.Memory
+pub use Rattle.bit_slice_words.specs.Found
 pub use Rattle.bit_slice_views.specs.BitRef
 pub use Rattle.bit_slice_views.specs.View
+pub use Rattle.bit_slice_views_mut.specs.Frame

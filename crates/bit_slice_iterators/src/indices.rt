@@ -4,12 +4,12 @@ ghost use Rattle.std.specs.Prelude.{◌≡◌, ◌+◌, ◌-◌, ◌<◌, ◌≤
 ghost use Rattle.std.specs.Prelude.{Some};
 ghost use Rattle.std.specs.Iterator.{YieldsFirst, YieldsLast, item_count, UpTo};
 ghost use Rattle.std.specs.Iterator.SizeHint.{IsWithinCount};
-ghost use Rattle.bit_addressing.specs.Memory.{read_by};
-ghost use Rattle.bit_slice_scans.specs.Found.{is_bit, last_position};
+ghost use Rattle.bit_addressing_memory.specs.Memory.{read_by};
+ghost use Rattle.bit_slice_words.specs.Found.{is_bit, last_position};
 ghost use Rattle.bit_slice_views.specs.View.{view_bits};
 ghost use Rattle.bit_slice_iterators.specs.Indices.{indices};
 
-use bit_addressing::{BitOrder, BitRegister};
+use bit_addressing_memory::{BitOrder, BitRegister};
 use bit_slice_views::{BitSlice, Bits};
 use std::alloc::AllocError;
 use std::iter::FusedIterator;
@@ -88,8 +88,8 @@ pub type IterZeros<'a, T, O> = Indices<'a, T, O, Zeros>;
 
 impl<'a, T: BitRegister, O: BitOrder<T>, B: Sought> Model for Indices<'a, T, O, B> {
     ghost use Rattle.std.specs.Prelude.{ℕ, List, ◌+◌, ◌<◌, ◌^◌, length};
-    ghost use Rattle.bit_addressing.specs.Memory.{read_by};
-    ghost use Rattle.bit_slice_scans.specs.Found.{is_bit};
+    ghost use Rattle.bit_addressing_memory.specs.Memory.{read_by};
+    ghost use Rattle.bit_slice_words.specs.Found.{is_bit};
     ghost use Rattle.bit_slice_views.specs.View.{view_bits};
     ghost use Rattle.bit_slice_iterators.specs.Indices.{indices};
 

@@ -3,12 +3,12 @@
 ghost use Rattle.std.specs.Prelude.{◌≡◌, ◌+◌, ◌-◌, ◌<◌, ◌≤◌, ⊤, length, IfSome, Some};
 ghost use Rattle.std.specs.Iterator.{YieldsFirstBy, YieldsLastBy, item_count, UpTo};
 ghost use Rattle.std.specs.Iterator.SizeHint.{IsWithinCount};
-ghost use Rattle.bit_addressing.specs.Memory.{read_by};
+ghost use Rattle.bit_addressing_memory.specs.Memory.{read_by};
 ghost use Rattle.bit_slice_views.specs.BitRef.{bit_value};
 ghost use Rattle.bit_slice_views.specs.View.{view_bits};
 
 use crate::values::{BitRefIter, BitValIter};
-use bit_addressing::{BitOrder, BitRegister};
+use bit_addressing_memory::{BitOrder, BitRegister};
 use bit_slice_views::{BitRef, BitSlice, Bits};
 use std::alloc::AllocError;
 use std::iter::FusedIterator;
@@ -24,7 +24,7 @@ pub struct Iter<'a, T: BitRegister, O: BitOrder<T>> {
 
 impl<'a, T: BitRegister, O: BitOrder<T>> Model for Iter<'a, T, O> {
     ghost use Rattle.std.specs.Prelude.{Bool, List};
-    ghost use Rattle.bit_addressing.specs.Memory.{read_by};
+    ghost use Rattle.bit_addressing_memory.specs.Memory.{read_by};
     ghost use Rattle.bit_slice_views.specs.View.{view_bits};
 
     ghost Value = { List Bool };

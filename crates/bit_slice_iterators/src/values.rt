@@ -3,10 +3,10 @@
 ghost use Rattle.std.specs.Prelude.{◌≡◌, ◌+◌, ◌-◌, ◌<◌, ◌≤◌, ⊤, length, IfSome, Some};
 ghost use Rattle.std.specs.Iterator.{YieldsFirst, YieldsFirstRef, YieldsLast, YieldsLastRef, item_count, UpTo};
 ghost use Rattle.std.specs.Iterator.SizeHint.{IsWithinCount};
-ghost use Rattle.bit_addressing.specs.Memory.{read_by};
+ghost use Rattle.bit_addressing_memory.specs.Memory.{read_by};
 ghost use Rattle.bit_slice_views.specs.View.{view_bits};
 
-use bit_addressing::{BitOrder, BitRegister};
+use bit_addressing_memory::{BitOrder, BitRegister};
 use bit_slice_views::{BitSlice, Bits};
 use std::alloc::AllocError;
 use std::iter::FusedIterator;
@@ -22,7 +22,7 @@ pub struct BitValIter<'a, T: BitRegister, O: BitOrder<T>> {
 
 impl<'a, T: BitRegister, O: BitOrder<T>> Model for BitValIter<'a, T, O> {
     ghost use Rattle.std.specs.Prelude.{Bool, List};
-    ghost use Rattle.bit_addressing.specs.Memory.{read_by};
+    ghost use Rattle.bit_addressing_memory.specs.Memory.{read_by};
     ghost use Rattle.bit_slice_views.specs.View.{view_bits};
 
     ghost Value = { List Bool };

@@ -1,2 +1,4 @@
 pub mod AskLemmas
 pub mod CallerLemmas
+pub mod LentCallerLemmas
+pub mod SeekLemmas

@@ -10,7 +10,7 @@ use Rattle.std.specs.Fn.{Called, Mut}
 use Rattle.std.specs.Bool.{MatchBool}
 use Rattle.std.specs.Option.{MatchOption}
 use Rattle.std.specs.List.{FoldsTo, range_with_len}
-use Rattle.bit_addressing.specs.Memory.{piece}
+use Rattle.bit_addressing_memory.specs.Memory.{piece}
 
 -- a way to take a part off one end of a list of n bits: how many indices are tried at most, and which one as number k;
 -- where the predicate answered false m times, and then true or to no more, where the part begins and how long it is,

@@ -3,13 +3,13 @@
 ghost use Rattle.std.specs.Prelude.{◌≡◌, ◌+◌, ◌-◌, ◌<◌, ◌≤◌, true, false, length, if◌then◌else◌, IfSome, None};
 ghost use Rattle.std.specs.Iterator.{at_most, UpTo};
 ghost use Rattle.std.specs.Iterator.SizeHint.{IsWithinCount};
-ghost use Rattle.bit_addressing.specs.Memory.{piece, read_by};
+ghost use Rattle.bit_addressing_memory.specs.Memory.{piece, read_by};
 ghost use Rattle.bit_slice_views.specs.View.{view_bits};
 ghost use Rattle.bit_slice_splits.specs.Ways.{Ends, GivesPart, Parts};
 
 use crate::search::asked_in;
-use crate::ways::{FromBack, FromFront, InclusiveBack, InclusiveFront, Way};
-use bit_addressing::{BitOrder, BitRegister};
+use crate::ways::{FromBack, FromFront, InclusiveBack, InclusiveFront, SplitEnd};
+use bit_addressing_memory::{BitOrder, BitRegister};
 use bit_slice_views::{BitSlice, Bits};
 use std::marker::{Model, PhantomData};
 
@@ -18,7 +18,7 @@ use std::marker::{Model, PhantomData};
 ///
 /// After the last part it gives `None` for good.
 #[derive(Drop)]
-pub struct Splits<'a, T: BitRegister, O: BitOrder<T>, F, A: Way, B: Way> {
+pub struct Splits<'a, T: BitRegister, O: BitOrder<T>, F, A: SplitEnd, B: SplitEnd> {
     view: BitSlice<'a, T, O>,
     f: F,
     done: bool,
@@ -34,8 +34,9 @@ pub type RSplit<'a, T, O, F> = Splits<'a, T, O, F, FromBack, FromFront>;
 /// The parts that end with the bit where the predicate answers true.
 pub type SplitInclusive<'a, T, O, F> = Splits<'a, T, O, F, InclusiveFront, InclusiveBack>;
 
-impl<'a, T: BitRegister, O: BitOrder<T>, F, A: Way, B: Way> Model for Splits<'a, T, O, F, A, B> {
-    ghost use Rattle.bit_addressing.specs.Memory.{read_by};
+impl<'a, T: BitRegister, O: BitOrder<T>, F, A: SplitEnd, B: SplitEnd> Model
+    for Splits<'a, T, O, F, A, B> {
+    ghost use Rattle.bit_addressing_memory.specs.Memory.{read_by};
     ghost use Rattle.bit_slice_views.specs.View.{view_bits};
     ghost use Rattle.bit_slice_splits.specs.Ways.{SplitLeft};
 
@@ -48,7 +49,7 @@ impl<'a, T: BitRegister, O: BitOrder<T>, F, A: Way, B: Way> Model for Splits<'a,
     } };
 }
 
-impl<'a, T: BitRegister, O: BitOrder<T>, F, A: Way, B: Way> Splits<'a, T, O, F, A, B> {
+impl<'a, T: BitRegister, O: BitOrder<T>, F, A: SplitEnd, B: SplitEnd> Splits<'a, T, O, F, A, B> {
     /// The parts of a window, none where `done` is true.
     pub(crate) fn new(view: BitSlice<'a, T, O>, f: F, done: bool) -> Splits<'a, T, O, F, A, B>
         ensures bits { result.bits ≡ view_bits (read_by T.BitRegister O.position) view.entry }
@@ -80,8 +81,8 @@ impl<
     T: BitRegister + 'a,
     O: BitOrder<T>,
     F: FnMut(usize, &bool) -> bool + Drop,
-    A: Way,
-    B: Way,
+    A: SplitEnd,
+    B: SplitEnd,
 > Iterator for Splits<'a, T, O, F, A, B> {
     type Item = BitSlice<'a, T, O>;
 
@@ -117,8 +118,8 @@ impl<
     T: BitRegister + 'a,
     O: BitOrder<T>,
     F: FnMut(usize, &bool) -> bool + Drop,
-    A: Way,
-    B: Way,
+    A: SplitEnd,
+    B: SplitEnd,
 > DoubleEndedIterator for Splits<'a, T, O, F, A, B> {
     ghost can_next_back = { λ splits. F.IsAlwaysCallable splits.callee };
 

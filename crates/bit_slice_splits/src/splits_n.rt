@@ -3,13 +3,13 @@
 ghost use Rattle.std.specs.Prelude.{◌≡◌, false, IfSome, Some};
 ghost use Rattle.std.specs.Iterator.{at_most, UpTo};
 ghost use Rattle.std.specs.Iterator.SizeHint.{IsWithinCount};
-ghost use Rattle.bit_addressing.specs.Memory.{read_by};
+ghost use Rattle.bit_addressing_memory.specs.Memory.{read_by};
 ghost use Rattle.bit_slice_views.specs.View.{view_bits};
 ghost use Rattle.bit_slice_splits.specs.Ways.{PartsUpTo};
 
 use crate::splits::Splits;
-use crate::ways::{FromBack, FromFront, Way};
-use bit_addressing::{BitOrder, BitRegister};
+use crate::ways::{FromBack, FromFront, SplitEnd};
+use bit_addressing_memory::{BitOrder, BitRegister};
 use bit_slice_views::BitSlice;
 use std::marker::Model;
 
@@ -18,7 +18,7 @@ use std::marker::Model;
 ///
 /// After the last part it gives `None` for good.
 #[derive(Drop)]
-pub struct SplitsN<'a, T: BitRegister, O: BitOrder<T>, F, A: Way> {
+pub struct SplitsN<'a, T: BitRegister, O: BitOrder<T>, F, A: SplitEnd> {
     parts: Splits<'a, T, O, F, A, A>,
     count: usize,
 }
@@ -29,7 +29,7 @@ pub type SplitN<'a, T, O, F> = SplitsN<'a, T, O, F, FromFront>;
 /// So many parts from the back on.
 pub type RSplitN<'a, T, O, F> = SplitsN<'a, T, O, F, FromBack>;
 
-impl<'a, T: BitRegister, O: BitOrder<T>, F, A: Way> Model for SplitsN<'a, T, O, F, A> {
+impl<'a, T: BitRegister, O: BitOrder<T>, F, A: SplitEnd> Model for SplitsN<'a, T, O, F, A> {
     ghost use Rattle.bit_slice_splits.specs.Ways.{SplitNLeft};
 
     ghost Value = { SplitNLeft F };
@@ -37,7 +37,7 @@ impl<'a, T: BitRegister, O: BitOrder<T>, F, A: Way> Model for SplitsN<'a, T, O, 
     ghost view = { λ splits. record { parts = splits.parts; count = splits.count } };
 }
 
-impl<'a, T: BitRegister, O: BitOrder<T>, F, A: Way> SplitsN<'a, T, O, F, A> {
+impl<'a, T: BitRegister, O: BitOrder<T>, F, A: SplitEnd> SplitsN<'a, T, O, F, A> {
     /// At most `count` parts of a window.
     pub fn new(view: BitSlice<'a, T, O>, count: usize, f: F) -> SplitsN<'a, T, O, F, A>
         ensures bits { result.parts.bits ≡ view_bits (read_by T.BitRegister O.position) view.entry }
@@ -57,7 +57,7 @@ impl<
     T: BitRegister + 'a,
     O: BitOrder<T>,
     F: FnMut(usize, &bool) -> bool + Drop,
-    A: Way,
+    A: SplitEnd,
 > Iterator for SplitsN<'a, T, O, F, A> {
     type Item = BitSlice<'a, T, O>;
 

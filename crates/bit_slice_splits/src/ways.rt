@@ -19,7 +19,7 @@ pub struct Parting {
 }
 
 /// A way to take a part off one end of a list: each kind of splits has one for either end.
-pub trait Way {
+pub trait SplitEnd {
     ghost way: { SplitWay };
 
     /// How many indices of a list of `len` are tried at most.
@@ -50,7 +50,7 @@ pub trait Way {
 pub struct FromFront;
 
 #[tactic(auto, using(std::proofs::lemmas::Bool::Decides::nat_tests))]
-impl Way for FromFront {
+impl SplitEnd for FromFront {
     ghost way = { from_front };
 
     fn tries(len: usize) -> usize {
@@ -77,7 +77,7 @@ impl Way for FromFront {
 pub struct FromBack;
 
 #[tactic(auto, using(std::proofs::lemmas::Bool::Decides::nat_tests))]
-impl Way for FromBack {
+impl SplitEnd for FromBack {
     ghost way = { from_back };
 
     fn tries(len: usize) -> usize {
@@ -104,7 +104,7 @@ impl Way for FromBack {
 pub struct InclusiveFront;
 
 #[tactic(auto, using(std::proofs::lemmas::Bool::Decides::nat_tests))]
-impl Way for InclusiveFront {
+impl SplitEnd for InclusiveFront {
     ghost way = { inclusive_front };
 
     fn tries(len: usize) -> usize {
@@ -131,7 +131,7 @@ impl Way for InclusiveFront {
 pub struct InclusiveBack;
 
 #[tactic(auto, using(std::proofs::lemmas::Bool::Decides::nat_tests))]
-impl Way for InclusiveBack {
+impl SplitEnd for InclusiveBack {
     ghost way = { inclusive_back };
 
     fn tries(len: usize) -> usize {

@@ -1,23 +1,42 @@
-//! The tests of the slice layer: scans, changes, word paths and windows, against plain lists of bits, and rows.
+//! The tests of windows, their pieces and the numbers in them that no case of data can be: ranges, comparison and hash, words
+//! of a window, clones, loans, predicates with a state, commands; and what a user proves from their contracts alone.
 #![tactic(auto)]
 
+pub mod access_callers;
 #[cfg(test)]
-mod access;
+mod by_words;
+pub mod callers;
 #[cfg(test)]
-mod changes;
+mod chunks_mut;
 #[cfg(test)]
-mod edits;
+mod commands;
+mod fields;
+mod header;
+pub mod iter_callers;
 #[cfg(test)]
-mod paths;
+mod iterators;
 #[cfg(test)]
-mod plain;
+mod list;
+mod parts;
+#[cfg(test)]
+mod piece_rows;
+pub mod pieces;
 #[cfg(test)]
 mod rows;
 #[cfg(test)]
-mod scans;
+mod shared;
+pub mod split_callers;
 #[cfg(test)]
-mod shown;
+mod splits;
+#[cfg(test)]
+mod splits_mut;
+pub mod store_callers;
+#[cfg(test)]
+mod stores;
 #[cfg(test)]
 mod views;
-#[cfg(test)]
-mod writes;
+pub mod word_callers;
+
+pub use fields::{put, take};
+pub use header::{Header, passed, read, write};
+pub use parts::{network_number, put_in_part};

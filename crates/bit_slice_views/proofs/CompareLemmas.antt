@@ -8,9 +8,9 @@ use Rattle.std.proofs.Common.{IsTrue, refl, sym, ap, ◌∙◌, inl, inr, arith}
 use Rattle.std.proofs.lemmas.List.{length-take, length-drop}
 use Rattle.std.specs.Bool.{beq}
 use Rattle.std.specs.Cmp.Lexicographic.{pointwise}
-use Rattle.bit_addressing.specs.Memory.{Reading, entry, memory, piece}
-use Rattle.bit_addressing.proofs.WindowLemmas.{window_bit}
-use Rattle.bit_slice_scans.proofs.SameLemmas.{windows_equal}
+use Rattle.bit_addressing_memory.specs.Memory.{Reading, entry, memory, piece}
+use Rattle.bit_addressing_memory.proofs.WindowLemmas.{window_bit}
+use Rattle.bit_slice_words.proofs.SameLemmas.{windows_equal}
 use Rattle.bit_slice_views.proofs.ViewLemmas.{view_front, view_rest}
 
 cases_bool : (b : Bool) → (b ≡ true) ⊎ (b ≡ false)

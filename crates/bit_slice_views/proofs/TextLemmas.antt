@@ -12,7 +12,7 @@ use Rattle.std.specs.Int.{div_ceil, from_bool}
 use Rattle.std.proofs.lemmas.Grind.{div_ceil_times}
 use Rattle.std.proofs.Math.Nat.{mul-le-mul_right}
 use Rattle.std.specs.List.{range_with_len}
-use Rattle.bit_addressing.specs.Memory.{piece}
+use Rattle.bit_addressing_memory.specs.Memory.{piece}
 use Rattle.bit_addressing_memory.proofs.MemoryLemmas.{length-piece, piece_none}
 use Rattle.bit_slice_views.specs.Texts.{number_of, groups}
 

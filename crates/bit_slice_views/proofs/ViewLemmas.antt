@@ -8,7 +8,7 @@ use Rattle.std.proofs.lemmas.Nat.{div-add-mod'}
 use Rattle.std.proofs.lemmas.List.{append-nil, drop-drop, take_all, length-drop}
 use Rattle.std.proofs.lemmas.Bool.{cases_lt}
 use Rattle.std.proofs.Math.Nat.{mul-le-mul_right}
-use Rattle.bit_addressing.specs.Memory.{Reading, digits, memory, piece}
+use Rattle.bit_addressing_memory.specs.Memory.{Reading, digits, memory, piece}
 use Rattle.bit_addressing_memory.proofs.MemoryLemmas.{length-memory, memory-drop, piece_piece, piece_all}
 use Rattle.bit_addressing_memory.proofs.WindowLemmas.{length-window, window_bit}
 

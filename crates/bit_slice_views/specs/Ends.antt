@@ -1,7 +1,7 @@
 -- Runs of equal bits at the ends of a list.
 use Rattle.std.specs.Prelude.{ℕ, Bool, not, List, reverse}
 use Rattle.std.specs.List.{position_or_len}
-use Rattle.bit_slice_scans.specs.Found.{is_bit}
+use Rattle.bit_slice_words.specs.Found.{is_bit}
 
 -- how many bits stand before the first that is another than `bit`, or before the end
 abbrev pub leading : Bool → List Bool → ℕ

@@ -1,7 +1,7 @@
 -- What a window cut at the borders of its words shows: its parts' bits, in order, and how it is cut.
 use Rattle.std.specs.Prelude.{◌≡◌, ◌+◌, ◌<◌, Bool, List, [], ◌++◌, length, Option, Some, None, IfSome}
 use Rattle.std.specs.Borrow.{Bor}
-use Rattle.bit_addressing.specs.Memory.{Reading, memory}
+use Rattle.bit_addressing_memory.specs.Memory.{Reading, memory}
 use Rattle.bit_slice_views.specs.View.{view_bits, view_head}
 use Rattle.bit_slice_views.specs.declared.view.BitSlice.{BitSlice}
 use Rattle.bit_slice_views.specs.declared.bit_domain.BitDomain.{BitDomain}

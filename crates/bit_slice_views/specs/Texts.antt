@@ -5,7 +5,7 @@ use Rattle.std.specs.Prelude.{ℕ, ◌+◌, ◌*◌, Bool, false, List, length, 
 use Rattle.std.specs.Int.{div_ceil, from_bool}
 use Rattle.std.specs.Fmt.{digits}
 use Rattle.std.specs.List.{range_with_len}
-use Rattle.bit_addressing.specs.Memory.{piece}
+use Rattle.bit_addressing_memory.specs.Memory.{piece}
 use Rattle.bit_addressing_span.specs.Texts.{numbers_text}
 
 -- bits as a number, the first one highest

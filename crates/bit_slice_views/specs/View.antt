@@ -2,7 +2,7 @@
 --
 -- Its list: `view_bits`. Where it lies: `view_words`, `view_head`.
 use Rattle.std.specs.Prelude.{ℕ, Bool, List}
-use Rattle.bit_addressing.specs.Memory.{Reading, memory, piece}
+use Rattle.bit_addressing_memory.specs.Memory.{Reading, memory, piece}
 use Rattle.bit_slice_views.specs.declared.view.BitSlice.{BitSlice}
 
 -- the bits of a window, at words that are read so

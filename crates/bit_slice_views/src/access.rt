@@ -1,14 +1,14 @@
 //! One bit or a part of a window, by its index or at an end.
 
 ghost use Rattle.std.specs.Prelude.{◌≡◌, ◌-◌, ◌<◌, ◌≤◌, ◌↔◌, false, length, take, drop, slice_index_or, IfSome, IsSome};
-ghost use Rattle.bit_addressing.specs.Memory.{read_by};
+ghost use Rattle.bit_addressing_memory.specs.Memory.{read_by};
 ghost use Rattle.bit_slice_views.specs.BitRef.{bit_value};
 ghost use Rattle.bit_slice_views.specs.View.{view_bits, view_head};
 
 use crate::bits::Bits;
 use crate::index::{BitRef, BitSliceIndex};
 use crate::view::BitSlice;
-use bit_addressing::{BitOrder, BitRegister};
+use bit_addressing_memory::{BitOrder, BitRegister};
 use std::ops::Index;
 
 // By an index.

@@ -1,7 +1,7 @@
 //! A window cut at the borders of its words: its whole words, and what stands before and behind them.
 
 ghost use Rattle.std.specs.Prelude.{◌≡◌, ◌-◌, ◌<◌, ◌↔◌, length, IfSome, ⊤};
-ghost use Rattle.bit_addressing.specs.Memory.{read_by};
+ghost use Rattle.bit_addressing_memory.specs.Memory.{read_by};
 ghost use Rattle.bit_addressing_span.specs.Domain.{domain_bits, option_bits, IsCut, IsEnclave, IsHead, IsTail};
 ghost use Rattle.bit_addressing_span.specs.PartialElement.{partial_bits, partial_head, partial_tail};
 ghost use Rattle.bit_slice_views.specs.Parts.{option_view_bits, parts_bits, IsBitCut, IsHeadPart, IsOnePart};
@@ -9,7 +9,8 @@ ghost use Rattle.bit_slice_views.specs.Parts.{IsTailPart};
 ghost use Rattle.bit_slice_views.specs.View.{view_bits, view_head};
 
 use crate::view::BitSlice;
-use bit_addressing::{BitOrder, BitRegister, BitSpan, Domain, PartialElement};
+use bit_addressing_memory::{BitOrder, BitRegister};
+use bit_addressing_span::{BitSpan, Domain, PartialElement};
 use std::alloc::AllocError;
 
 /// A window cut into windows: one inside a word, touching neither of its edges, or whole words with a window inside one

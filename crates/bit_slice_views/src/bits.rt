@@ -8,18 +8,18 @@ ghost use Rattle.std.specs.Cmp.Lexicographic.{slice_cmp};
 ghost use Rattle.std.specs.Hash as fed;
 ghost use Rattle.std.specs.List.{list_all, list_any};
 ghost use Rattle.std.specs.Ordering.{bool_cmp};
-ghost use Rattle.bit_slice_scans.specs.Found.{is_bit, last_position};
-ghost use Rattle.bit_slice_scans.specs.Holds.{Holds};
+ghost use Rattle.bit_slice_words.specs.Found.{is_bit, last_position};
+ghost use Rattle.bit_slice_words.specs.Holds.{Holds};
 ghost use Rattle.bit_slice_views.specs.Ends.{leading, trailing};
-ghost use Rattle.bit_addressing.specs.Memory.{read_by};
+ghost use Rattle.bit_addressing_memory.specs.Memory.{read_by};
 ghost use Rattle.bit_slice_views.specs.BitRef.{bit_value};
 ghost use Rattle.bit_slice_views.specs.View.{view_bits};
 
 use crate::compare::{compare_views, equal_views, view_contains, view_ends, view_starts};
 use crate::index::BitRef;
 use crate::view::BitSlice;
-use bit_addressing::{BitOrder, BitRegister, read_entry};
-use bit_slice_scans::{count_ones_in, count_zeros_in, first_in, last_in};
+use bit_addressing_memory::{BitOrder, BitRegister, read_entry};
+use bit_slice_words::{count_ones_in, count_zeros_in, first_in, last_in};
 use std::cmp::Ordering;
 use std::hash::{Hash, Hasher};
 

@@ -3,17 +3,16 @@
 ghost use Rattle.std.specs.Prelude.{◌≡◌, ◌+◌, ◌-◌, ◌*◌, ◌^◌, ◌<◌, ◌≤◌, ◌↔◌, length, take, drop, IfSome, IsSome, IsTrue};
 ghost use Rattle.std.specs.Cmp.Lexicographic.{slice_cmp};
 ghost use Rattle.std.specs.Ordering.{bool_cmp, as_partial_cmp};
-ghost use Rattle.bit_addressing.specs.Memory.{memory, piece, read_by, reading_in};
-ghost use Rattle.bit_slice_scans.specs.Holds.{Holds};
+ghost use Rattle.bit_addressing_memory.specs.Memory.{memory, piece, read_by, reading_in};
+ghost use Rattle.bit_slice_words.specs.Holds.{Holds};
 ghost use Rattle.bit_slice_views.specs.Compare.{bits_eq, bits_cmp, bits_fed, bits_equiv, bits_per, bits_total};
 ghost use Rattle.bit_slice_views.specs.Compare.{bits_ties, bits_po, bits_alike};
 ghost use Rattle.bit_slice_views.specs.View.{view_bits};
 
 use crate::bits::Bits;
 use crate::view::BitSlice;
-use bit_addressing::{BitOrder, BitRegister};
-use bit_slice_paths::{Steps, WordPaths};
-use bit_slice_scans::{compare_in, contains_in, equal_in};
+use bit_addressing_memory::{BitOrder, BitRegister};
+use bit_slice_words::{Steps, WordPaths, compare_in, contains_in, equal_in};
 use std::cmp::Ordering;
 use std::hash::{Hash, Hasher};
 

@@ -2,7 +2,7 @@
 
 ghost use Rattle.std.specs.Prelude.{◌≡◌, ℕ, ◌+◌, ◌-◌, ◌*◌, ◌%◌, ◌<◌, ◌≤◌, Bool, List, false, length, slice_index_or};
 ghost use Rattle.std.specs.Prelude.{IfSome, IsSome, ◌↔◌, IsTrue};
-ghost use Rattle.bit_addressing.specs.Memory.{memory, piece, read_by};
+ghost use Rattle.bit_addressing_memory.specs.Memory.{memory, piece, read_by};
 ghost use Rattle.bit_addressing_span.specs.declared.span.TheConstants.{MAX_BITS};
 ghost use Rattle.bit_slice_views.specs.BitRef.{bit_value};
 ghost use Rattle.bit_slice_views.specs.View.{view_bits, view_head};
@@ -10,7 +10,7 @@ ghost use Rattle.bit_slice_views.specs.View.{view_bits, view_head};
 use crate::bits::Bits;
 use crate::range::BitRange;
 use crate::view::BitSlice;
-use bit_addressing::{BitOrder, BitRegister};
+use bit_addressing_memory::{BitOrder, BitRegister};
 use std::ops::Deref;
 
 /// One bit that was read: `*` gives it.

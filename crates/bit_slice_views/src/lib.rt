@@ -1,4 +1,4 @@
-//! Windows of bits to read, and all that is read of them.
+//! Windows of bits to read, and the stores that bits lie in: words, and arrays of words.
 #![tactic(auto)]
 
 mod access;
@@ -8,14 +8,17 @@ mod compare;
 mod index;
 mod make;
 mod range;
+mod sized;
+mod store;
 mod text;
 mod view;
 
 pub use bit_domain::{BitDomain, into_bit_domain};
-pub use bit_slice_stores::BitStore;
 pub use bits::Bits;
 pub use index::{BitRef, BitSliceIndex};
 pub use make::{ViewLimits, from_ref};
 pub use range::BitRange;
+pub use sized::BitViewSized;
+pub use store::BitStore;
 pub use text::{write_bits, write_groups};
 pub use view::BitSlice;

@@ -1,14 +1,15 @@
 //! Windows made: of no bits, of one word, of a slice of words.
 
 ghost use Rattle.std.specs.Prelude.{◌≡◌, ◌+◌, ◌-◌, ◌*◌, ◌/◌, ◌^◌, ◌≤◌, ◌↔◌, ℕ, length, min, [], ◌∷◌, IsOk, IfOk, IfErr};
-ghost use Rattle.bit_addressing.specs.Memory.{digits, memory, read_by};
+ghost use Rattle.bit_addressing_memory.specs.Memory.{digits, memory, read_by};
 ghost use Rattle.bit_addressing_span.specs.declared.span.TheConstants.{MAX_BITS};
 ghost use Rattle.bit_addressing_span.specs.declared.span_error.BitSpanError.TheVariants.{TooLong};
 ghost use Rattle.bit_slice_views.specs.View.{view_bits, view_words, view_head};
 
+use crate::store::BitStore;
 use crate::view::BitSlice;
-use bit_addressing::{BitOrder, BitRegister, BitSpanError, MAX_BITS};
-use bit_slice_stores::BitStore;
+use bit_addressing_memory::{BitOrder, BitRegister};
+use bit_addressing_span::{BitSpanError, MAX_BITS};
 
 /// How long a window can be, at these words. A contract knows these constants.
 pub trait ViewLimits: BitRegister {

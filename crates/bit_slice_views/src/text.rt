@@ -3,14 +3,14 @@
 
 ghost use Rattle.std.specs.Prelude.{◌≡◌, ◌<◌, ◌≤◌, true, false, length, Some};
 ghost use Rattle.std.specs.Fmt.{WritesOnOk, digits};
-ghost use Rattle.bit_addressing.specs.Memory.{piece, read_by};
+ghost use Rattle.bit_addressing_memory.specs.Memory.{piece, read_by};
 ghost use Rattle.bit_addressing_span.specs.Texts.{between, joined_text};
 ghost use Rattle.bit_slice_views.specs.Texts.{bits_text, groups, groups_text, number_of};
 ghost use Rattle.bit_slice_views.specs.View.{view_bits};
 
 use crate::bits::Bits;
 use crate::view::BitSlice;
-use bit_addressing::{BitOrder, BitRegister};
+use bit_addressing_memory::{BitOrder, BitRegister};
 use std::fmt;
 
 /// Writes each bit as a digit, in brackets, a comma and a space between two, as `[0, 1, 1]`: the plain and the binary

@@ -1,11 +1,11 @@
 //! A window of words, to read.
 
 ghost use Rattle.std.specs.Prelude.{◌≡◌, ◌+◌, ◌-◌, ◌*◌, ◌/◌, ◌%◌, ◌<◌, ◌≤◌, length, take, drop};
-ghost use Rattle.bit_addressing.specs.Memory.{memory, piece, read_by};
+ghost use Rattle.bit_addressing_memory.specs.Memory.{memory, piece, read_by};
 ghost use Rattle.bit_addressing_span.specs.declared.span.TheConstants.{MAX_BITS};
 
 use crate::bits::Bits;
-use bit_addressing::{BitIdx, BitOrder, BitRegister, mem};
+use bit_addressing_memory::{BitIdx, BitOrder, BitRegister, mem};
 use std::alloc::AllocError;
 use std::marker::PhantomData;
 

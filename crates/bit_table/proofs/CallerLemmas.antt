@@ -1,7 +1,7 @@
 -- What callers of a table know, from one place.
 use Rattle.std.proofs.Common.{ℕ, List, Option, IfSome}
 use Rattle.std.specs.Io.KnownBytes.{Appends}
-use Rattle.bit_table_script.specs.Runs.{RanToEnd}
+use Rattle.bit_table.specs.Runs.{RanToEnd}
 use Rattle.bit_table_commands.specs.Tables.{start}
 use Rattle.bit_table.specs.Scripts.{answers, script_answer}
 -- ---- the bits of a row, and chains over the words of a line
@@ -11,7 +11,7 @@ pub use Rattle.bit_table_layout.proofs.ImageLemmas.{images_tell_numbers, has_onl
 -- ---- commands, refused and cut off
 pub use Rattle.bit_table_commands.proofs.CallerLemmas
 -- ---- what a run wrote
-pub use Rattle.bit_table_script.proofs.CallerLemmas.{answered-to_end}
+pub use Rattle.bit_table.proofs.ScriptCallerLemmas.{answered-to_end}
 
 -- where the reader tells its bytes, a run of a script to the end wrote the answer to all of it
 pub script_answer-to_end : (given left old new : Option (List ℕ)) → RanToEnd (answers start) given left old new

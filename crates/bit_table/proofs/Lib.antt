@@ -1,3 +1,16 @@
+pub mod LetteredLemmas
+pub mod MarkedLemmas
+pub mod NumberLemmas
+pub mod TableLemmas
+pub mod MovedLemmas
+pub mod RowCommandLemmas
+pub mod Sending
+pub mod LineLemmas
+pub mod GoingLemmas
+pub mod Pieces
+pub mod ReachedLemmas
+pub mod ScriptCallerLemmas
+mod KnownRuns
 pub mod AnswerLemmas
 pub mod SessionLemmas
 pub mod CallerLemmas

@@ -1,7 +1,7 @@
 -- The answers to lines go on as the lines do.
 use Rattle.std.specs.Prelude.{ℕ, List, [], ◌∷◌, ◌++◌, refl}
 use Rattle.std.proofs.Common.{sym, ap, ◌∙◌, append_assoc}
-use Rattle.bit_table_script.specs.Lines.{IsBeginning}
+use Rattle.bit_table.specs.Lines.{IsBeginning}
 use Rattle.bit_table_commands.specs.Tables.{State}
 use Rattle.bit_table.specs.Scripts.{answer, after, answers}
 

@@ -7,7 +7,7 @@ use Rattle.bit_table_layout.specs.declared.cause.Cause.{Cause}
 use Rattle.bit_table_commands.specs.declared.command.Command.{Command}
 use Rattle.bit_table_commands.specs.declared.reply.Reply.TheVariants.{Done}
 use Rattle.bit_table_commands.specs.Commands.{command_of}
-use Rattle.bit_table_script.specs.Lines.{lines}
+use Rattle.bit_table.specs.Lines.{lines}
 use Rattle.bit_table_layout.specs.CauseWords.{refusal_text}
 use Rattle.bit_table_commands.specs.Replies.{reply_text}
 use Rattle.bit_table_commands.specs.Tables.{TableShape, State, start, table_in, state_with, new_table}

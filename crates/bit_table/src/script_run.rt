@@ -1,15 +1,17 @@
 //! The run of a script.
 ghost use Rattle.std.specs.Prelude.{◌≡◌, ◌*◌, ◌≤◌, ◌-◌, ◌^◌, ◌<◌, ◌↔◌, false, OnOk, IfSome, IsErrOf, IsTrue, length};
-ghost use Rattle.bit_table_script.specs.Ends.{input_reader, input_failed, output_writer, output_failed};
-ghost use Rattle.bit_table_script.specs.Runs.{RanToEnd, StoppedByRead, StoppedByWrite, StoppedByMemory};
+ghost use Rattle.bit_table.specs.Ends.{input_reader, input_failed, output_writer, output_failed};
+ghost use Rattle.bit_table.specs.Runs.{RanToEnd, StoppedByRead, StoppedByWrite, StoppedByMemory};
 ghost use Rattle.bit_table.specs.Scripts.{answers};
 ghost use Rattle.bit_table_commands.specs.Tables.{start};
 
 use super::session::Session;
-use bit_slice_paths::WordPaths;
-use bit_slice_stores::BitViewSized;
-use bit_table_digits::Digits;
-use bit_table_script::{Input, Output, RunError, drive};
+use crate::machine::drive;
+use crate::run_error::RunError;
+use crate::streams::{Input, Output};
+use bit_slice_views::BitViewSized;
+use bit_slice_words::WordPaths;
+use bit_table_fields::Digits;
 use std::alloc::Global;
 use std::io::{Read, Write};
 

@@ -6,13 +6,13 @@ ghost use Rattle.bit_table.specs.Scripts.{has_word, answer_by, after_by, state_o
 ghost use Rattle.bit_table.specs.Shapes.{shape_in};
 ghost use Rattle.bit_table_commands.specs.Tables.{start, state_with};
 
-use bit_slice_paths::WordPaths;
-use bit_slice_stores::BitViewSized;
+use crate::machine::LineMachine;
+use crate::table::Table;
+use bit_slice_views::BitViewSized;
+use bit_slice_words::WordPaths;
 use bit_table_commands::{Command, Reply};
-use bit_table_digits::Digits;
+use bit_table_fields::Digits;
 use bit_table_layout::{Cause, Fault, Layout, LayoutError, Words};
-use bit_table_script::LineMachine;
-use bit_table_store::Table;
 use std::alloc::{AllocError, Global};
 
 // What has come of a script so far: no layout yet, or a table.

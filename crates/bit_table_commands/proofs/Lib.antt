@@ -1,3 +1,4 @@
+mod KnownLetters
 mod ReadingLemmas
 pub mod DigitLemmas
 mod ReplyLemmas

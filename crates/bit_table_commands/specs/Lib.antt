@@ -1,3 +1,5 @@
+pub mod Letters
+pub mod LetterSets
 pub mod Commands
 pub mod CommandSteps
 pub mod Replies
@@ -8,6 +10,7 @@ pub mod Causes
 pub mod CauseSteps
 pub mod Accepted
 pub mod CuttingOff
+-- what public clauses cite of the crates below
 pub use Rattle.bit_table_layout.specs.CauseWords
 pub use Rattle.bit_table_layout.specs.Digits
 pub use Rattle.bit_table_layout.specs.Fields
@@ -18,10 +21,3 @@ pub use Rattle.bit_table_layout.specs.Loads
 pub use Rattle.bit_table_layout.specs.Numerals
 pub use Rattle.bit_table_layout.specs.Readings
 pub use Rattle.bit_table_layout.specs.Rows
-pub use Rattle.bit_table_layout.specs.declared.cause.Cause
-pub use Rattle.bit_table_layout.specs.declared.cause.Fault
-pub use Rattle.bit_table_layout.specs.declared.layout.Rule
-pub use Rattle.bit_table_layout.specs.declared.layout.TheConstants as Limits
-pub use Rattle.bit_table_letter.specs.Letters
-pub use Rattle.bit_table_letter.specs.Marks as LetterMarks
-pub use Rattle.bit_table_letter.specs.declared.bool_op.BoolOp

@@ -3,9 +3,9 @@ use Rattle.std.proofs.Common.{◌≡◌, ℕ, zero, suc, ◌+◌, ◌<◌, ◌�
 use Rattle.std.proofs.Common.{get_or, ℤ, pos, sym, refl, ap, ap₂, ◌∙◌, arith, append_assoc, length-append}
 use Rattle.std.proofs.lemmas.List.{append-nil, drop-drop, drop-take, length-take, places, same_lists, take-take}
 use Rattle.std.proofs.lemmas.List.Sums.{sum_by-cons, sum_by_more_le}
-use Rattle.bit_addressing.specs.Memory.{piece, with_piece}
+use Rattle.bit_addressing_memory.specs.Memory.{piece, with_piece}
 use Rattle.bit_table_layout.specs.declared.layout.Rule.{Rule}
-use Rattle.bit_table_digits.specs.Windows.{number_held}
+use Rattle.bit_table_fields.specs.Windows.{number_held}
 use Rattle.bit_table_layout.specs.Fields.{FieldShape}
 use Rattle.bit_table_layout.specs.Layouts.{row_width}
 use Rattle.bit_table_layout.specs.Readings.{number_from, numbers_from}

@@ -1,1 +1,4 @@
+pub mod WindowLemmas
+pub mod CallerLemmas
+mod KnownNumbers
 pub mod FieldLemmas

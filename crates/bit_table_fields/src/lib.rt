@@ -1,8 +1,13 @@
-//! Numbers, and rows of numbers, stored into bits and loaded from them, by the fields of a layout.
+//! Whole numbers in windows of bits by a digit rule, rows of numbers by the fields of a layout, and the order `HiLo`.
 #![tactic(auto)]
 
+mod digits;
+pub mod digits_by_bits;
+mod hi_lo;
 mod numbers;
 mod rows;
 
+pub use digits::Digits;
+pub use hi_lo::HiLo;
 pub use numbers::{load_number, store_number};
 pub use rows::{bits_before, load_row, store_row};

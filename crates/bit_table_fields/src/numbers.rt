@@ -1,14 +1,14 @@
 //! One number in bits of whatever shows them, by a digit rule.
 
 ghost use Rattle.std.specs.Prelude.{◌≡◌, ◌+◌, ◌≤◌, length};
-ghost use Rattle.bit_addressing.specs.Memory.{piece, with_piece};
-ghost use Rattle.bit_table_digits.specs.Windows.{number_held};
+ghost use Rattle.bit_addressing_memory.specs.Memory.{piece, with_piece};
+ghost use Rattle.bit_table_fields.specs.Windows.{number_held};
 ghost use Rattle.bit_table_layout.specs.Rows.{field_bits};
 
-use bit_slice_paths::Steps;
+use crate::digits::Digits;
 use bit_slice_views::Bits;
-use bit_slice_writes::BitsMut;
-use bit_table_digits::Digits;
+use bit_slice_views_mut::BitsMut;
+use bit_slice_words::Steps;
 use bit_table_layout::Rule;
 
 /// Makes the `width` bits from `at` on digits of a number: its `width` lowest, in the order of the rule. Every other

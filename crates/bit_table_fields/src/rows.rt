@@ -1,15 +1,15 @@
 //! A row of numbers in bits of whatever shows them, by the fields of a layout.
 
 ghost use Rattle.std.specs.Prelude.{◌≡◌, ◌+◌, ◌≤◌, length, take, IfOk};
-ghost use Rattle.bit_addressing.specs.Memory.{piece, with_piece};
+ghost use Rattle.bit_addressing_memory.specs.Memory.{piece, with_piece};
 ghost use Rattle.bit_table_layout.specs.Layouts.{row_width};
 ghost use Rattle.bit_table_layout.specs.Readings.{numbers_from};
 ghost use Rattle.bit_table_layout.specs.Rows.{numbers_bits};
 
+use crate::digits::Digits;
 use crate::numbers::{load_number, store_number};
 use bit_slice_views::Bits;
-use bit_slice_writes::BitsMut;
-use bit_table_digits::Digits;
+use bit_slice_views_mut::BitsMut;
 use bit_table_layout::Layout;
 use std::alloc::{AllocError, Global};
 

@@ -2,16 +2,16 @@
 
 ghost use Rattle.std.specs.Prelude.{◌≡◌, ◌↔◌, ◌⊎◌, ◌*◌, ◌<◌, ◌≤◌, true, false, pos, get_or, length, take, IfOk, IfErr};
 ghost use Rattle.std.specs.Prelude.{IsErrOf};
-ghost use Rattle.bit_addressing.specs.Memory.{read_by};
+ghost use Rattle.bit_addressing_memory.specs.Memory.{read_by};
 ghost use Rattle.bit_containers_vector.specs.Vector.{vec_bits, vec_head};
 ghost use Rattle.bit_table_layout.specs.Images.{HasOnlyNumbers};
 ghost use Rattle.bit_table_layout.specs.Layouts.{row_width};
 ghost use Rattle.bit_table_layout.specs.Loads.{bits_of_bytes, is_image, rows_in_bytes};
 ghost use Rattle.bit_table_layout.specs.Rows.{field_bits, table_bits};
 
-use bit_addressing::BitOrder;
+use bit_addressing_memory::BitOrder;
 use bit_containers_vector::BitVec;
-use bit_slice_stores::BitStore;
+use bit_slice_views::BitStore;
 use bit_table_layout::image::is_image;
 use bit_table_layout::{Cause, Fault, Layout, MAX_BITS, Rule};
 use std::alloc::{AllocError, Global};

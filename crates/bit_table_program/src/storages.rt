@@ -5,9 +5,9 @@ ghost use Rattle.bit_table.specs.Runs.{RanToEnd, StoppedByRead, StoppedByWrite, 
 ghost use Rattle.bit_table.specs.Scripts.{answers};
 ghost use Rattle.bit_table.specs.Tables.{start};
 
-use bit_addressing::{Lsb0, Msb0};
+use bit_addressing_memory::{Lsb0, Msb0};
 use bit_table::{HiLo, Input, Output, RunError, run};
-use bit_table_choice::{Order, Word};
+use bit_table_command_line::{Order, Word};
 use std::alloc::Global;
 use std::io::{Read, Write};
 

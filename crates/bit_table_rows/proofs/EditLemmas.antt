@@ -6,9 +6,9 @@ use Rattle.std.proofs.Common.{◌≡◌, ℕ, ◌+◌, ◌-◌, ◌*◌, ◌≤�
 use Rattle.std.proofs.Common.{arith, refl, ap, ap₂, ◌∙◌}
 use Rattle.std.specs.Prelude.{slice_range}
 use Rattle.std.proofs.lemmas.List.{append_assoc, places, same_lists}
-use Rattle.bit_addressing.specs.Memory.{piece, with_piece}
-use Rattle.bit_addressing.proofs.MemoryLemmas.{length-piece}
-use Rattle.bit_table_moves.specs.RowMoves.{rows_moved}
+use Rattle.bit_addressing_memory.specs.Memory.{piece, with_piece}
+use Rattle.bit_addressing_memory.proofs.MemoryLemmas.{length-piece}
+use Rattle.bit_table_rows.specs.RowMoves.{rows_moved}
 use Rattle.bit_table_rows.specs.RowEdits.{inserted, deleted, copied, exchanged, turned, Opens}
 use Rattle.bit_table_rows.proofs.PlaceLemmas.{place_order, place_apart, place_next}
 

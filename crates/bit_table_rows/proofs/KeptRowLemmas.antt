@@ -7,14 +7,14 @@ use Rattle.std.proofs.Common.{add-one, ap, ap₂, arith, get_or, inl, inr, not, 
 use Rattle.std.proofs.lemmas.Bool.{cases_Bool}
 use Rattle.std.proofs.lemmas.List.{take_all}
 use Rattle.std.specs.List.{count_by}
-use Rattle.bit_addressing.proofs.MemoryLemmas.{length-piece}
-use Rattle.bit_table_moves.proofs.KeptLemmas.{few_left, joined_next, joined_stays, left_of_next, left_of_stays}
-use Rattle.bit_table_moves.proofs.KeptLemmas.{left_stays}
-use Rattle.bit_table_moves.proofs.KeptLemmas.{length-joined, length-rows_left, more_left}
-use Rattle.bit_table_moves.specs.RowMoves.{row_at}
-use Rattle.bit_slice_writes.specs.Frame.{KeepsBeside}
-use Rattle.bit_addressing.specs.Memory.{Reading}
-use Rattle.bit_table_moves.specs.RowsKept.{KeepsRows, kept, left_before, left_of, rows_joined, rows_left}
+use Rattle.bit_addressing_memory.proofs.MemoryLemmas.{length-piece}
+use Rattle.bit_table_rows.proofs.KeptLemmas.{few_left, joined_next, joined_stays, left_of_next, left_of_stays}
+use Rattle.bit_table_rows.proofs.KeptLemmas.{left_stays}
+use Rattle.bit_table_rows.proofs.KeptLemmas.{length-joined, length-rows_left, more_left}
+use Rattle.bit_table_rows.specs.RowMoves.{row_at}
+use Rattle.bit_slice_views_mut.specs.Frame.{KeepsBeside}
+use Rattle.bit_addressing_memory.specs.Memory.{Reading}
+use Rattle.bit_table_rows.specs.RowsKept.{KeepsRows, kept, left_before, left_of, rows_joined, rows_left}
 use Rattle.bit_table_rows.proofs.PlaceLemmas.{place_end, place_order}
 use Rattle.bit_table_rows.proofs.RowListLemmas.{row_alone}
 use Rattle.bit_table_rows.specs.RowLists.{CutsRows}

@@ -1,6 +1,6 @@
 -- Known rows of two bits, edited on the definitions.
 use Rattle.std.proofs.Common.{◌≡◌, true, false, [], ◌∷◌, Bool, List, refl}
-use Rattle.bit_addressing.specs.Memory.{piece, with_piece}
+use Rattle.bit_addressing_memory.specs.Memory.{piece, with_piece}
 use Rattle.bit_table_rows.specs.RowEdits.{inserted, deleted, repeated, copied, exchanged, turned}
 
 -- four rows: 10, 11, 01, 00

@@ -12,8 +12,8 @@ use Rattle.std.specs.Prelude.{slice_range}
 use Rattle.std.specs.List.{swap}
 use Rattle.std.proofs.lemmas.Bool.{cases_eq}
 use Rattle.std.proofs.lemmas.List.{drop_more, places, same_lists}
-use Rattle.bit_addressing.specs.Memory.{piece, with_piece}
-use Rattle.bit_addressing.proofs.MemoryLemmas.{length-piece, length-with_piece}
+use Rattle.bit_addressing_memory.specs.Memory.{piece, with_piece}
+use Rattle.bit_addressing_memory.proofs.MemoryLemmas.{length-piece, length-with_piece}
 use Rattle.bit_table_rows.specs.RowEdits.{inserted, deleted, repeated, copied, exchanged, turned}
 use Rattle.bit_table_rows.specs.RowLists.{CutsRows}
 use Rattle.bit_table_rows.proofs.PlaceLemmas.{place_order, place_apart, place_behind, place_end, place_next}
@@ -217,7 +217,7 @@ module _ {X : Type 0} (w : ℕ) (rows : ℕ → List Bool → List X) (cuts : Cu
       ∙ ap₂ (λ a b. a ++ b) (rows_between n p (p + k) bits lower then_in all) (rows_behind n q bits within all)))
 
 -- one element read, and one written over another
-one_read : {X : Type 0} (xs : List X) (p : ℕ) (d : X) → p < length xs → piece xs p 1 ≡ get_or xs p d ∷ []
+pub one_read : {X : Type 0} (xs : List X) (p : ℕ) (d : X) → p < length xs → piece xs p 1 ≡ get_or xs p d ∷ []
 unfolding piece
 one_read xs p d low = ap (take 1) (drop_more xs p d low)
 

@@ -1,12 +1,25 @@
+pub mod RowMoves
+pub mod RowsKept
+pub mod KeepSteps
 pub mod RowEdits
 pub mod RowLists
--- the words of moves, vectors, windows and memories
-pub use Rattle.bit_table_moves.specs.RowMoves
-pub use Rattle.bit_table_moves.specs.RowsKept
+pub mod RowEdit
+pub mod Marks
+pub mod Walk
+pub mod Lists
+-- what public clauses cite of the crates below
+pub use Rattle.bit_addressing_memory.specs.BitIdx
+pub use Rattle.bit_addressing_memory.specs.BitOrder
+pub use Rattle.bit_addressing_memory.specs.BitRegister
+pub use Rattle.bit_addressing_memory.specs.Memory
+pub use Rattle.bit_addressing_memory.specs.Moves
+pub use Rattle.bit_addressing_memory.specs.Straight
+pub use Rattle.bit_addressing_memory.specs.Sweep
+pub use Rattle.bit_addressing_memory.specs.Ways
 pub use Rattle.bit_slice_views.specs.View
 pub use Rattle.bit_containers_vector.specs.Vector
-pub use Rattle.bit_slice_writes.specs.Frame
-pub use Rattle.bit_addressing.specs.BitOrder
-pub use Rattle.bit_addressing.specs.BitRegister
-pub use Rattle.bit_addressing.specs.Memory
-pub use Rattle.bit_addressing.specs.Moves
+pub use Rattle.bit_slice_views_mut.specs.Frame
+pub use Rattle.bit_table_layout.specs.Fields
+pub use Rattle.bit_table_layout.specs.Layouts
+pub use Rattle.bit_table_layout.specs.Readings
+pub use Rattle.bit_table_layout.specs.Rows

@@ -3,7 +3,7 @@
 --
 -- More: `inserted`, `repeated`. Fewer: `deleted`. As many: `copied`, `exchanged`, `turned`.
 use Rattle.std.specs.Prelude.{ℕ, ◌≡◌, ◌+◌, ◌-◌, List, ◌++◌, take, drop, slice_range}
-use Rattle.bit_addressing.specs.Memory.{piece, with_piece}
+use Rattle.bit_addressing_memory.specs.Memory.{piece, with_piece}
 
 -- ys put in before the place a
 abbrev pub inserted : {X : Type 0} → List X → ℕ → List X → List X

@@ -1,17 +1,17 @@
 //! Rows edited in place, in whatever writes its bits: no call takes memory, and each bit outside the list stays.
 
 ghost use Rattle.std.specs.Prelude.{◌≡◌, ◌+◌, ◌-◌, ◌*◌, ◌<◌, ◌≤◌, count_by, length, not};
-ghost use Rattle.bit_addressing.specs.Memory.{read_by, touched, with_piece};
-ghost use Rattle.bit_addressing.specs.Moves.{changed};
+ghost use Rattle.bit_addressing_memory.specs.Memory.{read_by, touched, with_piece};
+ghost use Rattle.bit_addressing_memory.specs.Moves.{changed};
 ghost use Rattle.bit_slice_views.specs.View.{view_bits};
-ghost use Rattle.bit_table_moves.specs.RowMoves.{rows_moved};
-ghost use Rattle.bit_table_moves.specs.RowsKept.{rows_kept};
+ghost use Rattle.bit_table_rows.specs.RowMoves.{rows_moved};
+ghost use Rattle.bit_table_rows.specs.RowsKept.{rows_kept};
 ghost use Rattle.bit_table_rows.specs.RowEdits.{copied, exchanged, turned};
 
 use crate::windows::{keep_window_rows, move_window_rows};
-use bit_slice_edits::BitsEdits;
+use bit_slice_access::BitsEdits;
 use bit_slice_views::{BitSlice, Bits};
-use bit_slice_writes::BitsMut;
+use bit_slice_views_mut::BitsMut;
 
 /// Moves the rows from `p` up to before `n` to where row `q` stands, and on from there, and answers how many words it
 /// wrote. The rows have `w` bits each and lie end to end from the first bit of the list on; source and target may

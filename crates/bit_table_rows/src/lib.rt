@@ -1,10 +1,21 @@
-//! Rows of bits that lie end to end in a list, edited in place: a list of any kind that is written, and a vector of
-//! bits.
+//! Rows of bits that lie end to end in a list, moved and edited in place, with the letters that they bear: 26 lists of
+//! bits, one entry a row each.
 #![tactic(auto)]
 
+mod combine;
+mod drops;
+mod edit;
 mod edits;
+mod keep;
+mod letters;
+mod lists;
+mod rows;
 mod vectors;
 mod windows;
 
+pub use edit::RowEdit;
 pub use edits::{copy_rows, keep_rows_in, move_rows_in, rotate_rows, swap_rows, write_row};
-pub use vectors::{delete_rows, dup_rows, insert_row, keep_rows_of};
+pub use keep::keep_rows;
+pub use letters::{LETTERS, Letters};
+pub use rows::move_rows;
+pub use vectors::{delete_rows, dup_rows, edit_rows, insert_row, keep_rows_of};

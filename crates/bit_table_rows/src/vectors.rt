@@ -1,18 +1,19 @@
 //! Rows put into a vector of bits, and taken out of it.
 
 ghost use Rattle.std.specs.Prelude.{◌≡◌, ◌+◌, ◌-◌, ◌*◌, ◌<◌, ◌≤◌, count_by, length, not, IfOk, IsOk, OnOk, OnErr};
-ghost use Rattle.bit_addressing.specs.Memory.{read_by, touched};
+ghost use Rattle.bit_addressing_memory.specs.Memory.{read_by, touched};
 ghost use Rattle.bit_addressing_span.specs.declared.span.TheConstants.{MAX_BITS};
 ghost use Rattle.bit_containers_vector.specs.Vector.{vec_bits, vec_head, room, HasRoomFor, IsAsBefore};
 ghost use Rattle.bit_slice_views.specs.View.{view_bits};
-ghost use Rattle.bit_table_moves.specs.RowsKept.{kept};
+ghost use Rattle.bit_table_rows.specs.RowsKept.{kept};
+ghost use Rattle.bit_table_rows.specs.RowEdit.{added, bits_edited_by, count_after, most_moved, LiesIn, WhereNew};
 ghost use Rattle.bit_table_rows.specs.RowEdits.{deleted, inserted, repeated, Opens};
 
-use crate::edits::{keep_rows_in, move_rows_in, write_row};
-use bit_addressing::BitOrder;
+use crate::edit::RowEdit;
+use crate::edits::{copy_rows, keep_rows_in, move_rows_in, rotate_rows, swap_rows, write_row};
+use bit_addressing_memory::BitOrder;
 use bit_containers_vector::BitVec;
-use bit_slice_stores::BitStore;
-use bit_slice_views::{BitSlice, Bits};
+use bit_slice_views::{BitSlice, BitStore, Bits};
 use std::alloc::AllocError;
 
 /// Puts a row in before row `p` of `n` rows of `w` bits each: the rows from there on move one row towards the end. `p`
@@ -163,4 +164,58 @@ pub fn dup_rows<T: BitStore, O: BitOrder<T>>(
         ≤ room (read_by T.BitRegister O.position) vector.new }
 {
     vector.extend_from_within(p * w..q * w)
+}
+
+/// Edits `n` rows of `w` bits each, and answers how many words the move of an insertion or a deletion wrote. `row` has
+/// the bits of a new row, and matters to an insertion alone.
+///
+/// A refusal leaves all as it was; with room for the rows that the edit adds no memory is asked for.
+pub fn edit_rows<T: BitStore, O: BitOrder<T>, V: Bits>(
+    vector: &mut BitVec<T, O>,
+    n: usize,
+    w: usize,
+    edit: RowEdit,
+    row: &V,
+) -> Result<usize, AllocError>
+    requires rows { length (vec_bits (read_by T.BitRegister O.position) vector.old) ≡ n * w }
+    requires begin { vec_head vector.old ≡ 0 }
+    requires some { 0 < w }
+    requires range { LiesIn n edit }
+    requires most { (n + added edit) * w ≤ MAX_BITS }
+    requires width { WhereNew edit (length (V.bits row.now) ≡ w) }
+    ensures bits { OnOk result (vec_bits (read_by T.BitRegister O.position) vector.new
+        ≡ bits_edited_by w (V.bits row.now) edit (vec_bits (read_by T.BitRegister O.position) vector.old)) }
+    ensures len { OnOk result (length (vec_bits (read_by T.BitRegister O.position) vector.new)
+        ≡ count_after n edit * w) }
+    ensures head { vec_head vector.new ≡ vec_head vector.old }
+    ensures err { OnErr result (IsAsBefore (read_by T.BitRegister O.position) vector.old vector.new) }
+    ensures succeeds { HasRoomFor (read_by T.BitRegister O.position) vector.old (added edit * w) → IsOk result }
+
+    // At most the words that the rows touch at their new places.
+    ensures writes { IfOk result (λ writes. writes ≤ most_moved T.BITS w n edit) }
+{
+    match edit {
+        RowEdit::Insert { place } => insert_row(vector, n, w, place, row),
+        RowEdit::Delete { start, upto } => Ok(delete_rows(vector, n, w, start, upto)),
+        RowEdit::Copy { start, upto, place } => {
+            copy_rows(vector, n, w, start, upto, place);
+            Ok(0)
+        }
+        RowEdit::Swap { row, other } => {
+            swap_rows(vector, n, w, row, other);
+            Ok(0)
+        }
+        RowEdit::Rotate {
+            start,
+            upto,
+            amount,
+        } => {
+            rotate_rows(vector, n, w, start, upto, amount);
+            Ok(0)
+        }
+        RowEdit::Dup { start, upto } => {
+            dup_rows(vector, n, w, start, upto)?;
+            Ok(0)
+        }
+    }
 }

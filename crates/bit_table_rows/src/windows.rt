@@ -2,16 +2,17 @@
 //! beside it.
 
 ghost use Rattle.std.specs.Prelude.{◌≡◌, ◌+◌, ◌-◌, ◌*◌, ◌^◌, ◌<◌, ◌≤◌, count_by, length, not};
-ghost use Rattle.bit_addressing.specs.Memory.{memory, piece, read_by, touched};
-ghost use Rattle.bit_addressing.specs.Moves.{changed};
+ghost use Rattle.bit_addressing_memory.specs.Memory.{memory, piece, read_by, touched};
+ghost use Rattle.bit_addressing_memory.specs.Moves.{changed};
 ghost use Rattle.bit_addressing_span.specs.declared.span.TheConstants.{MAX_BITS};
-ghost use Rattle.bit_slice_writes.specs.Frame.{KeepsBeside};
-ghost use Rattle.bit_table_moves.specs.RowMoves.{rows_moved};
-ghost use Rattle.bit_table_moves.specs.RowsKept.{rows_kept};
+ghost use Rattle.bit_slice_views_mut.specs.Frame.{KeepsBeside};
+ghost use Rattle.bit_table_rows.specs.RowMoves.{rows_moved};
+ghost use Rattle.bit_table_rows.specs.RowsKept.{rows_kept};
 
-use bit_addressing::{BitIdx, BitOrder, BitRegister, Sweep, Way, way_for};
+use crate::keep::keep_rows;
+use crate::rows::move_rows;
+use bit_addressing_memory::{BitIdx, BitOrder, BitRegister, Sweep, Way, way_for};
 use bit_slice_views::BitSlice;
-use bit_table_moves::{keep_rows, move_rows};
 
 // Moves rows of a window that begins in the first word, by one sweep, and answers how many words it wrote.
 pub(crate) fn move_window_rows<R: BitRegister, O: BitOrder<R>>(

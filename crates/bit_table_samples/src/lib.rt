@@ -2,13 +2,11 @@
 //! what callers of the table know.
 #![tactic(auto)]
 
-mod edges;
 mod machines;
 mod memory;
 mod streams;
 mod whole_script;
 
-pub use edges::ends_at;
 pub use machines::{Echo, echoed};
 pub use memory::answer_to;
 pub use streams::{Cut, Narrow, Stop};

@@ -2,9 +2,7 @@
 ghost use Rattle.std.specs.Prelude.{◌≡◌, ◌*◌, ◌≤◌, IfOk};
 ghost use Rattle.bit_table.specs.Scripts.{script_answer};
 
-use bit_slice_paths::WordPaths;
-use bit_slice_stores::BitViewSized;
-use bit_table::{Digits, Input, Output, RunError, run};
+use bit_table::*;
 use std::alloc::Global;
 
 /// What a run over memory writes, whatever the storage.

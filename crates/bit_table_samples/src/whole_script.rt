@@ -4,9 +4,7 @@ ghost use Rattle.std.specs.Io.KnownBytes.{Appends};
 ghost use Rattle.bit_table.specs.Ends.{input_reader, input_failed, output_writer, output_failed};
 ghost use Rattle.bit_table.specs.Scripts.{script_answer};
 
-use bit_slice_paths::WordPaths;
-use bit_slice_stores::BitViewSized;
-use bit_table::{Digits, Input, Output, RunError, run};
+use bit_table::{BitViewSized, Digits, Input, Output, RunError, WordPaths, run};
 use std::alloc::Global;
 use std::io::{Read, Write};
 

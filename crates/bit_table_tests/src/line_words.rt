@@ -1,4 +1,4 @@
-use bit_table::{Words, is_separator};
+use bit_table_layout::{Words, is_separator};
 
 #[test]
 fn words_stand_between_separators(rt: HostRuntime) {

@@ -1,4 +1,4 @@
-use bit_table::{is_number, number_up_to};
+use bit_table_layout::{is_number, number_up_to};
 
 #[test]
 fn numbers_are_taken_by_value(rt: HostRuntime) {

@@ -3,10 +3,13 @@
 //! It stands on `bit_addressing` alone. Each device is a span of the memory, and a command at one never reaches another.
 #![tactic(auto)]
 
+ghost use Rattle.std.specs.Prelude.{◌<◌};
+
 mod order;
 
 use bit_addressing::{
-    BitIdx, BitSpan, BitSpanError, SpanCommand, SpanReply, all_fit, disjoint, run,
+    BitEnd, BitIdx, BitSpan, BitSpanError, OrderCandidate, SpanCommand, SpanReply, all_fit,
+    disjoint, run, verify_for_type,
 };
 use order::UpperHalfFirst;
 use std::io;
@@ -47,7 +50,28 @@ fn main(rt: HostRuntime) -> io::Result<()> {
             SpanReply::Refused => println!(rt; "device {device}: refused")?,
         }
     }
-    println!(rt; "memory {:08x} {:08x}", memory[0], memory[1])
+    println!(rt; "memory {:08x} {:08x}", memory[0], memory[1])?;
+    show_order(&rt)
+}
+
+// Shows whether the devices' order is lawful, its mask of the first half of a word, and where four indices lie.
+fn show_order(rt: &HostRuntime) -> io::Result<()> {
+    let lawful = verify_for_type::<u32, UpperHalfFirst>().is_ok();
+    let half = UpperHalfFirst::mask(None, Some(BitEnd::new_unchecked(16))).into_inner();
+    let (first, last) = (position_of(0), position_of(31));
+    let (below, above) = (position_of(15), position_of(16));
+    println!(rt;
+        "order: lawful {lawful}, first half {half:08x}, indices 0 15 16 31 at {first} {below} {above} {last}"
+    )
+}
+
+// The position of an index in a word, by the devices' order.
+fn position_of(index: u8) -> u8
+    requires { index < 32 }
+{
+    BitIdx::<u32>::new_unchecked(index)
+        .position::<UpperHalfFirst>()
+        .into_inner()
 }
 
 // The timer has 20 bits, the port the next 8, and the counter 12 more, which begin in the first word and end in the second.

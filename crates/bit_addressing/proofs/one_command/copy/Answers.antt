@@ -1,6 +1,6 @@
 use Rattle.std.proofs.Common.{arith, ◌≡◌, ◌+◌, inl, inr}
 use Rattle.bit_addressing_memory.specs.Memory.{read_by}
-use Rattle.bit_addressing_memory.specs.Pointer.{memory_place}
+use Rattle.bit_addressing.specs.Pointer.{memory_place}
 use Rattle.bit_addressing.proofs.BitCommandLemmas.{carried_copy, carried_nothing, copy_out}
 use Rattle.bit_addressing.proofs.CommandLemmas.{lies_in_memory, place_fits, refused}
 use Rattle.bit_addressing.proofs.one_command.copy.Goals as goal

@@ -1,7 +1,7 @@
 use Rattle.std.proofs.Common.{arith, ◌≡◌, ◌+◌}
 use Rattle.std.proofs.lemmas.Bool.Decides.{nat_tests}
 use Rattle.bit_addressing_memory.specs.Memory.{read_by}
-use Rattle.bit_addressing_memory.specs.Pointer.{memory_place}
+use Rattle.bit_addressing.specs.Pointer.{memory_place}
 use Rattle.bit_addressing.proofs.BitCommandLemmas.{carried_swap}
 use Rattle.bit_addressing.proofs.CommandLemmas.{lies_in_memory, place_fits, refused}
 use Rattle.bit_addressing_span.specs.Span.{span_place}

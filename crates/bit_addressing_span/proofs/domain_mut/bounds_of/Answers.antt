@@ -1,5 +1,5 @@
 use Rattle.std.proofs.Common.{arith}
-use Rattle.bit_addressing_span.proofs.PartsLemmas.{part_start}
+use Rattle.bit_addressing_memory.proofs.PartsLemmas.{part_start}
 use Rattle.bit_addressing_span.proofs.domain_mut.bounds_of.Goals as goal
 
 pub part_between-head-requires-clause-before : goal.part_between-head-requires-clause-before

@@ -1,5 +1,5 @@
 use Rattle.std.proofs.Common.{◌≡◌}
-use Rattle.bit_addressing.specs.Memory.{read_by}
+use Rattle.bit_addressing_memory.specs.Memory.{read_by}
 use Rattle.bit_containers.specs.Repeated.{repeated}
 use Rattle.bit_containers_vector.specs.Vector.{vec_bits, vec_head}
 use Rattle.bit_slice_views.specs.View.{view_bits}

@@ -1,5 +1,5 @@
 use Rattle.std.proofs.Common.{◌≡◌, ◌*◌, length, arith, ap}
-use Rattle.bit_addressing.specs.Memory.{read_by}
+use Rattle.bit_addressing_memory.specs.Memory.{read_by}
 use Rattle.bit_containers_box.proofs.FillLemmas.{filled_beside}
 use Rattle.bit_containers_box.proofs.words.fill_beside.Goals as goal
 

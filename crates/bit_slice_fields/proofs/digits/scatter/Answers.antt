@@ -1,9 +1,9 @@
 use Rattle.std.proofs.Common.{◌≡◌, ◌<◌, false, subst, sym, ap, ◌∙◌, arith}
-use Rattle.bit_addressing.specs.Bits.{digit_at, bits_in_order}
-use Rattle.bit_addressing.specs.Memory.{read_by, Overwrites}
-use Rattle.bit_addressing.proofs.OrderCallerLemmas.{get_or-bits_in_order, length-bits_in_order}
-use Rattle.bit_slice_changes.proofs.ListLemmas.{overwritten_list}
-use Rattle.bit_slice_changes.proofs.StretchLemmas.{stretch_more}
+use Rattle.bit_addressing_memory.specs.Bits.{digit_at, bits_in_order}
+use Rattle.bit_addressing_memory.specs.Memory.{read_by, Overwrites}
+use Rattle.bit_addressing_memory.proofs.OrderCallerLemmas.{get_or-bits_in_order, length-bits_in_order}
+use Rattle.bit_slice_words.proofs.ListLemmas.{overwritten_list}
+use Rattle.bit_slice_words.proofs.ChangedStretchLemmas.{stretch_more}
 use Rattle.bit_slice_fields.specs.Digits.{cut_weight}
 use Rattle.bit_slice_fields.proofs.digits.scatter.Goals as goal
 

@@ -1,5 +1,5 @@
-use Rattle.bit_addressing.specs.Bits.{digit_at}
-use Rattle.bit_addressing.specs.Memory.{read_by, Overwrites}
+use Rattle.bit_addressing_memory.specs.Bits.{digit_at}
+use Rattle.bit_addressing_memory.specs.Memory.{read_by, Overwrites}
 use Rattle.bit_slice_fields.specs.Digits.{cut_weight}
 use Rattle.bit_slice_fields.proofs.digits.scatter.Given as goal
 

@@ -1,5 +1,5 @@
 use Rattle.std.proofs.Common.{◌<◌, ◌≤◌, arith, ap, ◌∙◌}
-use Rattle.bit_addressing.specs.Bits.{bits_in_order}
+use Rattle.bit_addressing_memory.specs.Bits.{bits_in_order}
 use Rattle.bit_slice_fields.specs.Digits.{cut_weight}
 use Rattle.bit_slice_fields.proofs.DigitsLemmas.{stored_bits}
 use Rattle.bit_slice_fields.proofs.digits.store_window.Goals as goal

@@ -11,7 +11,7 @@ loop-k-init g c = record { callable = search of_calls; before = refl }
 
 pub loop-k-preserved : goal.loop-k-preserved
 loop-k-preserved g c =
-    let way = g.W.Way.way in
+    let way = g.W.SplitEnd.way in
     let bits = g.V.Bits.bits c.args.view.now in
     let k = c.loop-k.k in
     let at : c.index-i.result ≡ way.index (length bits) k =
@@ -25,7 +25,7 @@ loop-k-preserved g c =
 
 pub returns-then-f-clause-asks : goal.returns-then-f-clause-asks
 returns-then-f-clause-asks g c =
-    let way = g.W.Way.way in
+    let way = g.W.SplitEnd.way in
     let bits = g.V.Bits.bits c.args.view.now in
     let k = c.loop-k.k in
     let count : c.tries-tries.result ≡ way.tries (length bits) =
@@ -41,7 +41,7 @@ returns-then-f-clause-asks g c =
 
 pub returns-clause-asks : goal.returns-clause-asks
 returns-clause-asks g c =
-    let way = g.W.Way.way in
+    let way = g.W.SplitEnd.way in
     let bits = g.V.Bits.bits c.args.view.now in
     let count : c.tries-tries.result ≡ way.tries (length bits) =
     c.tries-tries.ensures.count ∙ ap way.tries c.len-len.ensures in

@@ -1,6 +1,6 @@
 use Rattle.std.proofs.Common.{not, arith, sym, ◌∙◌}
-use Rattle.bit_addressing.specs.Memory.{read_by}
-use Rattle.bit_slice_scans.specs.Found.{is_bit}
+use Rattle.bit_addressing_memory.specs.Memory.{read_by}
+use Rattle.bit_slice_words.specs.Found.{is_bit}
 use Rattle.bit_slice_views.specs.View.{view_bits}
 use Rattle.bit_slice_views.proofs.EndLemmas.{last_at, last_none}
 use Rattle.bit_slice_views.proofs.bits.trailing_of.Goals as goal

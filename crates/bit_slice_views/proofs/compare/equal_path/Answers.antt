@@ -1,5 +1,5 @@
 use Rattle.std.proofs.Common.{◌<◌, arith}
-use Rattle.bit_addressing.specs.Memory.{read_by}
+use Rattle.bit_addressing_memory.specs.Memory.{read_by}
 use Rattle.bit_slice_views.proofs.CompareLemmas.{windows_told}
 use Rattle.bit_slice_views.proofs.compare.equal_path.Goals as goal
 

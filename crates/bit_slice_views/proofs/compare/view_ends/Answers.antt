@@ -1,4 +1,4 @@
-use Rattle.bit_addressing.specs.Memory.{read_by}
+use Rattle.bit_addressing_memory.specs.Memory.{read_by}
 use Rattle.bit_slice_views.specs.View.{view_bits}
 use Rattle.bit_slice_views.proofs.CompareLemmas.{ends_decided}
 use Rattle.bit_slice_views.proofs.compare.view_ends.Goals as goal

@@ -1,5 +1,5 @@
 use Rattle.std.proofs.Common.{◌≡◌, ◌+◌, ◌-◌, ◌≤◌, length, min, refl, sym, ap, ◌∙◌, arith}
-use Rattle.bit_addressing.specs.Memory.{piece}
+use Rattle.bit_addressing_memory.specs.Memory.{piece}
 use Rattle.bit_addressing_memory.proofs.MemoryLemmas.{piece_none}
 use Rattle.bit_slice_views.specs.Texts.{number_of}
 use Rattle.bit_slice_views.proofs.TextLemmas.{bit_small, group_small, number_more, piece_ends}

@@ -1,5 +1,5 @@
 use Rattle.std.proofs.Common.{◌≡◌}
-use Rattle.bit_addressing.specs.Memory.{piece}
+use Rattle.bit_addressing_memory.specs.Memory.{piece}
 use Rattle.bit_slice_views.specs.Texts.{number_of}
 use Rattle.bit_slice_views.proofs.text.group_at.Given as goal
 

@@ -3,7 +3,7 @@ use Rattle.std.proofs.Output.{has_written_append}
 use Rattle.std.proofs.lemmas.List.FromFn.{map-range_with_len_more}
 use Rattle.std.specs.Fmt.{HasWritten, digits}
 use Rattle.std.specs.List.{range_with_len}
-use Rattle.bit_addressing.specs.Memory.{piece}
+use Rattle.bit_addressing_memory.specs.Memory.{piece}
 use Rattle.bit_addressing_span.proofs.TextLemmas.{joined_more, begun_more}
 use Rattle.bit_slice_views.specs.Texts.{number_of}
 use Rattle.bit_slice_views.proofs.text.write_digits.Goals as goal

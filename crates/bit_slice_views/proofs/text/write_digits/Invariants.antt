@@ -1,7 +1,7 @@
 use Rattle.std.proofs.Common.{◌≡◌, ◌*◌, false, map}
 use Rattle.std.specs.Fmt.{HasWritten, IsPlainFormatter, digits}
 use Rattle.std.specs.List.{range_with_len}
-use Rattle.bit_addressing.specs.Memory.{piece}
+use Rattle.bit_addressing_memory.specs.Memory.{piece}
 use Rattle.bit_addressing_span.specs.Texts.{joined_text, begun_after}
 use Rattle.bit_slice_views.specs.Texts.{number_of}
 use Rattle.bit_slice_views.proofs.text.write_digits.Given as goal

@@ -4,7 +4,7 @@ use Rattle.std.proofs.lemmas.Int.{to_z-of_z}
 use Rattle.std.proofs.lemmas.List.Sums.{sum_by_more, sum_by_more_le}
 use Rattle.bit_table_layout.specs.Fields.{FieldShape}
 use Rattle.bit_table_layout.specs.Layouts.{row_width}
-use Rattle.bit_table_digits.proofs.WindowLemmas.{none_written}
+use Rattle.bit_table_fields.proofs.WindowLemmas.{none_written}
 use Rattle.bit_table_fields.proofs.FieldLemmas.{stored_more}
 use Rattle.bit_table_fields.proofs.rows.store_row.Goals as goal
 

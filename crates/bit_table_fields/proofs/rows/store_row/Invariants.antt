@@ -1,5 +1,5 @@
 use Rattle.std.proofs.Common.{◌≡◌, ◌+◌, length, take}
-use Rattle.bit_addressing.specs.Memory.{with_piece}
+use Rattle.bit_addressing_memory.specs.Memory.{with_piece}
 use Rattle.bit_table_layout.specs.Layouts.{row_width}
 use Rattle.bit_table_layout.specs.Rows.{numbers_bits}
 use Rattle.bit_table_fields.proofs.rows.store_row.Given as goal

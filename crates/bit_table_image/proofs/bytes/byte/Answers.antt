@@ -1,4 +1,4 @@
-use Rattle.bit_addressing.specs.Memory.{read_by}
+use Rattle.bit_addressing_memory.specs.Memory.{read_by}
 use Rattle.bit_slice_views.specs.View.{view_bits}
 use Rattle.std.proofs.Common.{◌≡◌, ◌+◌, ◌*◌, ◌≤◌, true, false, cond, get_or, sym, ap, ◌∙◌, arith, rules}
 use mir.Val.{bool_byte}

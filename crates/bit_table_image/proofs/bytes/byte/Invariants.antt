@@ -1,6 +1,6 @@
 use Rattle.std.proofs.Common.{◌≡◌, map, reverse}
 use Rattle.std.specs.List.{range_with_len}
-use Rattle.bit_addressing.specs.Memory.{read_by}
+use Rattle.bit_addressing_memory.specs.Memory.{read_by}
 use Rattle.bit_slice_views.specs.View.{view_bits}
 use Rattle.bit_table_layout.specs.Digits.{binary}
 use Rattle.bit_table_image.proofs.ByteLemmas.{read_bit}

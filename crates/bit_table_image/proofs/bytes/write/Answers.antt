@@ -1,6 +1,6 @@
 use Rattle.std.proofs.Common.{◌*◌, ◌∷◌, [], ◌++◌, take, drop, sym, ap₂, ◌∙◌, arith}
 use Rattle.std.proofs.lemmas.List.FromFn.{map-range_with_len_more}
-use Rattle.bit_addressing.specs.Memory.{read_by}
+use Rattle.bit_addressing_memory.specs.Memory.{read_by}
 use Rattle.bit_slice_views.specs.View.{view_bits}
 use Rattle.bit_table_layout.specs.Images.{byte_of}
 use Rattle.bit_table_image.proofs.bytes.write.Goals as goal

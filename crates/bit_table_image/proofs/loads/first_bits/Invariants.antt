@@ -1,5 +1,5 @@
 use Rattle.std.proofs.Common.{◌≡◌, take}
-use Rattle.bit_addressing.specs.Memory.{read_by}
+use Rattle.bit_addressing_memory.specs.Memory.{read_by}
 use Rattle.bit_containers_vector.specs.Vector.{vec_bits, vec_head}
 use Rattle.bit_table_layout.specs.Loads.{bits_of_bytes}
 use Rattle.bit_table_image.proofs.loads.first_bits.Given as goal

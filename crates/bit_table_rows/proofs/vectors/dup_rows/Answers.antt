@@ -1,6 +1,6 @@
 use Rattle.std.proofs.Common.{◌-◌, ◌*◌, ◌++◌, Result, Ok, Err, OnOk, length, arith, ap, ◌∙◌, length-append}
-use Rattle.bit_addressing.specs.Memory.{piece, read_by}
-use Rattle.bit_addressing.proofs.MemoryLemmas.{length-piece}
+use Rattle.bit_addressing_memory.specs.Memory.{piece, read_by}
+use Rattle.bit_addressing_memory.proofs.MemoryLemmas.{length-piece}
 use Rattle.bit_containers_vector.specs.Vector.{vec_bits}
 use Rattle.bit_table_rows.proofs.EditLemmas.{range_is}
 use Rattle.bit_table_rows.proofs.PlaceLemmas.{place_apart, place_behind, place_order}

@@ -1,10 +1,10 @@
 use Rattle.std.proofs.Common.{arith, ◌*◌, ◌≤◌, ◌∙◌, ap, length, not, take}
 use Rattle.std.proofs.lemmas.List.Sums.{count_by-le-length}
-use Rattle.bit_addressing.specs.Memory.{read_by}
+use Rattle.bit_addressing_memory.specs.Memory.{read_by}
 use Rattle.bit_containers_vector.specs.Vector.{vec_bits}
 use Rattle.bit_slice_views.specs.View.{view_bits}
-use Rattle.bit_table_moves.proofs.CallerLemmas.{front_kept}
-use Rattle.bit_table_moves.specs.RowsKept.{rows_kept}
+use Rattle.bit_table_rows.proofs.MoveCallerLemmas.{front_kept}
+use Rattle.bit_table_rows.specs.RowsKept.{rows_kept}
 use Rattle.bit_table_rows.proofs.PlaceLemmas.{place_order}
 use Rattle.bit_table_rows.proofs.vectors.keep_rows_of.Goals as goal
 

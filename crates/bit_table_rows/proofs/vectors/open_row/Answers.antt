@@ -1,8 +1,8 @@
 use Rattle.std.proofs.Common.{◌+◌, ◌-◌, ◌*◌, ◌<◌, ◌≡◌, false, ◌++◌, length, replicate, arith, ap, ◌∙◌}
 use Rattle.std.proofs.lemmas.List.{length-replicate}
-use Rattle.bit_addressing.specs.Memory.{read_by}
+use Rattle.bit_addressing_memory.specs.Memory.{read_by}
 use Rattle.bit_containers_vector.specs.Vector.{vec_bits}
-use Rattle.bit_table_moves.specs.RowMoves.{rows_moved}
+use Rattle.bit_table_rows.specs.RowMoves.{rows_moved}
 use Rattle.bit_table_rows.proofs.EditLemmas.{rows_opened}
 use Rattle.bit_table_rows.proofs.PlaceLemmas.{place_next}
 use Rattle.bit_table_rows.proofs.vectors.open_row.Goals as goal

@@ -1,9 +1,9 @@
 use Rattle.std.proofs.Common.{rules}
-use Rattle.bit_addressing.specs.Memory.{read_by}
-use Rattle.bit_addressing.specs.Sweep.{sweep_words}
+use Rattle.bit_addressing_memory.specs.Memory.{read_by}
+use Rattle.bit_addressing_memory.specs.Sweep.{sweep_words}
 use Rattle.bit_slice_views.specs.View.{view_bits}
-use Rattle.bit_slice_writes.specs.Frame.{KeepsBeside}
-use Rattle.bit_table_moves.specs.RowsKept.{KeepsRows}
+use Rattle.bit_slice_views_mut.specs.Frame.{KeepsBeside}
+use Rattle.bit_table_rows.specs.RowsKept.{KeepsRows}
 use Rattle.bit_table_rows.proofs.KeptRowLemmas.{kept_beside}
 use Rattle.bit_table_rows.proofs.windows.keep_window_rows.Goals as goal
 

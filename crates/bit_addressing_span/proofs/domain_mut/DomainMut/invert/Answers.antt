@@ -2,7 +2,7 @@ use Rattle.std.proofs.Common.{ℕ, ◌+◌, ◌<◌, length, get_or, ap, arith}
 use Rattle.bit_addressing_memory.specs.Memory.{read_by}
 use Rattle.bit_addressing_span.specs.Parts.{part_from}
 use Rattle.bit_addressing_span.specs.DomainMut.{domain_span}
-use Rattle.bit_addressing_span.proofs.PartsLemmas.{stores_flipped}
+use Rattle.bit_addressing_memory.proofs.PartsLemmas.{stores_flipped}
 use Rattle.bit_addressing_span.proofs.domain_mut.DomainMut.invert.Goals as goal
 
 pub returns-clause-now : goal.returns-clause-now

@@ -1,7 +1,7 @@
 use Rattle.std.proofs.Common.{◌≡◌, ◌+◌, ◌*◌, ◌<◌, length, get_or, ap, arith}
 use Rattle.bit_addressing_memory.specs.Memory.{read_by}
 use Rattle.bit_addressing_span.specs.PartialElementMut.{part_words, part_head}
-use Rattle.bit_addressing_span.proofs.PartsLemmas.{stores_flipped}
+use Rattle.bit_addressing_memory.proofs.PartsLemmas.{stores_flipped}
 use Rattle.bit_addressing_span.proofs.partial_mut.PartialElementMut.invert.Goals as goal
 
 pub returns-clause-now : goal.returns-clause-now

@@ -1,6 +1,6 @@
 use Rattle.std.proofs.Common.{◌≡◌, sym, ap, ◌∙◌, refl}
-use Rattle.bit_addressing.specs.Memory.{memory, piece, read_by}
-use Rattle.bit_slice_writes.specs.FrameLaws.{shown_window}
+use Rattle.bit_addressing_memory.specs.Memory.{memory, piece, read_by}
+use Rattle.bit_slice_views_mut.specs.FrameLaws.{shown_window}
 use Rattle.bit_containers_array.proofs.LeftLemmas.{left_lent}
 use Rattle.bit_containers_array.proofs.iter.IntoIter.as_mut_bitslice.Goals as goal
 

@@ -1,6 +1,6 @@
 use Rattle.std.proofs.Common.{◌-◌, ◌<◌, ◌∷◌, [], length, get_or, false, arith, rules, ap, ◌∙◌}
 use Rattle.std.proofs.lemmas.List.{length-append}
-use Rattle.bit_addressing.specs.Memory.{piece, read_by}
+use Rattle.bit_addressing_memory.specs.Memory.{piece, read_by}
 use Rattle.bit_containers_array.specs.Array.{array_bits}
 use Rattle.bit_containers_array.proofs.LeftLemmas.{left-last}
 use Rattle.bit_containers_array.proofs.iter.IntoIterDoubleEndedIterator.next_back.Goals as goal

@@ -1,5 +1,5 @@
 use Rattle.std.proofs.Common.{◌-◌, ◌<◌, length, get_or, false, arith, rules, ap, ◌∙◌}
-use Rattle.bit_addressing.specs.Memory.{piece, read_by}
+use Rattle.bit_addressing_memory.specs.Memory.{piece, read_by}
 use Rattle.bit_containers_array.specs.Array.{array_bits, array_words}
 use Rattle.bit_containers_array.proofs.LeftLemmas.{left_low, first_short, left-first}
 use Rattle.bit_containers_array.proofs.iter.IntoIterIterator.next.Goals as goal

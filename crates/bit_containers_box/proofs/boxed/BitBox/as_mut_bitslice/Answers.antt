@@ -1,8 +1,8 @@
 use Rattle.std.proofs.Common.{◌≡◌, ap, sym, ◌∙◌, refl, arith}
-use Rattle.bit_addressing.specs.Memory.{memory, piece, read_by}
+use Rattle.bit_addressing_memory.specs.Memory.{memory, piece, read_by}
 use Rattle.bit_containers_box.specs.Box.{box_visible}
 use Rattle.bit_containers_box.proofs.BoxLemmas.{box_fits, box_shows}
-use Rattle.bit_slice_writes.specs.FrameLaws.{shown_window}
+use Rattle.bit_slice_views_mut.specs.FrameLaws.{shown_window}
 use Rattle.bit_containers_box.proofs.boxed.BitBox.as_mut_bitslice.Goals as goal
 
 pub from_place_mut-requires-clause-fits : goal.from_place_mut-requires-clause-fits

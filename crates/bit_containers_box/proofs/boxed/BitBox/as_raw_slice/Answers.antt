@@ -1,5 +1,5 @@
 use Rattle.std.proofs.Common.{◌+◌, length, take, arith, sym, ap₂, ◌∙◌}
-use Rattle.bit_addressing.specs.Memory.{read_by}
+use Rattle.bit_addressing_memory.specs.Memory.{read_by}
 use Rattle.bit_containers_vector.proofs.CountLemmas.{words_within}
 use Rattle.bit_containers_box.proofs.BoxLemmas.{shown_is}
 use Rattle.bit_containers_box.proofs.boxed.BitBox.as_raw_slice.Goals as goal

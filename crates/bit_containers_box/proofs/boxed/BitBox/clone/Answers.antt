@@ -1,6 +1,6 @@
 use Rattle.std.proofs.Common.{ap, ◌∙◌}
 use Rattle.std.proofs.Math.Nat.{mod-eq_of_lt}
-use Rattle.bit_addressing.specs.Memory.{memory, piece, read_by}
+use Rattle.bit_addressing_memory.specs.Memory.{memory, piece, read_by}
 use Rattle.bit_containers_box.proofs.BoxLemmas.{alone_as}
 use Rattle.bit_containers_box.proofs.boxed.BitBox.clone.Goals as goal
 

@@ -1,5 +1,5 @@
 use Rattle.std.proofs.Common.{arith, refl}
-use Rattle.bit_addressing.specs.Memory.{read_by}
+use Rattle.bit_addressing_memory.specs.Memory.{read_by}
 use Rattle.bit_containers_box.proofs.FillLemmas.{beside_filled}
 use Rattle.bit_containers_box.proofs.boxed.BitBox.fill_uninitialized.Goals as goal
 

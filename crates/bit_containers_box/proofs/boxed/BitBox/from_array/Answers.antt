@@ -1,5 +1,5 @@
 use Rattle.std.proofs.Common.{arith, ap, ◌∙◌}
-use Rattle.bit_addressing.specs.Memory.{memory, read_by}
+use Rattle.bit_addressing_memory.specs.Memory.{memory, read_by}
 use Rattle.bit_containers_box.proofs.BoxLemmas.{boxed_words}
 use Rattle.bit_containers_box.proofs.boxed.BitBox.from_array.Goals as goal
 

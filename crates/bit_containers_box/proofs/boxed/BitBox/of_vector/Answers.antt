@@ -1,5 +1,5 @@
 use Rattle.std.proofs.Common.{◌≡◌, ◌*◌, ◌<◌, length, arith, ap, ◌∙◌}
-use Rattle.bit_addressing.specs.Memory.{read_by}
+use Rattle.bit_addressing_memory.specs.Memory.{read_by}
 use Rattle.bit_containers_vector.specs.Vector.{visible}
 use Rattle.bit_containers_box.proofs.BoxLemmas.{boxed_whole, visible_fits}
 use Rattle.bit_containers_box.proofs.boxed.BitBox.of_vector.Goals as goal

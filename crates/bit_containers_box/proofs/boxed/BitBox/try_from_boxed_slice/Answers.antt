@@ -1,6 +1,6 @@
 use Rattle.std.proofs.Common.{arith, ap, ◌∙◌}
 use Rattle.std.specs.Box.{boxed_slice_items}
-use Rattle.bit_addressing.specs.Memory.{memory, read_by}
+use Rattle.bit_addressing_memory.specs.Memory.{memory, read_by}
 use Rattle.bit_containers_box.proofs.BoxLemmas.{boxed_words}
 use Rattle.bit_containers_box.proofs.boxed.BitBox.try_from_boxed_slice.Goals as goal
 

@@ -1,9 +1,9 @@
 use Rattle.std.proofs.Common.{◌≡◌, length, take, ap, sym, ◌∙◌, arith}
 use Rattle.std.proofs.lemmas.List.{take_all}
-use Rattle.bit_addressing.specs.Memory.{memory, piece, read_by}
+use Rattle.bit_addressing_memory.specs.Memory.{memory, piece, read_by}
 use Rattle.bit_containers_box.specs.Left.{left_words}
 use Rattle.bit_containers_box.specs.Lending.{left_with, same_left}
-use Rattle.bit_slice_writes.specs.FrameLaws.{shown_window}
+use Rattle.bit_slice_views_mut.specs.FrameLaws.{shown_window}
 use Rattle.bit_containers_box.proofs.iter.IntoIter.as_mut_bitslice.Goals as goal
 
 -- the window's list is the piece of the words that is left

@@ -1,6 +1,6 @@
 use Rattle.std.proofs.Common.{◌-◌, ◌∷◌, [], length, get_or, false, arith, rules, ap, ◌∙◌}
 use Rattle.std.proofs.lemmas.List.{length-append}
-use Rattle.bit_addressing.specs.Memory.{memory, piece, read_by}
+use Rattle.bit_addressing_memory.specs.Memory.{memory, piece, read_by}
 use Rattle.bit_addressing_memory.proofs.WindowLemmas.{length-window}
 use Rattle.bit_containers_box.proofs.LeftLemmas.{left_last}
 use Rattle.bit_containers_box.proofs.iter.IntoIterDoubleEndedIterator.next_back.Goals as goal

@@ -1,5 +1,5 @@
 use Rattle.std.proofs.Common.{length, get_or, false, arith, rules, ap, ◌∙◌}
-use Rattle.bit_addressing.specs.Memory.{read_by}
+use Rattle.bit_addressing_memory.specs.Memory.{read_by}
 use Rattle.bit_addressing_memory.proofs.WindowLemmas.{length-window}
 use Rattle.bit_containers_box.proofs.LeftLemmas.{left_first}
 use Rattle.bit_containers_box.proofs.iter.IntoIterIterator.next.Goals as goal

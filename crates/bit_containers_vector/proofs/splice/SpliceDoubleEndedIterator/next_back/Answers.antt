@@ -1,5 +1,5 @@
 use Rattle.std.proofs.Common.{◌-◌, ◌<◌, arith, refl}
-use Rattle.bit_addressing.specs.Memory.{memory, read_by}
+use Rattle.bit_addressing_memory.specs.Memory.{memory, read_by}
 use Rattle.bit_addressing_memory.proofs.MemoryLemmas.{piece_none}
 use Rattle.bit_containers_vector.proofs.DrainLemmas.{last_gone}
 use Rattle.bit_containers_vector.proofs.splice.SpliceDoubleEndedIterator.next_back.Goals as goal

@@ -1,5 +1,5 @@
 use Rattle.std.proofs.Common.{◌≡◌, ◌-◌, length, arith}
-use Rattle.bit_addressing.specs.Memory.{memory, read_by}
+use Rattle.bit_addressing_memory.specs.Memory.{memory, read_by}
 use Rattle.bit_addressing_memory.proofs.MemoryLemmas.{length-memory, length-piece}
 use Rattle.bit_containers_vector.specs.Spliced.{gone_bits}
 use Rattle.bit_containers_vector.proofs.splice.SpliceExactSizeIterator.len.Goals as goal

@@ -1,9 +1,9 @@
 use Rattle.std.proofs.Common.{◌≡◌, ap, sym, ◌∙◌, refl}
 use Rattle.std.proofs.Common.{arith}
-use Rattle.bit_addressing.specs.Memory.{memory, piece, read_by}
+use Rattle.bit_addressing_memory.specs.Memory.{memory, piece, read_by}
 use Rattle.bit_containers_vector.specs.Vector.{visible}
 use Rattle.bit_containers_vector.proofs.LendLemmas.{shown_bits, shown_fits}
-use Rattle.bit_slice_writes.specs.FrameLaws.{shown_window}
+use Rattle.bit_slice_views_mut.specs.FrameLaws.{shown_window}
 use Rattle.bit_containers_vector.proofs.vector.BitVec.as_mut_bitslice.Goals as goal
 
 pub from_place_mut-requires-clause-fits : goal.from_place_mut-requires-clause-fits

@@ -1,6 +1,6 @@
 use Rattle.std.proofs.Common.{◌+◌, length, take, ap, sym, ◌∙◌, refl}
 use Rattle.std.proofs.Common.{arith}
-use Rattle.bit_addressing.specs.Memory.{read_by}
+use Rattle.bit_addressing_memory.specs.Memory.{read_by}
 use Rattle.bit_containers_vector.specs.Count.{words_for}
 use Rattle.bit_containers_vector.specs.Lending.{same_facts, with_words}
 use Rattle.bit_containers_vector.proofs.CountLemmas.{words_within}

@@ -1,6 +1,6 @@
 use Rattle.std.proofs.Common.{◌<◌}
 use Rattle.std.proofs.Common.{arith, refl}
-use Rattle.bit_addressing.specs.Memory.{read_by}
+use Rattle.bit_addressing_memory.specs.Memory.{read_by}
 use Rattle.bit_containers_vector.proofs.MadeLemmas.{holds_copy}
 use Rattle.bit_containers_vector.proofs.ZeroLemmas.{zero_digit}
 use Rattle.bit_containers_vector.proofs.vector.BitVec.clone.Goals as goal

@@ -1,5 +1,5 @@
 use Rattle.std.proofs.Common.{◌≡◌, ◌+◌, ◌-◌, drop, ap, ◌∙◌, arith}
-use Rattle.bit_addressing.specs.Memory.{memory, piece, read_by}
+use Rattle.bit_addressing_memory.specs.Memory.{memory, piece, read_by}
 use Rattle.bit_slice_views.specs.View.{view_bits}
 use Rattle.bit_containers_vector.specs.Vector.{vec_bits}
 use Rattle.bit_containers_vector.proofs.EditLemmas.{piece_behind}

@@ -1,5 +1,5 @@
 use Rattle.std.proofs.Common.{arith, refl}
-use Rattle.bit_addressing.specs.Memory.{read_by}
+use Rattle.bit_addressing_memory.specs.Memory.{read_by}
 use Rattle.bit_containers_vector.proofs.DrainLemmas.{cut_off}
 use Rattle.bit_containers_vector.proofs.WordLemmas.{length-bits}
 use Rattle.bit_containers_vector.proofs.vector.BitVec.cut.Goals as goal

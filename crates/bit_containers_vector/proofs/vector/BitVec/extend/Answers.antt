@@ -1,7 +1,7 @@
 use Rattle.std.proofs.Common.{◌+◌, ◌<◌, ◌≤◌, ◌∷◌, [], length, length-append, append-nil, arith, rules}
 use Rattle.std.proofs.Common.{ap, refl, sym}
 use Rattle.std.specs.Iterator.{size}
-use Rattle.bit_addressing.specs.Memory.{read_by}
+use Rattle.bit_addressing_memory.specs.Memory.{read_by}
 use Rattle.bit_containers_vector.specs.Vector.{vec_bits}
 use Rattle.bit_containers_vector.proofs.ExtendLemmas.{extends_none, extends_more}
 use Rattle.bit_containers_vector.proofs.vector.BitVec.extend.Goals as goal

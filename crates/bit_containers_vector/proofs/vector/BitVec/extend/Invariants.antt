@@ -1,5 +1,5 @@
 use Rattle.std.proofs.Common.{◌≡◌, ◌≤◌, ◌+◌, ◌++◌, length}
-use Rattle.bit_addressing.specs.Memory.{read_by}
+use Rattle.bit_addressing_memory.specs.Memory.{read_by}
 use Rattle.bit_addressing_span.specs.declared.span.TheConstants.{MAX_BITS}
 use Rattle.bit_containers_vector.specs.Grown.{Extends}
 use Rattle.bit_containers_vector.specs.Vector.{vec_bits, vec_head, room}

@@ -1,6 +1,6 @@
 use Rattle.std.proofs.Common.{◌+◌, ◌<◌, ◌≤◌, ◌++◌, [], arith, rules, refl, ◌∙◌}
 use Rattle.std.specs.Iterator.{size}
-use Rattle.bit_addressing.specs.Memory.{memory, read_by}
+use Rattle.bit_addressing_memory.specs.Memory.{memory, read_by}
 use Rattle.bit_addressing_span.specs.declared.span.TheConstants.{MAX_BITS}
 use Rattle.bit_containers_vector.specs.Vector.{vec_bits}
 use Rattle.bit_containers_vector.proofs.ElementLemmas.{no_words, one_word, one_less}

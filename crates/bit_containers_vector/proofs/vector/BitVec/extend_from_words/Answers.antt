@@ -1,6 +1,6 @@
 use Rattle.std.proofs.Common.{◌+◌, ◌<◌, sym}
 use Rattle.std.proofs.Common.{arith, refl}
-use Rattle.bit_addressing.specs.Memory.{entry, memory, piece, read_by}
+use Rattle.bit_addressing_memory.specs.Memory.{entry, memory, piece, read_by}
 use Rattle.bit_addressing_memory.proofs.WindowLemmas.{length-window, window_bit}
 use Rattle.bit_containers_vector.proofs.WordLemmas.{extends}
 use Rattle.bit_containers_vector.proofs.ZeroLemmas.{zero_digit}

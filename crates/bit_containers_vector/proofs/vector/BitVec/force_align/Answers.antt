@@ -1,5 +1,5 @@
 use Rattle.std.proofs.Common.{arith, refl}
-use Rattle.bit_addressing.specs.Memory.{read_by}
+use Rattle.bit_addressing_memory.specs.Memory.{read_by}
 use Rattle.bit_containers_vector.proofs.FillLemmas.{aligned}
 use Rattle.bit_containers_vector.proofs.vector.BitVec.force_align.Goals as goal
 

@@ -1,5 +1,5 @@
 use Rattle.std.proofs.Common.{◌+◌, take, ap, sym, ◌∙◌}
-use Rattle.bit_addressing.specs.Memory.{read_by}
+use Rattle.bit_addressing_memory.specs.Memory.{read_by}
 use Rattle.bit_containers_vector.specs.Count.{words_for}
 use Rattle.bit_containers_vector.proofs.WordLemmas.{length-bits}
 use Rattle.bit_containers_vector.proofs.vector.BitVec.into_vec.Goals as goal

@@ -1,5 +1,5 @@
 use Rattle.std.proofs.Common.{◌≡◌, ◌∷◌, [], refl, arith}
-use Rattle.bit_addressing.specs.Memory.{read_by}
+use Rattle.bit_addressing_memory.specs.Memory.{read_by}
 use Rattle.bit_containers_vector.proofs.WordLemmas.{extends}
 use Rattle.bit_containers_vector.proofs.ZeroLemmas.{zero_digit}
 use Rattle.bit_containers_vector.proofs.vector.BitVec.push.Goals as goal

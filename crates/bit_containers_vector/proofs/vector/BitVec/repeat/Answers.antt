@@ -1,6 +1,6 @@
 use Rattle.std.proofs.Common.{◌*◌, ap₂}
 use Rattle.std.proofs.Common.{arith}
-use Rattle.bit_addressing.specs.Memory.{read_by}
+use Rattle.bit_addressing_memory.specs.Memory.{read_by}
 use Rattle.bit_containers_vector.proofs.MadeLemmas.{filled_all}
 use Rattle.bit_containers_vector.proofs.vector.BitVec.repeat.Goals as goal
 

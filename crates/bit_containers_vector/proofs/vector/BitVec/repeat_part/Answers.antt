@@ -1,6 +1,6 @@
 use Rattle.std.proofs.Common.{◌+◌, ◌<◌, ◌≤◌}
 use Rattle.std.proofs.Common.{arith, refl}
-use Rattle.bit_addressing.specs.Memory.{entry, piece, read_by}
+use Rattle.bit_addressing_memory.specs.Memory.{entry, piece, read_by}
 use Rattle.bit_addressing_memory.proofs.MemoryLemmas.{length-piece}
 use Rattle.bit_containers_vector.specs.Vector.{vec_bits}
 use Rattle.bit_containers_vector.proofs.WordLemmas.{extends, length-bits, lengthened_bit}

@@ -1,6 +1,6 @@
 use Rattle.std.proofs.Common.{◌+◌, ◌*◌, ◌≤◌, length}
 use Rattle.std.proofs.Common.{arith}
-use Rattle.bit_addressing.specs.Memory.{read_by}
+use Rattle.bit_addressing_memory.specs.Memory.{read_by}
 use Rattle.bit_containers_vector.proofs.VectorLemmas.{has_room, room_words}
 use Rattle.std.proofs.lemmas.Result.{on_ok_weaker}
 use Rattle.bit_containers_vector.proofs.vector.BitVec.reserve_exact.Goals as goal

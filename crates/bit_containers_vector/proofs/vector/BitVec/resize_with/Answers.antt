@@ -2,7 +2,7 @@ use Rattle.std.proofs.Common.{◌≡◌, ℕ, ◌+◌, ◌++◌, [], length, sym
 use Rattle.std.proofs.Common.{append_assoc, length-append, of_calls, ◌∷◌}
 use Rattle.std.proofs.iter.Next.{called}
 use Rattle.std.proofs.lemmas.List.{append-nil}
-use Rattle.bit_addressing.specs.Memory.{read_by}
+use Rattle.bit_addressing_memory.specs.Memory.{read_by}
 use Rattle.bit_containers_vector.specs.Vector.{vec_bits}
 use Rattle.bit_containers_vector.proofs.AnswerLemmas.{answers_more}
 use Rattle.bit_containers_vector.proofs.vector.BitVec.resize_with.Goals as goal

@@ -1,6 +1,6 @@
 use Rattle.std.proofs.Common.{◌≡◌, ◌+◌, ◌<◌, length, ap, sym, ◌∙◌}
 use Rattle.std.proofs.Common.{arith}
-use Rattle.bit_addressing.specs.Memory.{read_by}
+use Rattle.bit_addressing_memory.specs.Memory.{read_by}
 use Rattle.bit_containers_vector.specs.Count.{words_for}
 use Rattle.std.proofs.lemmas.List.{length-take-le}
 use Rattle.bit_containers_vector.proofs.CountLemmas.{words_within}

@@ -1,6 +1,6 @@
 use Rattle.std.proofs.Common.{take, ap, ◌∙◌}
 use Rattle.std.proofs.Common.{arith, refl}
-use Rattle.bit_addressing.specs.Memory.{read_by}
+use Rattle.bit_addressing_memory.specs.Memory.{read_by}
 use Rattle.bit_containers_vector.proofs.WordLemmas.{trimmed_same}
 use Rattle.bit_containers_vector.proofs.vector.BitVec.shrink_to_fit.Goals as goal
 

@@ -1,5 +1,5 @@
 use Rattle.std.proofs.Common.{◌≡◌, length, arith, rules}
-use Rattle.bit_addressing.specs.Memory.{read_by, piece}
+use Rattle.bit_addressing_memory.specs.Memory.{read_by, piece}
 use Rattle.bit_slice_access.proofs.PartLemmas.{part_shown}
 use Rattle.bit_slice_access.proofs.part.Part.new.Goals as goal
 

@@ -1,6 +1,6 @@
 use Rattle.std.proofs.Common.{◌≡◌, ◌+◌, ◌++◌, ◌∷◌, [], length, length-append, rules, arith, refl, sym, ap, ◌∙◌}
-use Rattle.bit_addressing.specs.Memory.{read_by}
-use Rattle.bit_slice_scans.specs.Found.{is_bit}
+use Rattle.bit_addressing_memory.specs.Memory.{read_by}
+use Rattle.bit_slice_words.specs.Found.{is_bit}
 use Rattle.bit_slice_views.specs.View.{view_bits}
 use Rattle.bit_slice_iterators.specs.Indices.{indices}
 use Rattle.bit_slice_iterators.proofs.IndexLemmas.{indices-last, indices-none_last}

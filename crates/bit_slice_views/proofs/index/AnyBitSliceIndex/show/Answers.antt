@@ -1,4 +1,4 @@
-use Rattle.bit_addressing.specs.Memory.{read_by}
+use Rattle.bit_addressing_memory.specs.Memory.{read_by}
 use Rattle.bit_addressing_memory.proofs.WindowLemmas.{length-window}
 use Rattle.bit_slice_views.proofs.index.AnyBitSliceIndex.show.Goals as goal
 

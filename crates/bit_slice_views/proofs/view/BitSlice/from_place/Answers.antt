@@ -1,5 +1,5 @@
 use Rattle.std.proofs.Common.{length, arith}
-use Rattle.bit_addressing.specs.Memory.{read_by}
+use Rattle.bit_addressing_memory.specs.Memory.{read_by}
 use Rattle.bit_slice_views.proofs.ViewLemmas.{view_place, word_of}
 use Rattle.bit_slice_views.proofs.view.BitSlice.from_place.Goals as goal
 

@@ -1,0 +1,252 @@
+//! Words of a move made by shifts, where the positions go straight with the indices: of two source
+//! words at most and, at an edge of the target, of its own old word too.
+//!
+//! The words between the two edges are put in loops that call nothing, so that a compiler keeps the
+//! sweep's counts in registers.
+
+ghost use Rattle.std.specs.Prelude.{◌≡◌, ◌+◌, ◌-◌, ◌*◌, ◌/◌, ◌^◌, ◌<◌, ◌≤◌, length};
+ghost use Rattle.bit_addressing_memory.specs.Memory.{read_by};
+ghost use Rattle.bit_addressing_memory.specs.Straight.{Goes};
+ghost use Rattle.bit_addressing_memory.specs.declared.sweep.Way.TheVariants.{Up, Down};
+ghost use Rattle.bit_addressing_memory.specs.MoveSteps.{BeginsWith, IsGathered, PutsWords};
+ghost use Rattle.bit_addressing_memory.specs.Sweep.{IsFresh, SameButReads, edge_of, reads_of, sweep_lender, sweep_words, way_of};
+ghost use Rattle.bit_addressing_memory.specs.Ways.{IsPast, edge_after, way_for};
+
+use crate::direction::Direction;
+use crate::masking::stored;
+use crate::shift::{joined, raised};
+use crate::sweep::{Sweep, Way};
+use bit_addressing_order::mem::bits_of;
+use bit_addressing_order::{BitEnd, BitIdx, BitOrder, BitRegister};
+
+// Puts each word that the target touches: those at its edges with their own old bits beside it.
+#[inline(always)]
+pub(crate) fn put_shifted<R: BitRegister, O: BitOrder<R>>(
+    sweep: &mut Sweep<'_, R>,
+    direction: Direction,
+    source: usize,
+    target: usize,
+    len: usize,
+)
+    requires goes { Goes R.BITS O.position direction }
+    requires fresh { IsFresh sweep.old (way_for source target) }
+    requires some { 0 < len }
+    requires source_within { source + len ≤ length (sweep_words sweep.old) * R.BITS }
+    requires target_within { target + len ≤ length (sweep_words sweep.old) * R.BITS }
+    requires source_ends { source + len < 2 ^ 64 }
+    requires target_ends { target + len < 2 ^ 64 }
+    ensures put { PutsWords (read_by R.BitRegister O.position) sweep.old sweep.new source target len
+        (target / R.BITS) ((target + len - 1) / R.BITS + 1) }
+    ensures reads { reads_of sweep.new + 3 * (target / R.BITS) ≤ 3 * ((target + len - 1) / R.BITS + 1) }
+{
+    let bits = bits_of::<R>();
+    let first = target / bits;
+    let last = (target + len - 1) / bits;
+    match sweep.way() {
+        Way::Up => {
+            put_edge::<R, O>(sweep, direction, first, source, target, len);
+            if first < last {
+                put_up::<R, O>(sweep, direction, first + 1, last, source, target, len);
+                put_edge::<R, O>(sweep, direction, last, source, target, len);
+            }
+        }
+        Way::Down => {
+            put_edge::<R, O>(sweep, direction, last, source, target, len);
+            if first < last {
+                put_down::<R, O>(sweep, direction, first + 1, last, source, target, len);
+                put_edge::<R, O>(sweep, direction, first, source, target, len);
+            }
+        }
+    }
+}
+
+// Puts the words from `low` up to before `high`, which have no bits but the target's, upwards.
+#[inline(always)]
+fn put_up<R: BitRegister, O: BitOrder<R>>(
+    sweep: &mut Sweep<'_, R>,
+    direction: Direction,
+    low: usize,
+    high: usize,
+    source: usize,
+    target: usize,
+    len: usize,
+)
+    requires goes { Goes R.BITS O.position direction }
+    requires way { way_of sweep.old ≡ Up }
+    requires edge { edge_of sweep.old ≤ low }
+    requires order { low ≤ high }
+    requires ahead { target ≤ source }
+    requires begins { target ≤ low * R.BITS }
+    requires ends { high * R.BITS ≤ target + len }
+    requires source_within { source + len ≤ length (sweep_words sweep.old) * R.BITS }
+    requires target_within { target + len ≤ length (sweep_words sweep.old) * R.BITS }
+    requires source_ends { source + len < 2 ^ 64 }
+    requires target_ends { target + len < 2 ^ 64 }
+    ensures put { PutsWords (read_by R.BitRegister O.position) sweep.old sweep.new source target len low high }
+    ensures edge { edge_of sweep.new ≤ high }
+    ensures reads { reads_of sweep.new + 3 * low ≤ reads_of sweep.old + 3 * high }
+{
+    let bits = bits_of::<R>();
+    let place = source + (low * bits - target);
+    let word = place / bits;
+    let by = place % bits;
+    'up: for k in low..high {
+        let whole = cut::<R, O>(sweep, direction, word + (k - low), by);
+        sweep.put(k, whole);
+    }
+}
+
+// The same downwards.
+#[inline(always)]
+fn put_down<R: BitRegister, O: BitOrder<R>>(
+    sweep: &mut Sweep<'_, R>,
+    direction: Direction,
+    low: usize,
+    high: usize,
+    source: usize,
+    target: usize,
+    len: usize,
+)
+    requires goes { Goes R.BITS O.position direction }
+    requires way { way_of sweep.old ≡ Down }
+    requires edge { high ≤ edge_of sweep.old }
+    requires order { low ≤ high }
+    requires behind { source ≤ target }
+    requires begins { target ≤ low * R.BITS }
+    requires ends { high * R.BITS ≤ target + len }
+    requires source_within { source + len ≤ length (sweep_words sweep.old) * R.BITS }
+    requires target_within { target + len ≤ length (sweep_words sweep.old) * R.BITS }
+    requires source_ends { source + len < 2 ^ 64 }
+    requires target_ends { target + len < 2 ^ 64 }
+    ensures put { PutsWords (read_by R.BitRegister O.position) sweep.old sweep.new source target len low high }
+    ensures edge { low ≤ edge_of sweep.new }
+    ensures reads { reads_of sweep.new + 3 * low ≤ reads_of sweep.old + 3 * high }
+{
+    let bits = bits_of::<R>();
+    let place = source + (low * bits - target);
+    let word = place / bits;
+    let by = place % bits;
+    'down: for k in (low..high).rev() {
+        let whole = cut::<R, O>(sweep, direction, word + (k - low), by);
+        sweep.put(k, whole);
+    }
+}
+
+// Puts one word, at an edge of the target.
+#[inline(never)]
+fn put_edge<R: BitRegister, O: BitOrder<R>>(
+    sweep: &mut Sweep<'_, R>,
+    direction: Direction,
+    k: usize,
+    source: usize,
+    target: usize,
+    len: usize,
+)
+    requires goes { Goes R.BITS O.position direction }
+    requires some { 0 < len }
+    requires past { IsPast (way_of sweep.old) (edge_of sweep.old) k }
+    requires within { k < length (sweep_words sweep.old) }
+    requires source_within { source + len ≤ length (sweep_words sweep.old) * R.BITS }
+    requires source_ends { source + len < 2 ^ 64 }
+    requires target_ends { target + len < 2 ^ 64 }
+    requires begins { k * R.BITS < target + len }
+    requires ends { target < k * R.BITS + R.BITS }
+    ensures put { PutsWords (read_by R.BitRegister O.position) sweep.old sweep.new source target len k (k + 1) }
+    ensures edge { edge_of sweep.new ≡ edge_after (way_of sweep.old) k }
+    ensures reads { reads_of sweep.new ≤ reads_of sweep.old + 3 }
+{
+    let word = shifted::<R, O>(sweep, direction, k, source, target, len);
+    sweep.put(k, word);
+}
+
+// The word `k` as the move leaves it: the source's bits inside the target, its own beside it.
+fn shifted<R: BitRegister, O: BitOrder<R>>(
+    sweep: &mut Sweep<'_, R>,
+    direction: Direction,
+    k: usize,
+    source: usize,
+    target: usize,
+    len: usize,
+) -> R
+    requires goes { Goes R.BITS O.position direction }
+    requires some { 0 < len }
+    requires within { k < length (sweep_words sweep.old) }
+    requires source_within { source + len ≤ length (sweep_words sweep.old) * R.BITS }
+    requires source_ends { source + len < 2 ^ 64 }
+    requires target_ends { target + len < 2 ^ 64 }
+    requires begins { k * R.BITS < target + len }
+    requires ends { target < k * R.BITS + R.BITS }
+    ensures digits { IsGathered (read_by R.BitRegister O.position) (sweep_words sweep.old)
+        k source target len result R.BITS }
+    ensures reads { reads_of sweep.new ≤ reads_of sweep.old + 3 }
+    ensures same { SameButReads sweep.old sweep.new }
+    ensures lender { sweep_lender sweep.new ≡ sweep_lender sweep.old }
+{
+    let bits = bits_of::<R>();
+    let start = k * bits;
+    let from = target.saturating_sub(start);
+    let upto = bits.min(target + len - start);
+    let own = sweep.read(k);
+    let place = source + (start + from - target);
+    let moved = bits_from::<R, O>(sweep, direction, place, upto - from);
+    let there = raised::<R, O>(direction, moved, from as u8);
+    let head = BitIdx::new_unchecked(from as u8);
+    let tail = BitEnd::new_unchecked(upto as u8);
+    stored::<R, O>(own, there, head, tail)
+}
+
+// A word that begins with so many bits of the memory, those from a place on: of the word there, and
+// of the next one where they go on in it.
+fn bits_from<R: BitRegister, O: BitOrder<R>>(
+    sweep: &mut Sweep<'_, R>,
+    direction: Direction,
+    place: usize,
+    count: usize,
+) -> R
+    requires goes { Goes R.BITS O.position direction }
+    requires some { 0 < count }
+    requires most { count ≤ R.BITS }
+    requires within { place + count ≤ length (sweep_words sweep.old) * R.BITS }
+    ensures digits { BeginsWith (read_by R.BitRegister O.position) (sweep_words sweep.old) place count result }
+    ensures reads { reads_of sweep.new ≤ reads_of sweep.old + 2 }
+    ensures same { SameButReads sweep.old sweep.new }
+    ensures lender { sweep_lender sweep.new ≡ sweep_lender sweep.old }
+{
+    let bits = bits_of::<R>();
+    let word = place / bits;
+    let index = place % bits;
+    if index + count <= bits {
+        let first = sweep.read(word);
+        if index == 0 {
+            return first;
+        }
+        return joined::<R, O>(direction, first, first, index as u8);
+    }
+    cut::<R, O>(sweep, direction, word, index)
+}
+
+// The word that begins at the index `by` of the memory's word `word`, and goes on in the next one.
+#[inline(always)]
+fn cut<R: BitRegister, O: BitOrder<R>>(
+    sweep: &mut Sweep<'_, R>,
+    direction: Direction,
+    word: usize,
+    by: usize,
+) -> R
+    requires goes { Goes R.BITS O.position direction }
+    requires index { by < R.BITS }
+    requires first { word < length (sweep_words sweep.old) }
+    requires next { 0 < by → word + 1 < length (sweep_words sweep.old) }
+    ensures digits { BeginsWith (read_by R.BitRegister O.position) (sweep_words sweep.old)
+        (word * R.BITS + by) R.BITS result }
+    ensures reads { reads_of sweep.new ≤ reads_of sweep.old + 2 }
+    ensures same { SameButReads sweep.old sweep.new }
+    ensures lender { sweep_lender sweep.new ≡ sweep_lender sweep.old }
+{
+    let first = sweep.read(word);
+    if by == 0 {
+        return first;
+    }
+    let next = sweep.read(word + 1);
+    joined::<R, O>(direction, first, next, by as u8)
+}

@@ -1,2 +1,0 @@
-mod ElementLemmas
-mod WidthLemmas

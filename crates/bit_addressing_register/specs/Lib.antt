@@ -1,2 +1,0 @@
-pub mod BitRegister
-pub mod RegisterLaws

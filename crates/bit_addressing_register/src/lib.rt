@@ -1,8 +1,0 @@
-//! Storage words as registers: the unsigned integers whose bits are addressed.
-#![tactic(auto)]
-
-pub mod mem;
-mod register;
-mod widths;
-
-pub use register::BitRegister;

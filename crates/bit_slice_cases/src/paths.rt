@@ -1,0 +1,66 @@
+//! Word paths of two memories of the same words and order.
+
+ghost use Rattle.std.specs.Prelude.{◌+◌, ◌*◌, ◌≤◌, length};
+
+use crate::case::Case;
+use crate::memory::has_window;
+use bit_addressing_sample_orders::texts::{number, push_words, read_words};
+use bit_slice::{BitRegister, BitSlice, BitSliceMut, BitsMut, Steps, WordPaths};
+use std::alloc::{AllocError, Global};
+
+/// What a word path is answered, or a copy that goes by one: whether the bits are equal, the steps, and both memories. The
+/// first word of the call is the other memory, the next the place there.
+pub fn go_path<R: BitRegister, O: WordPaths<R>>(
+    alloc: Global,
+    case: &Case<'_>,
+) -> Result<String, AllocError> {
+    let mut words = read_words::<R>(alloc, case.memory)?;
+    let mut others = read_words::<R>(alloc, case.first)?;
+    let from = number(case.second);
+    if !has_window(&words, case.from, case.len) || !has_window(&others, from, case.len) {
+        return "no such window".to_string(alloc);
+    }
+    let mut steps = Steps::new();
+    let is_equal = go::<R, O>(&mut words, case, &mut others, from, &mut steps);
+    let mut text = format!(in alloc; "{is_equal} {} ", steps.taken())?;
+    push_words(&mut text, &words)?;
+    text.push(' ')?;
+    push_words(&mut text, &others)?;
+    Ok(text)
+}
+
+// Makes the call: what `equal` answers, and true of the others. An unknown call is answered false.
+fn go<R: BitRegister, O: WordPaths<R>>(
+    words: &mut [R],
+    case: &Case<'_>,
+    others: &mut [R],
+    from: usize,
+    steps: &mut Steps,
+) -> bool
+    requires near { case.now.from ≤ 2048 }
+    requires other_near { from ≤ 2048 }
+    requires short { case.now.len ≤ 2048 }
+    requires fits { case.now.from + case.now.len ≤ length words.old * R.BITS }
+    requires other_fits { from + case.now.len ≤ length others.old * R.BITS }
+{
+    let (at, len) = (case.from, case.len);
+    match case.call {
+        "path_equal" => return O::equal(words, at, others, from, len, steps),
+        "path_copy" => O::copy(words, at, others, from, len, steps),
+        "path_swap" => O::swap(words, at, others, from, len, steps),
+        "path_over" if has_window(words, from, len) => O::copy_over(words, from, at, len, steps),
+        "path_and" => O::and(words, at, others, from, len, steps),
+        "path_or" => O::or(words, at, others, from, len, steps),
+        "path_xor" => O::xor(words, at, others, from, len, steps),
+        "copy_from" => {
+            let other = BitSlice::<R, O>::from_place(others, from, len);
+            BitSliceMut::<R, O>::from_place_mut(words, at, len).copy_from_bitslice(&other);
+        }
+        "copy_from_slice" => {
+            let other = BitSlice::<R, O>::from_place(others, from, len);
+            BitSliceMut::<R, O>::from_place_mut(words, at, len).copy_from_slice(&other);
+        }
+        _ => return false,
+    }
+    true
+}

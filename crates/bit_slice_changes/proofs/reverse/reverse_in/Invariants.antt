@@ -1,7 +1,0 @@
-use Rattle.bit_addressing.specs.Memory.{read_by}
-use Rattle.bit_slice_changes.specs.Edits.{Mirrored}
-use Rattle.bit_slice_changes.proofs.reverse.reverse_in.Given as goal
-
-abbrev pub invariant-loop-k : goal.invariant-loop-k
-invariant-loop-k g l =
-    Mirrored (read_by g.R.BitRegister g.O.Positions.position) l.fn.words l.words l.place l.len l.k

@@ -1,2 +1,0 @@
-pub mod SpanLemmas
-pub mod CutLemmas

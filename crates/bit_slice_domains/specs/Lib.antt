@@ -1,4 +1,0 @@
-pub mod Halves
-pub mod Domain
-pub mod Cut
-pub mod Lending

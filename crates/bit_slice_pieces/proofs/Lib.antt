@@ -1,3 +1,0 @@
-pub mod CutLemmas
-pub mod PieceLemmas
-pub mod KnownRows

@@ -1,4 +1,0 @@
-pub mod FilledLemmas
-pub mod HalfLemmas
-pub mod MarkedLemmas
-pub mod RunLemmas

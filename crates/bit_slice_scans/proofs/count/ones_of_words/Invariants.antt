@@ -1,9 +1,0 @@
-use Rattle.std.proofs.Common.{◌≡◌, ◌*◌, count_by}
-use Rattle.bit_addressing.specs.Memory.{memory, piece, read_by}
-use Rattle.bit_slice_scans.proofs.count.ones_of_words.Given as goal
-
--- the ones of the words so far
-abbrev pub invariant-loop-word : goal.invariant-loop-word
-invariant-loop-word g l =
-    let reading = read_by g.R.BitRegister g.O.Positions.position in
-    l.ones ≡ count_by (λ b. b) (piece (memory reading l.body) 0 (l.word-index * g.R.BitRegister.BITS))

@@ -1,8 +1,0 @@
-pub mod Found
-pub mod Holds
-pub mod Stretch
--- the words of memories, orders and registers
-pub use Rattle.bit_addressing.specs.BitOrder
-pub use Rattle.bit_addressing.specs.BitRegister
-pub use Rattle.bit_addressing.specs.Bits
-pub use Rattle.bit_addressing.specs.Memory

@@ -1,0 +1,19 @@
+use Rattle.std.proofs.Common.{◌<◌, length, arith, rules}
+use Rattle.bit_addressing_memory.specs.Memory.{read_by}
+use Rattle.bit_slice_views_mut.specs.Frame.{KeepsBeside}
+use Rattle.bit_slice_views_mut.specs.ViewMut.{lent_bits}
+use Rattle.bit_slice_views_mut.proofs.FrameLemmas.{frame_beside}
+use Rattle.bit_slice_tests.proofs.callers.fill_middle.Goals as goal
+
+pub returns-clause-beside : goal.returns-clause-beside
+returns-clause-beside g c =
+    let reading = read_by g.T.BitRegister g.O.Positions.position in
+    let some : 0 < g.T.BitRegister.BITS = omega (arith, g.met.T.BitRegister.least_bits) in
+    let v = c.from_place_mut-view.result in
+    let w = c.fill.new.self in
+    let there : KeepsBeside reading c.args.words.now w.words.now c.args.place c.args.len =
+    frame_beside reading v.words.ghost_name w.words.ghost_name c.args.words.now v.words.now w.words.now c.args.place v.head
+    w.head c.args.len (length (lent_bits reading v)) (length (lent_bits reading w)) some
+    c.from_place_mut-view.ensures.words c.from_place_mut-view.ensures.place c.from_place_mut-view.ensures.len
+    c.fill.ensures.len c.fill.ensures.frame in
+    search (rules, there)

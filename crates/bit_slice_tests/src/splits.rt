@@ -1,0 +1,62 @@
+//! Splits by predicates, to read: what a predicate is asked, and parts by their numbers.
+
+use crate::list::is_one;
+use bit_addressing_memory::Lsb0;
+use bit_slice_splits::BitsSplits;
+use bit_slice_views::{BitSlice, Bits};
+
+// A part as a number, its first bit in front, behind a one that tells its length; 0 of none.
+fn row(part: Option<BitSlice<'_, u8, Lsb0>>) -> u32 {
+    let Some(part) = part else { return 0 };
+    let mut digits = 1u32;
+    for i in 0..part.len() {
+        digits = (digits << 1) | part.bit(i) as u32;
+    }
+    digits
+}
+
+// Whether an index is 1, whatever the bit.
+fn is_second(index: usize, _bit: &bool) -> bool {
+    index == 1
+}
+
+#[test]
+fn a_predicate_is_asked(rt: HostRuntime) {
+    // five ones, split where the index is 1 in what is left
+    let words = [0x1fu8];
+    let view = BitSlice::<u8, Lsb0>::from_place(&words, 0, 5);
+    let mut parts = view.split(is_second);
+    assert!(rt;
+        row(parts.next()) == 0b11 && row(parts.next()) == 0b11 && row(parts.next()) == 0b11
+    );
+    assert!(rt; row(parts.next()) == 0 && row(parts.next_back()) == 0 && row(parts.next()) == 0);
+    let words = [0xd2u8];
+    let view = BitSlice::<u8, Lsb0>::from_place(&words, 0, 6);
+    let mut calls = 0usize;
+    {
+        let mut parts = view.split(|_i, bit| {
+            calls = calls.wrapping_add(1);
+            *bit
+        });
+        assert!(rt; row(parts.next()) == 0b10 && row(parts.next_back()) == 0b10);
+        assert!(rt; row(parts.next()) == 0b100 && row(parts.next()) == 0);
+    }
+    // 0 and 1 from the front, 0 and 1 from the back, the two between
+    assert!(rt; calls == 6);
+}
+
+#[test]
+fn a_part_is_found_by_its_number(rt: HostRuntime) {
+    // the bits 0, 1, 0, 0, 1, 0
+    let words = [0xd2u8];
+    let view = BitSlice::<u8, Lsb0>::from_place(&words, 0, 6);
+    let mut parts = view.split(is_one);
+    assert!(rt; row(parts.nth(1)) == 0b100 && row(parts.next()) == 0b10 && row(parts.nth(0)) == 0);
+    let mut parts = view.rsplit(is_one);
+    assert!(rt; row(parts.nth_back(1)) == 0b100 && row(parts.nth_back(1)) == 0);
+    let mut parts = view.split_inclusive(is_one);
+    assert!(rt; row(parts.nth_back(2)) == 0b101 && row(parts.next_back()) == 0);
+    let mut parts = view.splitn(2, is_one);
+    assert!(rt; parts.size_hint() == (0, Some(2)) && row(parts.nth(1)) == 0b10010);
+    assert!(rt; parts.size_hint() == (0, Some(0)) && row(parts.next()) == 0);
+}

@@ -1,0 +1,111 @@
+-- Stretches of bits changed, end to end: parts of words, whole words, and a stretch cut at its edges.
+use Rattle.std.proofs.Common.{◌≡◌, ℕ, ◌+◌, ◌-◌, ◌*◌, ◌<◌, ◌≤◌, Bool, List, length, get_or, set, refl, sym, ap, ◌∙◌}
+use Rattle.std.proofs.Common.{inl, inr, arith}
+use Rattle.std.proofs.lemmas.Bool.{cases_lt}
+use Rattle.bit_addressing_memory.specs.Memory.{Reading, entry, Overwrites}
+use Rattle.bit_addressing_memory.specs.Partial.{IsStored}
+use Rattle.bit_addressing_memory.proofs.EntryLemmas.{entry_read}
+use Rattle.bit_addressing_memory.proofs.PartsLemmas.{stores_as, stores_part}
+use Rattle.bit_slice_words.specs.Edits.{Changes}
+
+-- nothing is changed
+pub changes_none : {R : Type 0} (reading : Reading R) (words : List R) (place n : ℕ) (on : Bool → Bool) → n ≡ 0
+    → Changes reading words words place n on
+changes_none reading words place n on none = record {
+  there = λ k small. absurd (omega arith);
+  below = λ p low. refl;
+  above = λ p high. refl;
+  words = refl;
+}
+
+-- two changes end to end
+pub changes_join : {R : Type 0} (reading : Reading R) (before mid after : List R) (place n next m all : ℕ)
+    (on : Bool → Bool) → next ≡ place + n → all ≡ n + m
+    → Changes reading before mid place n on → Changes reading mid after next m on
+    → Changes reading before after place all on
+changes_join reading before mid after place n next m all on ends sum one two = record {
+  there = λ k small. elim (cases_lt k n) [
+    | inl low ↦ two.below (place + k) (omega arith) ∙ one.there k low
+    | inr high ↦
+        let at : next + (k - n) ≡ place + k = omega arith in
+        ap (entry reading after) (sym at)
+        ∙ two.there (k - n) (omega arith)
+        ∙ ap (λ p. on (entry reading mid p)) at
+        ∙ ap on (one.above (place + k) (omega arith))
+  ];
+  below = λ p low. two.below p (omega arith) ∙ one.below p low;
+  above = λ p high. two.above p (omega arith) ∙ one.above p (omega arith);
+  words = two.words ∙ one.words;
+}
+
+-- the same change, by other numbers
+pub changes_as : {R : Type 0} (reading : Reading R) (before after : List R) (place n at count : ℕ)
+    (on : Bool → Bool) → place ≡ at → n ≡ count → Changes reading before after place n on
+    → Changes reading before after at count on
+changes_as reading before after place n at count on same_place same_count is = rw (← same_place, ← same_count) is
+
+-- the word j changed and stored in a part of itself
+pub changes_part : {R : Type 0} (reading : Reading R) (before after : List R) (place n from j : ℕ) (x value : R)
+    (on : Bool → Bool) → Overwrites reading before after place n (λ i. reading.digit value (from + i))
+    → ((i : ℕ) → i < reading.bits → reading.digit value i ≡ on (reading.digit x i)) → x ≡ get_or before j x
+    → j < length before → from + n ≤ reading.bits → place ≡ j * reading.bits + from
+    → Changes reading before after place n on
+changes_part reading before after place n from j x value on is turned e inside within at =
+    stores_as reading before after place n (λ i. reading.digit value (from + i))
+    (λ i. on (entry reading before (place + i))) is
+    (λ i small.
+    let low : from + i < reading.bits = omega arith in
+    let here : j * reading.bits + (from + i) ≡ place + i = omega arith in
+    turned (from + i) low
+    ∙ ap on (entry_read reading before j (from + i) x low inside e ∙ ap (entry reading before) here))
+
+-- the word j changed as a whole
+changes_word : {R : Type 0} (reading : Reading R) (words : List R) (j : ℕ) (x w : R) (on : Bool → Bool)
+    → 0 < reading.bits → j < length words → x ≡ get_or words j x
+    → ((i : ℕ) → i < reading.bits → reading.digit w i ≡ on (reading.digit x i))
+    → Changes reading words (set words j w) (j * reading.bits + 0) (reading.bits - 0) on
+changes_word reading words j x w on some within e turned =
+    let stored : IsStored reading x w 0 reading.bits (reading.digit w) = record {
+      inside = λ i _ _ small. refl;
+      below = λ i none _. absurd (omega arith);
+      above = λ i past small. absurd (omega arith);
+    } in
+    changes_part reading words (set words j w) (j * reading.bits + 0) (reading.bits - 0) 0 j x w on
+    (stores_part reading words j x w 0 reading.bits (reading.digit w) within e (omega arith) (omega arith) some stored)
+    turned e within (omega arith) refl
+
+-- one whole word more
+pub changes_whole : {R : Type 0} (reading : Reading R) (before mid : List R) (from k : ℕ) (x w : R) (on : Bool → Bool)
+    → 0 < reading.bits → from ≤ k → k < length mid → x ≡ get_or mid k x
+    → ((i : ℕ) → i < reading.bits → reading.digit w i ≡ on (reading.digit x i))
+    → Changes reading before mid (from * reading.bits) ((k - from) * reading.bits) on
+    → Changes reading before (set mid k w) (from * reading.bits) ((k + 1 - from) * reading.bits) on
+changes_whole reading before mid from k x w on some least low e turned so_far =
+    let b = reading.bits in
+    let one = changes_word reading mid k x w on some low e turned in
+    let split : from + (k - from) ≡ k = omega arith in
+    let row : (from + (k - from)) * b ≡ k * b = ap (λ n. n * b) split in
+    let next : k + 1 - from ≡ k - from + 1 = omega arith in
+    let rows : (k + 1 - from) * b ≡ (k - from + 1) * b = ap (λ n. n * b) next in
+    changes_join reading before mid (set mid k w) (from * b) ((k - from) * b) (k * b + 0) (b - 0)
+    ((k + 1 - from) * b) on (omega arith) (omega arith) so_far one
+
+-- a stretch cut at its edges: its first word, whole words, its last word
+pub changes_cut : {R : Type 0} (reading : Reading R) (w0 w1 w2 w3 : List R) (place len first from last upto top : ℕ)
+    (on : Bool → Bool) → first * reading.bits + from ≡ place → last * reading.bits + upto ≡ place + len
+    → first < last → from ≤ reading.bits → upto ≤ reading.bits → top ≡ reading.bits
+    → Changes reading w0 w1 (first * reading.bits + from) (top - from) on
+    → Changes reading w1 w2 ((first + 1) * reading.bits) ((last - (first + 1)) * reading.bits) on
+    → Changes reading w2 w3 (last * reading.bits + 0) (upto - 0) on
+    → Changes reading w0 w3 place len on
+changes_cut reading w0 w1 w2 w3 place len first from last upto top on start end more index within full one two three =
+    let b = reading.bits in
+    let n : ℕ = last - (first + 1) in
+    let gap : first + 1 + n ≡ last = omega arith in
+    let row : (first + 1 + n) * b ≡ last * b = ap (λ k. k * b) gap in
+    let head = changes_as reading w0 w1 (first * b + from) (top - from) place (b - from) on start
+    (ap (λ k. k - from) full) one in
+    let front = changes_join reading w0 w1 w2 place (b - from) ((first + 1) * b) (n * b) (b - from + n * b) on
+    (omega arith) refl head two in
+    changes_join reading w0 w2 w3 place (b - from + n * b) (last * b + 0) (upto - 0) len on (omega arith) (omega arith)
+    front three

@@ -1,0 +1,88 @@
+-- Tests and answers: `differ_tested`, `answers_yes`, `answers_no`. Bits of two memories: `windows_equal`,
+-- `windows_differ`. One list in another: `holds_empty`, `holds_here`, `holds_none`, `holds_short`.
+use Rattle.std.proofs.Common.{◌≡◌, ◌≢◌, ℕ, ◌+◌, ◌*◌, ◌<◌, ◌≤◌, ◌↔◌, Bool, true, false, not, IsTrue, List, [], ◌∷◌}
+use Rattle.std.proofs.Common.{length, get_or, refl, sym, ap, ◌∙◌, arith}
+use Rattle.std.proofs.Math.Bool.{beq}
+use Rattle.std.proofs.lemmas.Bool.{false≢true}
+use Rattle.bit_addressing_memory.specs.Memory.{Reading, entry, memory, piece}
+use Rattle.bit_addressing_memory.proofs.MemoryLemmas.{piece_none, piece_piece}
+use Rattle.bit_addressing_memory.proofs.WindowLemmas.{length-window, window_bit, window_is}
+use Rattle.bit_slice_words.specs.Holds.{Holds}
+
+-- ---- what a test of two bits tells, and what an answer does
+
+-- two bits that the test tells apart
+pub differ_tested : (x y : Bool) → not (beq x y) ≡ true → x ≢ y
+differ_tested true true told same = cc
+differ_tested true false told same = cc
+differ_tested false true told same = cc
+differ_tested false false told same = cc
+
+-- the answer that it is so
+pub answers_yes : {P : Type 0} → P → IsTrue true ↔ P
+answers_yes holds = (λ _. holds, λ _. refl)
+
+-- the answer that it is not
+pub answers_no : {P : Type 0} → (P → ⊥) → IsTrue false ↔ P
+answers_no fails = (λ yes. absurd (false≢true yes), λ holds. absurd (fails holds))
+
+-- ---- bits of two memories
+
+-- as many bits of two memories are equal lists where their entries are equal
+pub windows_equal : {R Q : Type 0} (reading : Reading R) (words : List R) (its : Reading Q) (others : List Q)
+    (place other_place len : ℕ) → 0 < reading.bits → 0 < its.bits → place + len ≤ length words * reading.bits
+    → other_place + len ≤ length others * its.bits
+    → ((k : ℕ) → k < len → entry reading words (place + k) ≡ entry its others (other_place + k))
+    → piece (memory reading words) place len ≡ piece (memory its others) other_place len
+windows_equal reading words its others place other_place len some its_some fits its_fit same =
+    window_is reading words place len (piece (memory its others) other_place len) some fits
+    (length-window its others other_place len its_fit)
+    (λ k low. same k low ∙ sym (window_bit its others other_place len k its_some low))
+
+-- and they are not where two entries differ
+pub windows_differ : {R Q : Type 0} (reading : Reading R) (words : List R) (its : Reading Q) (others : List Q)
+    (place other_place len k : ℕ) (x y : Bool) → 0 < reading.bits → 0 < its.bits → k < len
+    → x ≡ entry reading words (place + k) → y ≡ entry its others (other_place + k) → x ≢ y
+    → piece (memory reading words) place len ≢ piece (memory its others) other_place len
+windows_differ reading words its others place other_place len k x y some its_some low is_x is_y other same = other (
+    is_x
+    ∙ sym (window_bit reading words place len k some low)
+    ∙ ap (λ xs. get_or xs k false) same
+    ∙ window_bit its others other_place len k its_some low
+    ∙ sym is_y
+    )
+
+-- ---- one list in another
+
+-- a list of no elements stands in every list
+pub holds_empty : {X : Type 0} (xs ys : List X) → length ys ≡ 0 → Holds xs ys
+holds_empty xs [] none = (0, omega arith, piece_none xs 0 0 refl)
+holds_empty xs (y ∷ ys) none = absurd (omega arith)
+
+-- and none stands in a shorter one
+pub holds_short : {X : Type 0} (xs ys : List X) → length xs < length ys → Holds xs ys → ⊥
+holds_short xs ys less held =
+    let fits = held.1 in
+    omega arith
+
+-- a list stands in bits of a memory where it is a piece of them
+pub holds_here : {R : Type 0} (reading : Reading R) (words : List R) (place len i n : ℕ) (ys : List Bool)
+    → place + len ≤ length words * reading.bits → i + n ≤ len → length ys ≡ n
+    → piece (memory reading words) (place + i) n ≡ ys → Holds (piece (memory reading words) place len) ys
+holds_here reading words place len i n ys fits inside size here =
+    let xs = piece (memory reading words) place len in
+    let count : length xs ≡ len = length-window reading words place len fits in
+    (i, omega arith, ap (piece xs i) size ∙ piece_piece (memory reading words) place len i n inside ∙ here)
+
+-- and it does not where it is none of them
+pub holds_none : {R : Type 0} (reading : Reading R) (words : List R) (place len n : ℕ) (ys : List Bool)
+    → place + len ≤ length words * reading.bits → length ys ≡ n
+    → ((i : ℕ) → i + n ≤ len → piece (memory reading words) (place + i) n ≢ ys)
+    → Holds (piece (memory reading words) place len) ys → ⊥
+holds_none reading words place len n ys fits size none held =
+    let xs = piece (memory reading words) place len in
+    let i = held.0 in
+    let inside : i + n ≤ len = omega (arith, held.1, length-window reading words place len fits) in
+    none i inside (
+    sym (piece_piece (memory reading words) place len i n inside) ∙ ap (piece xs i) (sym size) ∙ held.2
+    )

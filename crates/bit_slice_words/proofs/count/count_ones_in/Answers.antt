@@ -1,0 +1,42 @@
+use Rattle.std.proofs.Common.{◌<◌, length, arith}
+use Rattle.bit_addressing_memory.specs.Memory.{read_by}
+use Rattle.bit_slice_words.proofs.CountLemmas.{trues_empty, trues_one, trues_cut, trues_fit}
+use Rattle.bit_slice_words.proofs.count.count_ones_in.Goals as goal
+
+pub returns-then-len-eq0 : goal.returns-then-len-eq0
+returns-then-len-eq0 g c = trues_empty _ c.args.place _ c.if-len-eq0.true
+
+pub returns-then-cut : goal.returns-then-cut
+returns-then-cut g c =
+    let reading = read_by g.R.BitRegister g.O.Positions.position in
+    let cut = c.edges_of-cut.ensures in
+    let at = c.edges_of-cut.result in
+    let low : at.last < length c.args.words.now = cut.fits _ c.requires.within in
+    trues_one reading c.args.words.now c.args.place c.args.len at.first at.from at.last at.upto
+    c.index-words-cut.result c.ones_of_part.result cut.start cut.end c.if-cut.true cut.within (omega arith)
+    (omega arith) c.index-words-cut.is c.ones_of_part.ensures
+
+-- the first word's part, the words between, the last word's part
+pub returns : goal.returns
+returns g c =
+    let reading = read_by g.R.BitRegister g.O.Positions.position in
+    let cut = c.edges_of-cut.ensures in
+    let at = c.edges_of-cut.result in
+    trues_cut reading c.args.words.now c.between.result.now c.args.place c.args.len at.first at.from at.last at.upto
+    c.BITS.result c.index-words-cut-2.result c.index-words-cut-3.result
+    c.ones_of_part-head.result c.ones_of_words-body.result c.ones_of_part-tail.result
+    cut.start cut.end (omega arith) (omega arith) cut.within (cut.fits _ c.requires.within)
+    c.index-words-cut-2.is c.index-words-cut-3.is c.between.ensures c.BITS.ensures
+    c.ones_of_part-head.ensures c.ones_of_words-body.ensures c.ones_of_part-tail.ensures
+
+pub overflow_add-result : goal.overflow_add-result
+overflow_add-result g c =
+    let reading = read_by g.R.BitRegister g.O.Positions.position in
+    let fits = trues_fit reading c.args.words.now c.args.place c.args.len _ c.requires.within (returns g c) in
+    omega arith
+
+pub overflow_add-result-2 : goal.overflow_add-result-2
+overflow_add-result-2 g c =
+    let reading = read_by g.R.BitRegister g.O.Positions.position in
+    let fits = trues_fit reading c.args.words.now c.args.place c.args.len _ c.requires.within (returns g c) in
+    omega arith

@@ -1,0 +1,13 @@
+pub mod Found
+pub mod Holds
+pub mod Stretch
+pub mod Edits
+pub mod Rotations
+pub mod PathLaws
+pub mod Steps
+-- what public clauses cite of the crates below
+pub use Rattle.bit_addressing_memory.specs.BitOrder
+pub use Rattle.bit_addressing_memory.specs.BitRegister
+pub use Rattle.bit_addressing_memory.specs.Bits
+pub use Rattle.bit_addressing_memory.specs.Memory
+pub use Rattle.bit_addressing_memory.specs.Moves

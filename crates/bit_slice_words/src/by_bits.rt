@@ -1,0 +1,183 @@
+//! Word paths bit by bit, one step a bit: what an order whose `SPAN` is 1 calls.
+
+ghost use Rattle.std.specs.Prelude.{◌≡◌, ℕ, ◌+◌, ◌*◌, ◌^◌, ◌<◌, ◌≤◌, ◌↔◌, ◌&&◌, ◌||◌};
+ghost use Rattle.std.specs.Prelude.{length, IsTrue, true, false};
+ghost use Rattle.std.specs.Bool.{xor};
+ghost use Rattle.bit_addressing_memory.specs.Memory.{entry, read_by, Copies, Overwrites};
+ghost use Rattle.bit_slice_words.specs.Steps.{groups, Takes};
+
+use crate::combine::{and_in, or_in, xor_in};
+use crate::steps::Steps;
+use bit_addressing_memory::{
+    BitOrder, BitRegister, copy_between, copy_within, read_entry, swap_between,
+};
+
+// Counts a step for each bit.
+#[tactic(auto, using(crate::proofs::StepLemmas::count_steps))]
+fn count(len: usize, steps: &mut Steps)
+    ensures { Takes steps.old steps.new (groups len 64) (groups len 1) }
+{
+    for _ in 0..len {
+        steps.step();
+    }
+}
+
+/// `WordPaths::equal`, a step a bit.
+pub fn equal<R: BitRegister, O: BitOrder<R>>(
+    words: &[R],
+    place: usize,
+    others: &[R],
+    other_place: usize,
+    len: usize,
+    steps: &mut Steps,
+) -> bool
+    requires within { place + len ≤ length words.now * R.BITS }
+    requires ends { place + len < 2 ^ 64 }
+    requires other_within { other_place + len ≤ length others.now * R.BITS }
+    requires other_ends { other_place + len < 2 ^ 64 }
+    ensures value { IsTrue result ↔ ((k : ℕ) → k < len
+        → entry (read_by R.BitRegister O.position) words.now (place + k)
+        ≡ entry (read_by R.BitRegister O.position) others.now (other_place + k)) }
+    ensures same { result ≡ true → Takes steps.old steps.new (groups len 64) (groups len 1) }
+    ensures other { result ≡ false → Takes steps.old steps.new 1 (groups len 1) }
+{
+    for k in 0..len {
+        steps.step();
+        let bit = read_entry::<R, O>(words, place + k);
+        let other = read_entry::<R, O>(others, other_place + k);
+        if bit != other {
+            return false;
+        }
+    }
+    true
+}
+
+/// `WordPaths::copy`, a step a bit.
+pub fn copy<R: BitRegister, O: BitOrder<R>>(
+    words: &mut [R],
+    place: usize,
+    others: &[R],
+    other_place: usize,
+    len: usize,
+    steps: &mut Steps,
+)
+    requires within { place + len ≤ length words.old * R.BITS }
+    requires ends { place + len < 2 ^ 64 }
+    requires other_within { other_place + len ≤ length others.now * R.BITS }
+    requires other_ends { other_place + len < 2 ^ 64 }
+    ensures copied { Copies (read_by R.BitRegister O.position) words.old words.new
+        (read_by R.BitRegister O.position) others.now other_place place len }
+    ensures steps { Takes steps.old steps.new (groups len 64) (groups len 1) }
+{
+    copy_between::<R, O, R, O>(others, other_place, words, place, len);
+    count(len, steps);
+}
+
+/// `WordPaths::swap`, a step a bit.
+pub fn swap<R: BitRegister, O: BitOrder<R>>(
+    words: &mut [R],
+    place: usize,
+    others: &mut [R],
+    other_place: usize,
+    len: usize,
+    steps: &mut Steps,
+)
+    requires within { place + len ≤ length words.old * R.BITS }
+    requires ends { place + len < 2 ^ 64 }
+    requires other_within { other_place + len ≤ length others.old * R.BITS }
+    requires other_ends { other_place + len < 2 ^ 64 }
+    ensures to_words { Copies (read_by R.BitRegister O.position) words.old words.new
+        (read_by R.BitRegister O.position) others.old other_place place len }
+    ensures to_others { Copies (read_by R.BitRegister O.position) others.old others.new
+        (read_by R.BitRegister O.position) words.old place other_place len }
+    ensures steps { Takes steps.old steps.new (groups len 64) (groups len 1) }
+{
+    swap_between::<R, O, R, O>(words, place, others, other_place, len);
+    count(len, steps);
+}
+
+/// `WordPaths::copy_over`, a step a bit.
+pub fn copy_over<R: BitRegister, O: BitOrder<R>>(
+    words: &mut [R],
+    source: usize,
+    target: usize,
+    len: usize,
+    steps: &mut Steps,
+)
+    requires source_within { source + len ≤ length words.old * R.BITS }
+    requires source_ends { source + len < 2 ^ 64 }
+    requires target_within { target + len ≤ length words.old * R.BITS }
+    requires target_ends { target + len < 2 ^ 64 }
+    ensures copied { Copies (read_by R.BitRegister O.position) words.old words.new
+        (read_by R.BitRegister O.position) words.old source target len }
+    ensures steps { Takes steps.old steps.new (groups len 64) (groups len 1) }
+{
+    copy_within::<R, O>(words, source, target, len);
+    count(len, steps);
+}
+
+/// `WordPaths::and`, a step a bit.
+pub fn and<R: BitRegister, O: BitOrder<R>>(
+    words: &mut [R],
+    place: usize,
+    others: &[R],
+    other_place: usize,
+    len: usize,
+    steps: &mut Steps,
+)
+    requires within { place + len ≤ length words.old * R.BITS }
+    requires ends { place + len < 2 ^ 64 }
+    requires other_within { other_place + len ≤ length others.now * R.BITS }
+    requires other_ends { other_place + len < 2 ^ 64 }
+    ensures combined { Overwrites (read_by R.BitRegister O.position) words.old words.new place len
+        (λ k. entry (read_by R.BitRegister O.position) words.old (place + k)
+        && entry (read_by R.BitRegister O.position) others.now (other_place + k)) }
+    ensures steps { Takes steps.old steps.new (groups len 64) (groups len 1) }
+{
+    and_in::<R, O, R, O>(words, place, others, other_place, len);
+    count(len, steps);
+}
+
+/// `WordPaths::or`, a step a bit.
+pub fn or<R: BitRegister, O: BitOrder<R>>(
+    words: &mut [R],
+    place: usize,
+    others: &[R],
+    other_place: usize,
+    len: usize,
+    steps: &mut Steps,
+)
+    requires within { place + len ≤ length words.old * R.BITS }
+    requires ends { place + len < 2 ^ 64 }
+    requires other_within { other_place + len ≤ length others.now * R.BITS }
+    requires other_ends { other_place + len < 2 ^ 64 }
+    ensures combined { Overwrites (read_by R.BitRegister O.position) words.old words.new place len
+        (λ k. entry (read_by R.BitRegister O.position) words.old (place + k)
+        || entry (read_by R.BitRegister O.position) others.now (other_place + k)) }
+    ensures steps { Takes steps.old steps.new (groups len 64) (groups len 1) }
+{
+    or_in::<R, O, R, O>(words, place, others, other_place, len);
+    count(len, steps);
+}
+
+/// `WordPaths::xor`, a step a bit.
+pub fn xor<R: BitRegister, O: BitOrder<R>>(
+    words: &mut [R],
+    place: usize,
+    others: &[R],
+    other_place: usize,
+    len: usize,
+    steps: &mut Steps,
+)
+    requires within { place + len ≤ length words.old * R.BITS }
+    requires ends { place + len < 2 ^ 64 }
+    requires other_within { other_place + len ≤ length others.now * R.BITS }
+    requires other_ends { other_place + len < 2 ^ 64 }
+    ensures combined { Overwrites (read_by R.BitRegister O.position) words.old words.new place len
+        (λ k. xor (entry (read_by R.BitRegister O.position) words.old (place + k))
+        (entry (read_by R.BitRegister O.position) others.now (other_place + k))) }
+    ensures steps { Takes steps.old steps.new (groups len 64) (groups len 1) }
+{
+    xor_in::<R, O, R, O>(words, place, others, other_place, len);
+    count(len, steps);
+}

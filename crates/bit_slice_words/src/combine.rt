@@ -1,0 +1,120 @@
+//! Bits combined with those of another memory.
+
+ghost use Rattle.std.specs.Prelude.{◌≡◌, ◌+◌, ◌*◌, ◌^◌, ◌<◌, ◌≤◌, ◌&&◌, ◌||◌, length};
+ghost use Rattle.std.specs.Bool.{xor};
+ghost use Rattle.bit_addressing_memory.specs.Memory.{entry, read_by, Overwrites};
+ghost use Rattle.bit_slice_words.specs.Edits.{combined_bit, Combines};
+
+use bit_addressing_memory::{BitOrder, BitRegister, read_entry, write_entry};
+
+/// How two bits make one.
+#[derive(Clone, Copy)]
+pub(crate) enum Combination {
+    And,
+    Or,
+    Xor,
+}
+
+// The bit that two make.
+fn combined(how: Combination, bit: bool, other: bool) -> bool
+    ensures { result ≡ combined_bit how bit other }
+{
+    match how {
+        Combination::And => bit && other,
+        Combination::Or => bit || other,
+        Combination::Xor => bit != other,
+    }
+}
+
+// Combines each of `len` bits with one of another memory.
+#[tactic(auto, using(crate::proofs::ChangedStretchLemmas::stretch_steps))]
+fn combine_in<R: BitRegister, O: BitOrder<R>, Q: BitRegister, P: BitOrder<Q>>(
+    words: &mut [R],
+    place: usize,
+    others: &[Q],
+    other_place: usize,
+    len: usize,
+    how: Combination,
+)
+    requires within { place + len ≤ length words.old * R.BITS }
+    requires ends { place + len < 2 ^ 64 }
+    requires other_within { other_place + len ≤ length others.now * Q.BITS }
+    requires other_ends { other_place + len < 2 ^ 64 }
+    ensures { Combines (read_by R.BitRegister O.position) words.old words.new place len
+        (combined_bit how) (read_by Q.BitRegister P.position) others.now other_place }
+{
+    for k in 0..len {
+        let bit = read_entry::<R, O>(words, place + k);
+        let other = read_entry::<Q, P>(others, other_place + k);
+        write_entry::<R, O>(words, place + k, combined(how, bit, other));
+    }
+}
+
+/// Clears each of `len` bits of a memory, from `place` on, where the memory `others` has a zero, from
+/// `other_place` on. Both stretches lie in their memories, and their ends fit a `usize`;
+/// the two may have different words and orders. Every other bit of the memory stays.
+///
+/// What `&=` of a bitvec slice does with as many bits of another.
+pub fn and_in<R: BitRegister, O: BitOrder<R>, Q: BitRegister, P: BitOrder<Q>>(
+    words: &mut [R],
+    place: usize,
+    others: &[Q],
+    other_place: usize,
+    len: usize,
+)
+    requires within { place + len ≤ length words.old * R.BITS }
+    requires ends { place + len < 2 ^ 64 }
+    requires other_within { other_place + len ≤ length others.now * Q.BITS }
+    requires other_ends { other_place + len < 2 ^ 64 }
+    ensures combined { Overwrites (read_by R.BitRegister O.position) words.old words.new place len
+        (λ k. entry (read_by R.BitRegister O.position) words.old (place + k)
+        && entry (read_by Q.BitRegister P.position) others.now (other_place + k)) }
+{
+    combine_in::<R, O, Q, P>(words, place, others, other_place, len, Combination::And);
+}
+
+/// Sets each of `len` bits of a memory, from `place` on, where the memory `others` has a one, from `other_place`
+/// on. Both stretches lie in their memories, and their ends fit a `usize`; the two may have different words and
+/// orders. Every other bit of the memory stays.
+///
+/// What `|=` of a bitvec slice does with as many bits of another.
+pub fn or_in<R: BitRegister, O: BitOrder<R>, Q: BitRegister, P: BitOrder<Q>>(
+    words: &mut [R],
+    place: usize,
+    others: &[Q],
+    other_place: usize,
+    len: usize,
+)
+    requires within { place + len ≤ length words.old * R.BITS }
+    requires ends { place + len < 2 ^ 64 }
+    requires other_within { other_place + len ≤ length others.now * Q.BITS }
+    requires other_ends { other_place + len < 2 ^ 64 }
+    ensures combined { Overwrites (read_by R.BitRegister O.position) words.old words.new place len
+        (λ k. entry (read_by R.BitRegister O.position) words.old (place + k)
+        || entry (read_by Q.BitRegister P.position) others.now (other_place + k)) }
+{
+    combine_in::<R, O, Q, P>(words, place, others, other_place, len, Combination::Or);
+}
+
+/// Flips each of `len` bits of a memory, from `place` on, where the memory `others` has a one, from
+/// `other_place` on. Both stretches lie in their memories, and their ends fit a `usize`; the two may have
+/// different words and orders. Every other bit of the memory stays.
+///
+/// What `^=` of a bitvec slice does with as many bits of another.
+pub fn xor_in<R: BitRegister, O: BitOrder<R>, Q: BitRegister, P: BitOrder<Q>>(
+    words: &mut [R],
+    place: usize,
+    others: &[Q],
+    other_place: usize,
+    len: usize,
+)
+    requires within { place + len ≤ length words.old * R.BITS }
+    requires ends { place + len < 2 ^ 64 }
+    requires other_within { other_place + len ≤ length others.now * Q.BITS }
+    requires other_ends { other_place + len < 2 ^ 64 }
+    ensures combined { Overwrites (read_by R.BitRegister O.position) words.old words.new place len
+        (λ k. xor (entry (read_by R.BitRegister O.position) words.old (place + k))
+        (entry (read_by Q.BitRegister P.position) others.now (other_place + k))) }
+{
+    combine_in::<R, O, Q, P>(words, place, others, other_place, len, Combination::Xor);
+}

@@ -1,0 +1,42 @@
+//! Bits of one memory that stand in those of another.
+
+ghost use Rattle.std.specs.Prelude.{◌≡◌, ◌+◌, ◌*◌, ◌^◌, ◌<◌, ◌≤◌, ◌↔◌, length, IsTrue};
+ghost use Rattle.bit_addressing_memory.specs.Memory.{memory, piece, read_by};
+ghost use Rattle.bit_slice_words.specs.Holds.{Holds};
+
+use crate::equal::equal_in;
+use bit_addressing_memory::{BitOrder, BitRegister};
+
+/// Whether the `other_len` bits of the memory `others` from a place on stand, in order and next to each other, in the
+/// `len` bits of the memory `words` from another place on. No bits stand everywhere.
+///
+/// The two may have different words and orders. Where the other list has bits, it answers as `contains` of a slice in
+/// bitvec 1.1.1.
+pub fn contains_in<R: BitRegister, O: BitOrder<R>, Q: BitRegister, P: BitOrder<Q>>(
+    words: &[R],
+    place: usize,
+    len: usize,
+    others: &[Q],
+    other_place: usize,
+    other_len: usize,
+) -> bool
+    requires within { place + len ≤ length words.now * R.BITS }
+    requires ends { place + len < 2 ^ 64 }
+    requires other_within { other_place + other_len ≤ length others.now * Q.BITS }
+    requires other_ends { other_place + other_len < 2 ^ 64 }
+    ensures { IsTrue result ↔ Holds (piece (memory (read_by R.BitRegister O.position) words.now) place len)
+        (piece (memory (read_by Q.BitRegister P.position) others.now) other_place other_len) }
+{
+    if other_len == 0 {
+        return true;
+    }
+    if len < other_len {
+        return false;
+    }
+    for i in 0..len - other_len + 1 {
+        if equal_in::<R, O, Q, P>(words, place + i, others, other_place, other_len) {
+            return true;
+        }
+    }
+    false
+}

@@ -1,0 +1,23 @@
+//! Bits made all the same.
+
+ghost use Rattle.std.specs.Prelude.{◌+◌, ◌*◌, ◌^◌, ◌<◌, ◌≤◌, length};
+ghost use Rattle.bit_addressing_memory.specs.Memory.{read_by, Overwrites};
+
+use crate::change::{Change, change_in};
+use bit_addressing_memory::{BitOrder, BitRegister};
+
+/// Makes `len` bits of a memory, those from `place` on, `bit`. They lie in the memory, and `place + len` fits a
+/// `usize`. Every other bit of the memory stays, also in the words that hold the first and the last of them.
+///
+/// What `fill` of a bitvec slice does.
+pub fn fill_in<R: BitRegister, O: BitOrder<R>>(words: &mut [R], place: usize, len: usize, bit: bool)
+    requires within { place + len ≤ length words.old * R.BITS }
+    requires ends { place + len < 2 ^ 64 }
+    ensures filled { Overwrites (read_by R.BitRegister O.position) words.old words.new place len (λ _. bit) }
+{
+    if bit {
+        change_in::<R, O>(words, place, len, Change::Set);
+    } else {
+        change_in::<R, O>(words, place, len, Change::Clear);
+    }
+}

@@ -1,0 +1,118 @@
+//! The first bit of a kind, by words.
+
+ghost use Rattle.std.specs.Prelude.{◌≡◌, ℕ, ◌+◌, ◌*◌, ◌^◌, ◌<◌, ◌≤◌, length, position};
+ghost use Rattle.bit_addressing_memory.specs.Memory.{indexed, memory, piece, read_by};
+ghost use Rattle.bit_slice_words.specs.Found.{is_bit};
+ghost use Rattle.bit_slice_words.specs.Stretch.{bit_found, IsFirst, Nowhere};
+
+use crate::edges::edges_of;
+use crate::lacks::lacks;
+use bit_addressing_memory::mem::bits_of;
+use bit_addressing_memory::{BitIdx, BitOrder, BitRegister, read_bit};
+
+/// The index of the first of the `len` bits from a place on that is `bit`, counted from that place; `None` where
+/// none is.
+///
+/// A whole word that has no such bit is passed over by one comparison. It answers as `first_one` of a slice in bitvec
+/// 1.1.1, and for false as `first_zero`.
+pub fn first_in<R: BitRegister, O: BitOrder<R>>(
+    words: &[R],
+    place: usize,
+    len: usize,
+    bit: bool,
+) -> Option<usize>
+    requires within { place + len ≤ length words.now * R.BITS }
+    requires ends { place + len < 2 ^ 64 }
+    ensures { result ≡ position (is_bit bit) (piece (memory (read_by R.BitRegister O.position) words.now) place len) }
+{
+    match first_place::<R, O>(words, place, len, bit) {
+        Some(at) => Some(at - place),
+        None => None,
+    }
+}
+
+// The place of the first of some bits that is `bit`: in the first word, in the words between or in the last word.
+fn first_place<R: BitRegister, O: BitOrder<R>>(
+    words: &[R],
+    place: usize,
+    len: usize,
+    bit: bool,
+) -> Option<usize>
+    requires within { place + len ≤ length words.now * R.BITS }
+    requires ends { place + len < 2 ^ 64 }
+    ensures { IsFirst (bit_found (read_by R.BitRegister O.position) words.now bit) place (place + len) result }
+{
+    if len == 0 {
+        return None;
+    }
+    let cut = edges_of::<R>(place, len);
+    if cut.first == cut.last {
+        return first_at::<R, O>(words, cut.first, cut.from, cut.upto, bit);
+    }
+    if let Some(at) = first_at::<R, O>(words, cut.first, cut.from, R::BITS, bit) {
+        return Some(at);
+    }
+    let next = next_word::<R, O>(words, cut.first + 1, cut.last, bit);
+    let upto = if next == cut.last { cut.upto } else { R::BITS };
+    first_at::<R, O>(words, next, 0, upto, bit)
+}
+
+// The first word from one number up to before another that has the bit, or the second number.
+fn next_word<R: BitRegister, O: BitOrder<R>>(
+    words: &[R],
+    from: usize,
+    upto: usize,
+    bit: bool,
+) -> usize
+    requires order { from ≤ upto }
+    requires within { upto ≤ length words.now }
+    ensures least { from ≤ result }
+    ensures most { result ≤ upto }
+    ensures none { Nowhere (bit_found (read_by R.BitRegister O.position) words.now bit)
+        (from * R.BITS) (result * R.BITS) }
+    ensures some { result < upto → ¬ Nowhere (bit_found (read_by R.BitRegister O.position) words.now bit)
+        (result * R.BITS) ((result + 1) * R.BITS) }
+{
+    for k in from..upto {
+        if !lacks::<R, O>(words[k], bit) {
+            return k;
+        }
+    }
+    upto
+}
+
+// The place of the first bit that is `bit` in a part of a word.
+fn first_at<R: BitRegister, O: BitOrder<R>>(
+    words: &[R],
+    word: usize,
+    from: u8,
+    upto: u8,
+    bit: bool,
+) -> Option<usize>
+    requires inside { word < length words.now }
+    requires within { upto ≤ R.BITS }
+    requires ends { word * R.BITS + upto < 2 ^ 64 }
+    ensures { IsFirst (bit_found (read_by R.BitRegister O.position) words.now bit)
+        (word * R.BITS + from) (word * R.BITS + upto) result }
+{
+    match first_index::<R, O>(words[word], from, upto, bit) {
+        Some(i) => Some(word * bits_of::<R>() + i as usize),
+        None => None,
+    }
+}
+
+// The first index of a part of a word whose bit is `bit`.
+fn first_index<R: BitRegister, O: BitOrder<R>>(word: R, from: u8, upto: u8, bit: bool) -> Option<u8>
+    requires { upto ≤ R.BITS }
+    ensures { IsFirst (λ i. is_bit bit (indexed R.number O.position word i)) from upto result }
+{
+    if lacks::<R, O>(word, bit) {
+        return None;
+    }
+    for i in from..upto {
+        if read_bit::<R, O>(word, BitIdx::new_unchecked(i)) == bit {
+            return Some(i);
+        }
+    }
+    None
+}

@@ -1,0 +1,20 @@
+//! Bits flipped.
+
+ghost use Rattle.std.specs.Prelude.{◌+◌, ◌*◌, ◌^◌, ◌<◌, ◌≤◌, not, length};
+ghost use Rattle.bit_addressing_memory.specs.Memory.{entry, read_by, Overwrites};
+
+use crate::change::{Change, change_in};
+use bit_addressing_memory::{BitOrder, BitRegister};
+
+/// Flips `len` bits of a memory, those from `place` on. They lie in the memory, and `place + len` fits a
+/// `usize`. Every other bit of the memory stays.
+///
+/// What `!` of a writable bitvec slice does.
+pub fn not_in<R: BitRegister, O: BitOrder<R>>(words: &mut [R], place: usize, len: usize)
+    requires within { place + len ≤ length words.old * R.BITS }
+    requires ends { place + len < 2 ^ 64 }
+    ensures flipped { Overwrites (read_by R.BitRegister O.position) words.old words.new place len
+        (λ k. not (entry (read_by R.BitRegister O.position) words.old (place + k))) }
+{
+    change_in::<R, O>(words, place, len, Change::Flip);
+}

@@ -1,0 +1,39 @@
+//! Work on stretches of bits in words, for every order: scans, changes, and word paths, which an order may make quick.
+#![tactic(auto)]
+
+pub mod by_bits;
+mod change;
+mod combine;
+mod compare;
+mod contains;
+mod count;
+mod edges;
+mod equal;
+mod fill;
+mod first;
+mod invert;
+mod lacks;
+mod last;
+mod moves;
+mod paths;
+mod reverse;
+mod rotate;
+mod shift;
+mod steps;
+
+pub use combine::{and_in, or_in, xor_in};
+pub use compare::compare_in;
+pub use contains::contains_in;
+pub use count::{count_ones_in, count_zeros_in};
+pub use edges::{Edges, between, edges_of};
+pub use equal::equal_in;
+pub use fill::fill_in;
+pub use first::first_in;
+pub use invert::not_in;
+pub use last::last_in;
+pub use moves::move_words;
+pub use paths::WordPaths;
+pub use reverse::reverse_in;
+pub use rotate::{rotate_left_in, rotate_right_in};
+pub use shift::{shift_left_in, shift_right_in};
+pub use steps::Steps;

@@ -1,0 +1,54 @@
+//! Bits rotated: those that leave a stretch at one end come in at the other.
+
+ghost use Rattle.std.specs.Prelude.{◌+◌, ◌-◌, ◌*◌, ◌^◌, ◌<◌, ◌≤◌, length};
+ghost use Rattle.bit_addressing_memory.specs.Memory.{entry, read_by, Overwrites};
+ghost use Rattle.bit_slice_words.specs.Rotations.{rotated_from};
+
+use crate::reverse::reverse_in;
+use bit_addressing_memory::{BitOrder, BitRegister};
+
+/// Moves each of `len` bits of a memory, those from `place` on, `by` places towards the first of them; the
+/// first `by` become the last. They lie in the memory, `place + len` fits a `usize`, and `by` is at most `len`.
+/// Every other bit of the memory stays.
+///
+/// What `rotate_left` of a bitvec slice does. Each of the two parts is turned round, and then the whole:
+///
+/// ```text
+/// a b c | d e f g     c b a | g f e d     d e f g | a b c
+/// ```
+pub fn rotate_left_in<R: BitRegister, O: BitOrder<R>>(
+    words: &mut [R],
+    place: usize,
+    len: usize,
+    by: usize,
+)
+    requires within { place + len ≤ length words.old * R.BITS }
+    requires ends { place + len < 2 ^ 64 }
+    requires most { by ≤ len }
+    ensures rotated { Overwrites (read_by R.BitRegister O.position) words.old words.new place len
+        (λ k. entry (read_by R.BitRegister O.position) words.old (place + rotated_from len by k)) }
+{
+    reverse_in::<R, O>(words, place, by);
+    reverse_in::<R, O>(words, place + by, len - by);
+    reverse_in::<R, O>(words, place, len);
+}
+
+/// Moves each of `len` bits of a memory, those from `place` on, `by` places towards the last of them; the last
+/// `by` become the first. They lie in the memory, `place + len` fits a `usize`, and `by` is at most `len`.
+/// Every other bit of the memory stays.
+///
+/// What `rotate_right` of a bitvec slice does: a rotation to the left by the other `len - by` places.
+pub fn rotate_right_in<R: BitRegister, O: BitOrder<R>>(
+    words: &mut [R],
+    place: usize,
+    len: usize,
+    by: usize,
+)
+    requires within { place + len ≤ length words.old * R.BITS }
+    requires ends { place + len < 2 ^ 64 }
+    requires most { by ≤ len }
+    ensures rotated { Overwrites (read_by R.BitRegister O.position) words.old words.new place len
+        (λ k. entry (read_by R.BitRegister O.position) words.old (place + rotated_from len (len - by) k)) }
+{
+    rotate_left_in::<R, O>(words, place, len, len - by);
+}

@@ -1,0 +1,158 @@
+-- Rows whose letters change, and rows that go.
+--
+-- Letters decided by letters: `lettered_decided`; told row by row: `lettered_told`, `told_more`, `length-told`. What is
+-- told of them: `count-lettered`, `ones-passing`, `bears-letters`, `one_found`, `none_found`. Rows that do not bear a
+-- letter: `staying-lettered`, `count-staying`. Rows without letters: `blank-from`.
+use Rattle.std.proofs.Common.{◌≡◌, ℕ, zero, suc, ◌+◌, ◌<◌, ◌≤◌, Bool, true, false, not, List, [], ◌∷◌, ◌++◌, length, map}
+use Rattle.std.proofs.Common.{get_or, take, inl, inr, refl, sym, ap, ap₂, ◌∙◌, arith, if◌then◌else◌}
+use Rattle.std.specs.Prelude.{count_by, replicate, slice_index_or, slice_set}
+use Rattle.std.specs.List.{filter}
+use Rattle.std.specs.FinSet as set
+use Rattle.std.proofs.lemmas.Bool.{cases_Bool}
+use Rattle.std.proofs.lemmas.List.{append-nil}
+use Rattle.std.proofs.lemmas.List.Sums.{length-filter, sum_by-cons}
+use Rattle.bit_table_layout.specs.Layouts.{LayoutShape}
+use Rattle.bit_table_layout.specs.Readings.{rows_from}
+use Rattle.bit_table_layout.specs.Rows.{Row}
+use Rattle.bit_table_commands.specs.LetterSets.{LetterSet, bears, with_letter}
+use Rattle.bit_table_commands.specs.Marks.{row_bears, marked, rows_passing}
+use Rattle.bit_table_rows.specs.Marks.{decided}
+use Rattle.bit_table_rows.specs.RowsKept.{left_of}
+use Rattle.bit_table.specs.Lettered.{lettered}
+use Rattle.bit_table.specs.Told.{told, ones_from}
+
+-- a letter that is decided by the other letters
+pub lettered_decided : (x : ℕ) (decide : LetterSet → Bool) (rows : List Row) (marks : List LetterSet)
+    → length rows ≡ length marks
+    → lettered rows (decided x decide marks) ≡ marked x (λ (row : Row). decide row.letters) (lettered rows marks)
+lettered_decided x decide [] marks same = refl
+lettered_decided x decide (row ∷ rows) [] same = absurd (omega (arith, same))
+lettered_decided x decide (row ∷ rows) (letters ∷ marks) same =
+    ap (λ (rs : List Row). record row { letters = with_letter x (decide letters) letters } ∷ rs)
+    (lettered_decided x decide rows marks (omega (arith, same)))
+
+-- a letter that is decided by what the letters do not change
+pub lettered_told : (x : ℕ) (decide : Row → Bool) → ((row : Row) (letters : LetterSet) → decide (record row { letters = letters }) ≡ decide row)
+    → (rows : List Row) (marks : List LetterSet) → length rows ≡ length marks
+    → lettered rows (told x (map decide rows) marks) ≡ marked x decide (lettered rows marks)
+lettered_told x decide blind [] marks same = refl
+lettered_told x decide blind (row ∷ rows) [] same = absurd (omega (arith, same))
+lettered_told x decide blind (row ∷ rows) (letters ∷ marks) same =
+    ap₂ (λ (goes : Bool) (rs : List Row). record row { letters = with_letter x goes letters } ∷ rs)
+    (sym (blind row letters)) (lettered_told x decide blind rows marks (omega (arith, same)))
+
+pub length-told : (x : ℕ) (flags : List Bool) (marks : List LetterSet) → length (told x flags marks) ≡ length marks
+length-told x [] marks = refl
+length-told x (flag ∷ flags) [] = refl
+length-told x (flag ∷ flags) (letters ∷ marks) = ap suc (length-told x flags marks)
+
+-- one flag more
+pub told_more : (x : ℕ) (flags : List Bool) (i : ℕ) (d : Bool) (marks : List LetterSet) → i < length flags
+    → length flags ≤ length marks
+    → told x (take (i + 1) flags) marks
+    ≡ slice_set (told x (take i flags) marks) i
+    (with_letter x (get_or flags i d) (slice_index_or (told x (take i flags) marks) i set.empty))
+told_more x [] i d marks low enough = absurd (omega (arith, low))
+told_more x (flag ∷ flags) i d [] low enough = absurd (omega (arith, enough))
+told_more x (flag ∷ flags) zero d (letters ∷ marks) low enough = refl
+told_more x (flag ∷ flags) (suc i) d (letters ∷ marks) low enough =
+    let count : suc i + 1 ≡ suc (i + 1) = omega arith in
+    ap (λ m. told x (take m (flag ∷ flags)) (letters ∷ marks)) count
+    ∙ ap (λ ls. with_letter x flag letters ∷ ls) (told_more x flags i d marks (omega (arith, low)) (omega (arith, enough)))
+
+-- how many rows bear a letter
+counted_first : {X : Type 0} (p : X → Bool) (x : X) (xs : List X)
+    → count_by p (x ∷ xs) ≡ (if p x then 1 else 0) + count_by p xs
+counted_first p x xs = sum_by-cons (λ y. if p y then 1 else 0) x xs
+
+pub count-lettered : (x : ℕ) (rows : List Row) (marks : List LetterSet) → length rows ≡ length marks
+    → count_by (bears x) marks ≡ count_by (row_bears x) (lettered rows marks)
+count-lettered x [] [] same = refl
+count-lettered x [] (letters ∷ marks) same = absurd (omega (arith, same))
+count-lettered x (row ∷ rows) [] same = absurd (omega (arith, same))
+count-lettered x (row ∷ rows) (letters ∷ marks) same =
+    counted_first (bears x) letters marks
+    ∙ ap (λ n. (if bears x letters then 1 else 0) + n) (count-lettered x rows marks (omega (arith, same)))
+    ∙ sym (counted_first (row_bears x) (record row { letters = letters }) (lettered rows marks))
+
+-- the numbers of the rows that pass a test
+pub ones-passing : (test : Row → Bool) (from : ℕ) (rows : List Row) → ones_from from (map test rows) ≡ rows_passing test from rows
+ones-passing test from [] = refl
+ones-passing test from (row ∷ rows) = ap (λ ns. if test row then from ∷ ns else ns) (ones-passing test (from + 1) rows)
+
+-- the rows that do not bear a letter
+pub staying-lettered : (x : ℕ) (rows : List Row) (marks : List LetterSet) → length rows ≡ length marks
+    → lettered (left_of (map (bears x) marks) rows) (filter (λ letters. not (bears x letters)) marks)
+    ≡ filter (λ row. not (row_bears x row)) (lettered rows marks)
+unfolding left_of
+staying-lettered x [] [] same = refl
+staying-lettered x [] (letters ∷ marks) same = absurd (omega (arith, same))
+staying-lettered x (row ∷ rows) [] same = absurd (omega (arith, same))
+staying-lettered x (row ∷ rows) (letters ∷ marks) same =
+    let rest = staying-lettered x rows marks (omega (arith, same)) in
+    elim (cases_Bool (bears x letters)) [
+      | inl goes ↦ rw goes rest
+      | inr stays ↦ rw stays (ap (λ (rs : List Row). record row { letters = letters } ∷ rs) rest)
+    ]
+
+-- rows as their bits give them back bear no letter
+pub blank-from : (l : LayoutShape) (n : ℕ) (bits : List Bool)
+    → lettered (rows_from l n bits) (replicate n set.empty) ≡ rows_from l n bits
+blank-from l zero bits = refl
+blank-from l (suc n) bits =
+    ap (λ (rs : List Row). get_or (rows_from l (suc n) bits) 0 (record { numbers = []; letters = set.empty }) ∷ rs)
+    (blank-from l n _)
+
+-- as many rows stay as do not bear the letter
+pub count-staying : (x : ℕ) (marks : List LetterSet)
+    → length (filter (λ letters. not (bears x letters)) marks) ≡ count_by not (map (bears x) marks)
+count-staying x [] = refl
+count-staying x (letters ∷ marks) =
+    length-filter (λ s. not (bears x s)) (letters ∷ marks)
+    ∙ counted_first (λ s. not (bears x s)) letters marks
+    ∙ ap (λ n. (if not (bears x letters) then 1 else 0) + n)
+    (sym (length-filter (λ s. not (bears x s)) marks) ∙ count-staying x marks)
+    ∙ sym (counted_first not (bears x letters) (map (bears x) marks))
+
+-- which rows bear a letter
+pub bears-letters : (x : ℕ) (rows : List Row) → map (bears x) (map (λ (row : Row). row.letters) rows) ≡ map (row_bears x) rows
+bears-letters x [] = refl
+bears-letters x (row ∷ rows) = ap (λ bs. bears x row.letters ∷ bs) (bears-letters x rows)
+
+-- ---- the places of ones
+
+-- one bit more
+ones_more : (place i : ℕ) (bits : List Bool) (d : Bool) → i < length bits
+    → ones_from place (take (i + 1) bits)
+    ≡ ones_from place (take i bits) ++ (if get_or bits i d then (place + i) ∷ [] else [])
+ones_more place i [] d low = absurd (omega (arith, low))
+ones_more place zero (bit ∷ bits) d low =
+    let same : place ≡ place + 0 = omega arith in
+    ap (λ k. if bit then k ∷ [] else []) same
+ones_more place (suc i) (bit ∷ bits) d low =
+    let count : suc i + 1 ≡ suc (i + 1) = omega arith in
+    let next : place + 1 + i ≡ place + suc i = omega arith in
+    let rest : ones_from (place + 1) (take (i + 1) bits)
+    ≡ ones_from (place + 1) (take i bits) ++ (if get_or bits i d then (place + suc i) ∷ [] else []) =
+    ones_more (place + 1) i bits d (omega (arith, low))
+    ∙ ap (λ k. ones_from (place + 1) (take i bits) ++ (if get_or bits i d then k ∷ [] else [])) next in
+    ap (λ m. ones_from place (take m (bit ∷ bits))) count
+    ∙ elim (cases_Bool bit) [
+      | inl one ↦ rw one (ap (λ ks. place ∷ ks) rest)
+      | inr none ↦ rw none rest
+    ]
+
+pub one_found : (i : ℕ) (bits : List Bool) (d : Bool) → i < length bits → get_or bits i d ≡ true
+    → ones_from 0 (take (i + 1) bits) ≡ ones_from 0 (take i bits) ++ (i ∷ [])
+one_found i bits d low one =
+    let same : 0 + i ≡ i = omega arith in
+    ones_more 0 i bits d low
+    ∙ ap (λ b. ones_from 0 (take i bits) ++ (if b then (0 + i) ∷ [] else [])) one
+    ∙ ap (λ k. ones_from 0 (take i bits) ++ (k ∷ [])) same
+
+pub none_found : (i : ℕ) (bits : List Bool) (d : Bool) → i < length bits → get_or bits i d ≡ false
+    → ones_from 0 (take (i + 1) bits) ≡ ones_from 0 (take i bits)
+none_found i bits d low none =
+    ones_more 0 i bits d low
+    ∙ ap (λ b. ones_from 0 (take i bits) ++ (if b then (0 + i) ∷ [] else [])) none
+    ∙ append-nil (ones_from 0 (take i bits))

@@ -1,0 +1,14 @@
+-- Letters told row by row, and the places of ones. No public clause cites this module.
+use Rattle.std.specs.Prelude.{ℕ, ◌+◌, Bool, List, [], ◌∷◌, if◌then◌else◌}
+use Rattle.bit_table_commands.specs.LetterSets.{with_letter, LetterSet}
+
+-- the letters of rows, letter x of each as a flag says: of those rows that have a flag
+abbrev pub told : ℕ → List Bool → List LetterSet → List LetterSet
+told x [] marks = marks
+told x (flag ∷ flags) [] = []
+told x (flag ∷ flags) (letters ∷ marks) = with_letter x flag letters ∷ told x flags marks
+
+-- the places of the ones among bits, of which the first has this place
+abbrev pub ones_from : ℕ → List Bool → List ℕ
+ones_from place [] = []
+ones_from place (bit ∷ bits) = if bit then place ∷ ones_from (place + 1) bits else ones_from (place + 1) bits

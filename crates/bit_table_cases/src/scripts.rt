@@ -1,0 +1,47 @@
+//! Whole scripts, run over memory.
+
+ghost use Rattle.std.specs.Prelude.{◌*◌, ◌≤◌};
+
+use crate::text::{cut, meant, push_answer};
+use bit_addressing_sample_orders::texts::number;
+use bit_table::{BitViewSized, Digits, Input, Output, RunError, WordPaths};
+use bit_table_samples::{Cut, answer_to, answer_whole};
+use std::alloc::{AllocError, Global};
+
+/// What a script is answered that is read in pieces of so many bytes, or at once where these are 0.
+pub fn run_case<A: BitViewSized, O: WordPaths<A::Store> + Digits<A::Store>>(
+    alloc: Global,
+    rest: &str,
+) -> Result<String, AllocError>
+    requires { 256 ≤ A.COUNT * A.Store.BITS }
+{
+    let (piece, script) = cut(rest);
+    let script = meant(alloc, script)?;
+    let mut text = String::new(alloc);
+    match answered::<A, O>(alloc, number(piece), script.as_slice()) {
+        Ok(answer) => push_answer(&mut text, answer.as_slice())?,
+        Err(fault) => text.push_str(format!(in alloc; "{fault}")?.as_str())?,
+    }
+    Ok(text)
+}
+
+fn answered<A: BitViewSized, O: WordPaths<A::Store> + Digits<A::Store>>(
+    alloc: Global,
+    piece: usize,
+    script: &[u8],
+) -> Result<Vec<u8>, RunError>
+    requires { 256 ≤ A.COUNT * A.Store.BITS }
+{
+    if piece == 0 {
+        return answer_to::<A, O>(alloc, script);
+    }
+    let mut input = Input::new(Cut {
+        rest: script,
+        first: 0,
+        piece,
+        until_fault: usize::MAX,
+    });
+    let mut output = Output::new(Vec::new(alloc));
+    answer_whole::<A, O, _, _>(alloc, &mut input, &mut output)?;
+    Ok(output.into_inner())
+}

@@ -1,0 +1,49 @@
+//! The storage of a script: a word and an order.
+
+ghost use Rattle.std.specs.Prelude.{◌*◌, ◌≤◌};
+
+use crate::order::ThirdStep;
+use crate::scripts::run_case;
+use crate::tables::table_case;
+use crate::text::cut;
+use bit_table::{BitViewSized, Digits, HiLo, Lsb0, Msb0, WordPaths};
+use std::alloc::{AllocError, Global};
+
+/// What a script is answered over the storage that the first two words name, by a run or by a table.
+pub fn in_storage(alloc: Global, kind: &str, rest: &str) -> Result<String, AllocError> {
+    let (word, rest) = cut(rest);
+    match word {
+        "u8" => in_words::<[u8; 32]>(alloc, kind, rest),
+        "u16" => in_words::<[u16; 16]>(alloc, kind, rest),
+        "u32" => in_words::<[u32; 8]>(alloc, kind, rest),
+        "u64" => in_words::<[u64; 4]>(alloc, kind, rest),
+        _ => "no such word".to_string(alloc),
+    }
+}
+
+fn in_words<A: BitViewSized>(alloc: Global, kind: &str, rest: &str) -> Result<String, AllocError>
+    requires { 256 ≤ A.COUNT * A.Store.BITS }
+{
+    let (order, rest) = cut(rest);
+    match order {
+        "lsb0" => in_order::<A, Lsb0>(alloc, kind, rest),
+        "msb0" => in_order::<A, Msb0>(alloc, kind, rest),
+        "hilo" => in_order::<A, HiLo>(alloc, kind, rest),
+        "third" => in_order::<A, ThirdStep>(alloc, kind, rest),
+        _ => "no such order".to_string(alloc),
+    }
+}
+
+fn in_order<A: BitViewSized, O: WordPaths<A::Store> + Digits<A::Store>>(
+    alloc: Global,
+    kind: &str,
+    rest: &str,
+) -> Result<String, AllocError>
+    requires { 256 ≤ A.COUNT * A.Store.BITS }
+{
+    if kind == "run" {
+        run_case::<A, O>(alloc, rest)
+    } else {
+        table_case::<A, O>(alloc, rest)
+    }
+}

@@ -1,3 +1,0 @@
-pub mod WindowLemmas
-pub mod CallerLemmas
-mod KnownNumbers

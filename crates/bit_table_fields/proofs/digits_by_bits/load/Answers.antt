@@ -1,0 +1,64 @@
+use Rattle.std.proofs.Common.{◌≡◌, cond, get_or, false, sym, ap, ap₂, ◌∙◌, arith}
+use mir.Syntax.{w128}
+use Rattle.std.proofs.lemmas.Int.{to_z-of_z}
+use Rattle.bit_slice_words.proofs.StepLemmas.{takes_none, takes_more}
+use Rattle.bit_table_layout.specs.Readings.{number_from_digits}
+use Rattle.bit_table_fields.proofs.WindowLemmas.{so_far_none, so_far_more, so_far_all, so_far_small, bit_small}
+use Rattle.bit_table_fields.proofs.WindowLemmas.{byte_is}
+use Rattle.bit_table_fields.proofs.digits_by_bits.load.Goals as goal
+
+pub loop-k-init : goal.loop-k-init
+loop-k-init g c = record {
+  digits = sym (so_far_none c.args.rule c.len-width.result (g.V.Bits.bits c.args.view.now) (sym c.len-width.ensures));
+  steps = takes_none c.args.steps.now;
+}
+
+-- 64 digits are below 2 ^ 64
+pub overflow_mul-digits : goal.overflow_mul-digits
+overflow_mul-digits g c =
+    let held = g.V.Bits.bits c.args.view.now in
+    let small =
+    so_far_small c.args.rule c.len-width.result held c.loop-k.k (sym c.len-width.ensures) (omega arith)
+    (omega (arith, c.len-width.ensures, c.requires.narrow)) in
+    omega (arith, c.loop-k.invariant.digits)
+
+pub overflow_add-digits : goal.overflow_add-digits
+overflow_add-digits g c =
+    let held = g.V.Bits.bits c.args.view.now in
+    let small =
+    so_far_small c.args.rule c.len-width.result held c.loop-k.k (sym c.len-width.ensures) (omega arith)
+    (omega (arith, c.len-width.ensures, c.requires.narrow)) in
+    let one = bit_small c.bit.result in
+    let from = c.from.ensures ∙ byte_is c.bit.result in
+    omega (arith, c.loop-k.invariant.digits)
+
+pub loop-k-preserved : goal.loop-k-preserved
+loop-k-preserved g c =
+    let held = g.V.Bits.bits c.args.view.now in
+    let from =
+    c.from.ensures
+    ∙ byte_is c.bit.result
+    ∙ ap (λ b. cond b 1 0) (c.bit.ensures ∙ ap (λ i. get_or held i false) c.place_of-index.ensures.value) in
+    let more = so_far_more c.args.rule c.len-width.result held c.loop-k.k (sym c.len-width.ensures) c.loop-k-test.true in
+    let before = c.loop-k.invariant.digits in
+    record {
+      digits = omega arith;
+      steps = takes_more _ _ _ c.loop-k.k c.step.ensures c.loop-k.invariant.steps;
+    }
+
+pub number_of-requires-clause-small : goal.number_of-requires-clause-small
+number_of-requires-clause-small g c =
+    let held = g.V.Bits.bits c.args.view.now in
+    let small =
+    so_far_small c.args.rule c.len-width.result held c.loop-k.k (sym c.len-width.ensures) (omega arith)
+    (omega (arith, c.len-width.ensures, c.requires.narrow)) in
+    omega (arith, c.loop-k.invariant.digits)
+
+pub returns-clause-value : goal.returns-clause-value
+returns-clause-value g c =
+    let held = g.V.Bits.bits c.args.view.now in
+    let all : c.loop-k.k ≡ c.len-width.result = omega (arith, c.loop-k.auto.k-end) in
+    to_z-of_z w128 c.number_of.result (record { sfits = c.number_of.type_inv })
+    ∙ c.number_of.ensures
+    ∙ ap₂ (number_from_digits c.args.signed) c.len-width.ensures
+    (c.loop-k.invariant.digits ∙ so_far_all c.args.rule c.len-width.result held c.loop-k.k (sym c.len-width.ensures) all)

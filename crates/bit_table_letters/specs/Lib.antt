@@ -1,4 +1,0 @@
-pub mod RowEdit
-pub mod Marks
-pub mod Walk
-pub mod Lists

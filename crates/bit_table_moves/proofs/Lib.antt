@@ -1,6 +1,0 @@
-pub mod RowLemmas
-pub mod KeptLemmas
-pub mod KeepLemmas
-pub mod KeepRowLemmas
-pub mod CallerLemmas
-mod KnownRows

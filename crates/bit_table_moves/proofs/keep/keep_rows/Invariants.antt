@@ -1,9 +1,0 @@
-use Rattle.bit_addressing.specs.Memory.{read_by}
-use Rattle.bit_slice_views.specs.View.{view_bits}
-use Rattle.bit_table_moves.specs.KeepSteps.{AtRow}
-use Rattle.bit_table_moves.proofs.keep.keep_rows.Given as goal
-
-abbrev pub invariant-rows : goal.invariant-rows
-invariant-rows g l =
-    let reading = read_by g.T.BitRegister g.O.Positions.position in
-    AtRow reading l.fn.sweep l.sweep g.T.BitRegister.ZERO l.word l.first l.n l.w (view_bits reading l.off) l.k l.kept

@@ -1,3 +1,0 @@
-pub mod CallerLemmas
-mod NumberLemmas
-pub mod KeptLemmas

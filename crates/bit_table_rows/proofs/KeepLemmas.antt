@@ -1,0 +1,482 @@
+-- Bits filled in one after another by a sweep that goes up.
+--
+-- What stands at a place: `filled_inside`, `filled_before`, `filled_behind`, `filled_more`.
+-- One bit: `word_begun`, `word_made`, `filled_within`, `filled_put`. Several: `fills_none`, `fills_more`.
+-- All of them: `rest_none`, `rest_put`.
+use Rattle.std.proofs.Common.{◌≡◌, ◌≢◌, ◌⊎◌, ℕ, suc, ◌+◌, ◌-◌, ◌*◌, ◌/◌, ◌%◌, ◌<◌, ◌≤◌, ◌++◌, Bool, false, List, []}
+use Rattle.std.proofs.Common.{◌∷◌, Option, length, get_or, set, refl, sym, ap, ◌∙◌, inl, inr, arith, length-append}
+use Rattle.std.proofs.Common.{mul-le-mul_right}
+use Rattle.std.proofs.lemmas.Bool.{cases_eq, cases_lt}
+use Rattle.std.proofs.lemmas.Bool.Decides.{nat_tests}
+use Rattle.std.proofs.lemmas.List.{get_or_append_left, get_or-append_right, append_assoc, append-nil, length-set}
+use Rattle.std.proofs.lemmas.Nat.{div-mul-add, mod-mul-add, div-add-mod', div_below, mod_below, le-div}
+use Rattle.bit_addressing_memory.proofs.EntryLemmas.{entry_read, entry-set_same, entry-set_other, indexed_same}
+use Rattle.bit_addressing_memory.proofs.EntryLemmas.{indexed_other}
+use Rattle.bit_addressing_memory.proofs.Changes.{changed-set}
+use Rattle.bit_addressing_memory.proofs.MemoryLemmas.{piece_join}
+use Rattle.bit_addressing_memory.proofs.WindowLemmas.{length-window, window_is}
+use Rattle.bit_addressing_memory.specs.Bits.{with_digit}
+use Rattle.bit_addressing_memory.specs.BitOrder.{IsLawful}
+use Rattle.bit_addressing_memory.specs.Memory.{Overwrites, Reading, entry, indexed, memory, piece, reading_in}
+use Rattle.bit_addressing_memory.specs.Memory.{touched}
+use Rattle.bit_addressing_memory.specs.Moves.{changed}
+use Rattle.bit_addressing_memory.specs.Sweep.{SameButReads, edge_of, sweep_lender, sweep_words, way_of, writes_of}
+use Rattle.bit_addressing_memory.specs.declared.sweep.Sweep.{Sweep}
+use Rattle.bit_table_rows.specs.KeepSteps.{Filled, Fills, IsFilledWord, filled_bit}
+
+-- ---- what stands at a place
+
+pub filled_inside : {R : Type 0} (reading : Reading R) (before : List R) (first : ℕ) (bits : List Bool) (p : ℕ)
+    → first ≤ p → p < first + length bits → filled_bit reading before first bits p ≡ get_or bits (p - first) false
+unfolding filled_bit
+filled_inside reading before first bits p low high = grind (arith, nat_tests)
+
+pub filled_before : {R : Type 0} (reading : Reading R) (before : List R) (first : ℕ) (bits : List Bool) (p : ℕ)
+    → p < first → filled_bit reading before first bits p ≡ entry reading before p
+unfolding filled_bit
+filled_before reading before first bits p low = grind (arith, nat_tests)
+
+pub filled_behind : {R : Type 0} (reading : Reading R) (before : List R) (first : ℕ) (bits : List Bool) (p : ℕ)
+    → first + length bits ≤ p → filled_bit reading before first bits p ≡ entry reading before p
+unfolding filled_bit
+filled_behind reading before first bits p high = grind (arith, nat_tests)
+
+-- one more bit changes the place behind the others alone
+pub filled_next : {R : Type 0} (reading : Reading R) (before : List R) (first : ℕ) (bits : List Bool) (bit : Bool)
+    → filled_bit reading before first (bits ++ bit ∷ []) (first + length bits) ≡ bit
+filled_next reading before first bits bit =
+    let size : length (bits ++ bit ∷ []) ≡ length bits + 1 = simp length-append (omega arith) in
+    let at : first + length bits - first ≡ length bits = omega arith in
+    let own : length bits - length bits ≡ 0 = omega arith in
+    filled_inside reading before first (bits ++ bit ∷ []) (first + length bits) (omega arith) (omega arith)
+    ∙ ap (λ i. get_or (bits ++ bit ∷ []) i false) at
+    ∙ get_or-append_right bits (bit ∷ []) (length bits) (length bits) false refl (omega arith)
+    ∙ ap (λ i. get_or (bit ∷ []) i false) own
+
+pub filled_more : {R : Type 0} (reading : Reading R) (before : List R) (first : ℕ) (bits : List Bool) (bit : Bool)
+    (p : ℕ) → p ≢ first + length bits
+    → filled_bit reading before first (bits ++ bit ∷ []) p ≡ filled_bit reading before first bits p
+filled_more reading before first bits bit p ne =
+    let size : length (bits ++ bit ∷ []) ≡ length bits + 1 = simp length-append (omega arith) in
+    elim (cases_lt p first) [
+      | inl low ↦
+          filled_before reading before first (bits ++ bit ∷ []) p low
+          ∙ sym (filled_before reading before first bits p low)
+      | inr high ↦ elim (cases_lt p (first + length bits)) [
+        | inl inside ↦
+            filled_inside reading before first (bits ++ bit ∷ []) p high (omega arith)
+            ∙ get_or_append_left bits (bit ∷ []) false (p - first) (omega arith)
+            ∙ sym (filled_inside reading before first bits p high inside)
+        | inr past ↦
+            filled_behind reading before first (bits ++ bit ∷ []) p (omega arith)
+            ∙ sym (filled_behind reading before first bits p past)
+      ]
+    ]
+
+-- ---- the word of the next place
+
+next_inside : (b to : ℕ) → to % b + 1 < b → (to + 1) / b ≡ to / b
+next_inside b to low =
+    let is : to / b * b + (to % b + 1) ≡ to + 1 = omega (arith, div-add-mod' to b) in
+    ap (λ p. p / b) (sym is) ∙ div-mul-add (to / b) b (to % b + 1) low
+
+next_word : (b to : ℕ) → 0 < b → to % b + 1 ≡ b → (to + 1) / b ≡ to / b + 1
+next_word b to some last =
+    let more : (to / b + 1) * b ≡ to / b * b + b = omega arith in
+    let is : (to / b + 1) * b + 0 ≡ to + 1 = omega (arith, div-add-mod' to b) in
+    ap (λ p. p / b) (sym is) ∙ div-mul-add (to / b + 1) b 0 some
+
+next_first : (b to : ℕ) → 0 < b → to % b + 1 ≡ b → (to + 1) % b ≡ 0
+next_first b to some last =
+    let more : (to / b + 1) * b ≡ to / b * b + b = omega arith in
+    let is : (to / b + 1) * b + 0 ≡ to + 1 = omega (arith, div-add-mod' to b) in
+    ap (λ p. p % b) (sym is) ∙ mod-mul-add (to / b + 1) b 0 some
+
+-- ---- one bit
+
+module _ {R : Type 0} (reading : Reading R) (before now : List R) (first to : ℕ) (word : R) (bits : List Bool)
+    (some : 0 < reading.bits) (had : Filled reading before now first to word bits) where
+  -- a word that was read, where it is begun
+  pub word_begun : (own : R) → to / reading.bits < length now → own ≡ get_or now (to / reading.bits) own
+      → (to ≡ first) ⊎ (to % reading.bits ≡ 0) → IsFilledWord reading before first bits (to / reading.bits) own
+  word_begun own within is start i low =
+      let p : ℕ = to / reading.bits * reading.bits + i in
+      let size = had.size in
+      let whole = div-add-mod' to reading.bits in
+      let same : filled_bit reading before first bits p ≡ entry reading before p = elim start [
+        | inl empty ↦ elim (cases_lt p first) [
+          | inl early ↦ filled_before reading before first bits p early
+          | inr late ↦ filled_behind reading before first bits p (omega arith)
+        ]
+        | inr fresh ↦ filled_behind reading before first bits p (omega arith)
+      ] in
+      entry_read reading now (to / reading.bits) i own low within is ∙ had.above p (omega arith) ∙ sym same
+
+  -- a bit more, with its word not full
+  pub filled_within : (next : R) (bit : Bool) → to % reading.bits + 1 < reading.bits
+      → IsFilledWord reading before first (bits ++ bit ∷ []) (to / reading.bits) next
+      → Filled reading before now first (to + 1) next (bits ++ bit ∷ [])
+  filled_within next bit low made =
+      let row : (to + 1) / reading.bits ≡ to / reading.bits = next_inside reading.bits to low in
+      let whole = div-add-mod' to reading.bits in
+      let size = had.size in
+      record {
+        size = simp length-append (omega arith);
+        below = λ p h.
+            let under : p < to / reading.bits * reading.bits = rw row at h in
+            had.below p under ∙ sym (filled_more reading before first bits bit p (omega arith));
+        above = λ p h. had.above p (rw row at h);
+        begun = λ _ _. rw row made;
+        words = had.words;
+      }
+
+  -- a bit more, with its word put
+  pub filled_put : (next : R) (bit : Bool) → to % reading.bits + 1 ≡ reading.bits → to / reading.bits < length now
+      → IsFilledWord reading before first (bits ++ bit ∷ []) (to / reading.bits) next
+      → Filled reading before (set now (to / reading.bits) next) first (to + 1) next (bits ++ bit ∷ [])
+  filled_put next bit last within made =
+      let b = reading.bits in
+      let j : ℕ = to / b in
+      let row : (to + 1) / b ≡ j + 1 = next_word b to some last in
+      let column : (to + 1) % b ≡ 0 = next_first b to some last in
+      let whole : j * b + to % b ≡ to = div-add-mod' to b in
+      let over : (j + 1) * b ≡ j * b + b = omega arith in
+      let size = had.size in
+      record {
+        size = simp length-append (omega arith);
+        below = λ p h. elim (cases_lt p (j * b)) [
+          | inl under ↦
+              let ne : p / b ≢ j = omega (arith, div_below p b j some under) in
+              entry-set_other reading now j next p ne
+              ∙ had.below p under
+              ∙ sym (filled_more reading before first bits bit p (omega arith))
+          | inr here ↦
+              let upto : p < (j + 1) * b = rw row at h in
+              let i : ℕ = p - j * b in
+              let small : i < b = omega arith in
+              let at : j * b + i ≡ p = omega arith in
+              let is_row : p / b ≡ j = ap (λ q. q / b) (sym at) ∙ div-mul-add j b i small in
+              let is_column : p % b ≡ i = ap (λ q. q % b) (sym at) ∙ mod-mul-add j b i small in
+              entry-set_same reading now j next p is_row within
+              ∙ ap (reading.digit next) is_column
+              ∙ made i small
+              ∙ ap (filled_bit reading before first (bits ++ bit ∷ [])) at
+        ];
+        above = λ p h.
+            let past : (j + 1) * b ≤ p = rw row at h in
+            let ne : p / b ≢ j = omega (arith, le-div (j + 1) p b some past) in
+            entry-set_other reading now j next p ne ∙ had.above p (omega arith);
+        begun = λ _ index. absurd (omega arith);
+        words = length-set now j next ∙ had.words;
+      }
+
+-- the word with one more bit
+pub word_made : {R : Type 0} (b : ℕ) (number : R → ℕ) (at select : ℕ → ℕ) (mask : Option ℕ → Option ℕ → ℕ)
+    (before : List R) (first : ℕ) (bits : List Bool) (j i : ℕ) (own next : R) (bit : Bool)
+    → IsLawful b at select mask → i < b → j * b + i ≡ first + length bits
+    → number next ≡ with_digit (number own) (at i) bit
+    → IsFilledWord (reading_in b number at) before first bits j own
+    → IsFilledWord (reading_in b number at) before first (bits ++ bit ∷ []) j next
+word_made b number at select mask before first bits j i own next bit law low place made had k small =
+    let reading = reading_in b number at in
+    elim (cases_eq k i) [
+      | inl same ↦
+          let here : j * b + k ≡ first + length bits = omega arith in
+          ap (indexed number at next) same
+          ∙ indexed_same number at own next i bit made
+          ∙ sym (ap (filled_bit reading before first (bits ++ bit ∷ [])) here
+          ∙ filled_next reading before first bits bit)
+      | inr other ↦
+          indexed_other b number at select mask own next i bit k law low made small other
+          ∙ had k small
+          ∙ sym (filled_more reading before first bits bit (j * b + k) (omega arith))
+    ]
+
+-- ---- the sweep
+
+-- nothing more
+pub fills_none : {R : Type 0} (reading : Reading R) (s : Sweep R) (word : R) (first to : ℕ)
+    → Fills reading s s word word first to []
+fills_none reading s word first to =
+    let here : to + 0 ≡ to = omega arith in
+    record {
+      filled = λ before bits had. rw (append-nil bits, here) had;
+      ahead = λ p _. refl;
+      words = refl;
+      edge = λ h. rw here h;
+      writes = rw here refl;
+      few_changed = λ number others. omega arith;
+      way = refl;
+      lender = refl;
+    }
+
+-- bits after others
+pub fills_more : {R : Type 0} (reading : Reading R) (s t u : Sweep R) (word mid next : R) (first to : ℕ)
+    (one other : List Bool) → 0 < reading.bits → Fills reading s t word mid first to one
+    → Fills reading t u mid next first (to + length one) other
+    → Fills reading s u word next first to (one ++ other)
+fills_more reading s t u word mid next first to one other some had more =
+    let b = reading.bits in
+    let size : length (one ++ other) ≡ length one + length other = length-append one other in
+    let end : to + length (one ++ other) ≡ to + length one + length other = omega arith in
+    let order : (to + length one) / b * b ≤ (to + length one + length other) / b * b =
+    mul-le-mul_right b (le-div ((to + length one) / b) (to + length one + length other) b some
+    (omega (arith, div-add-mod' (to + length one) b))) in
+    record {
+      filled = λ before bits old.
+          rw (end, ← append_assoc bits one other)
+          (more.filled before (bits ++ one) (had.filled before bits old));
+      ahead = λ p h.
+          let far : (to + length one + length other) / b * b ≤ p = rw end at h in
+          more.ahead p far ∙ had.ahead p (omega arith);
+      words = more.words ∙ had.words;
+      edge = λ h. rw end (more.edge (had.edge h));
+      writes = rw end (omega (arith, had.writes, more.writes));
+      few_changed = λ number others. omega (arith, had.few_changed number others, more.few_changed number others);
+      way = more.way ∙ had.way;
+      lender = more.lender ∙ had.lender;
+    }
+
+-- reads change nothing of it
+fills_read : {R : Type 0} (reading : Reading R) (s t v : Sweep R) (word next : R) (first to : ℕ)
+    (more : List Bool) → Fills reading s t word next first to more → SameButReads t v
+    → sweep_lender v ≡ sweep_lender t → Fills reading s v word next first to more
+fills_read reading s t v word next first to more had same loan = record {
+  filled = λ before bits old. rw same.words (had.filled before bits old);
+  ahead = λ p h. rw same.words (had.ahead p h);
+  words = rw same.words had.words;
+  edge = λ h. rw same.edge (had.edge h);
+  writes = rw same.writes had.writes;
+  few_changed = λ count others.
+      omega (arith, ap (changed count others) same.words, same.writes, had.few_changed count others);
+  way = same.way ∙ had.way;
+  lender = loan ∙ had.lender;
+}
+
+-- one more, in a word that was read or is at hand, by reads from s to t
+module _ {R : Type 0} (b : ℕ) (number : R → ℕ) (at select : ℕ → ℕ) (mask : Option ℕ → Option ℕ → ℕ) (s t : Sweep R)
+    (word own next : R) (first to : ℕ) (bit : Bool) (law : IsLawful b at select mask) (some : 0 < b)
+    (same : SameButReads s t) (loan : sweep_lender t ≡ sweep_lender s)
+    (begun : (before : List R) (bits : List Bool)
+    → Filled (reading_in b number at) before (sweep_words s) first to word bits
+    → IsFilledWord (reading_in b number at) before first bits (to / b) own)
+    (made : number next ≡ with_digit (number own) (at (to % b)) bit) where
+  made_word : (before : List R) (bits : List Bool)
+      → Filled (reading_in b number at) before (sweep_words s) first to word bits
+      → IsFilledWord (reading_in b number at) before first (bits ++ bit ∷ []) (to / b) next
+  made_word before bits had =
+      let size = had.size in
+      word_made b number at select mask before first bits (to / b) (to % b) own next bit law (mod_below to b some)
+      (div-add-mod' to b ∙ size) made (begun before bits had)
+
+  -- the word is not full
+  pub fills_within : to % b + 1 < b
+      → Fills (reading_in b number at) s t word next first to (bit ∷ [])
+  fills_within low =
+      let reading = reading_in b number at in
+      let row : (to + 1) / b ≡ to / b = next_inside b to low in
+      record {
+        filled = λ before bits had.
+            rw same.words
+            (filled_within reading before (sweep_words s) first to word bits some had next bit low
+            (made_word before bits had));
+        ahead = λ p _. rw same.words refl;
+        words = rw same.words refl;
+        edge = λ h. rw (row, same.edge) h;
+        writes = rw (row, same.writes) refl;
+        few_changed = λ count others. omega (arith, ap (changed count others) same.words, same.writes);
+        way = same.way;
+        lender = loan;
+      }
+
+  -- the word is full, and put
+  pub fills_put : (u : Sweep R) → to % b + 1 ≡ b → to / b < length (sweep_words t)
+      → sweep_words u ≡ set (sweep_words t) (to / b) next → edge_of u ≡ to / b + 1
+      → writes_of u ≡ writes_of t + 1 → way_of u ≡ way_of t → sweep_lender u ≡ sweep_lender t
+      → Fills (reading_in b number at) s u word next first to (bit ∷ [])
+  fills_put u last within words edge writes way lender =
+      let reading = reading_in b number at in
+      let row : (to + 1) / b ≡ to / b + 1 = next_word b to some last in
+      let is : sweep_words u ≡ set (sweep_words s) (to / b) next = rw same.words at words in
+      let low : to / b < length (sweep_words s) = rw same.words at within in
+      record {
+        filled = λ before bits had.
+            rw is
+            (filled_put reading before (sweep_words s) first to word bits some had next bit last low
+            (made_word before bits had));
+        ahead = λ p h.
+            let past : (to / b + 1) * b ≤ p = rw row at h in
+            let ne : p / b ≢ to / b = omega (arith, le-div (to / b + 1) p b some past) in
+            rw is (entry-set_other reading (sweep_words s) (to / b) next p ne);
+        words = rw is (length-set (sweep_words s) (to / b) next);
+        edge = λ _. rw (row, edge) (omega arith);
+        writes = rw row (omega (arith, same.writes));
+        few_changed = λ count others.
+            let one = changed-set count others (sweep_words s) (to / b) next in
+            omega (arith, ap (changed count others) is, same.writes);
+        way = way ∙ same.way;
+        lender = lender ∙ loan;
+      }
+
+-- ---- a row, bit by bit
+
+-- a window with one more entry
+window_more : {R : Type 0} (reading : Reading R) (words : List R) (from i : ℕ) (bit : Bool) → 0 < reading.bits
+    → from + i < length words * reading.bits → bit ≡ entry reading words (from + i)
+    → piece (memory reading words) from i ++ bit ∷ [] ≡ piece (memory reading words) from (i + 1)
+window_more reading words from i bit some within is =
+    let m = memory reading words in
+    let single : piece m (from + i) 1 ≡ bit ∷ [] =
+    window_is reading words (from + i) 1 (bit ∷ []) some (omega arith) refl (λ k low.
+    let none : k ≡ 0 = omega arith in
+    let at : from + i + 0 ≡ from + i = omega arith in
+    rw (none, at) (sym is)) in
+    ap (λ xs. piece m from i ++ xs) (sym single) ∙ piece_join m from i (from + i) 1 (i + 1) refl refl
+
+-- a bit that was read from t to v, and then put
+pub fills_bit : {R : Type 0} (reading : Reading R) (s t v u : Sweep R) (word mid next : R) (first to from i : ℕ)
+    (bit : Bool) → 0 < reading.bits → to ≤ from → from + i < length (sweep_words s) * reading.bits
+    → Fills reading s t word mid first to (piece (memory reading (sweep_words s)) from i)
+    → SameButReads t v → sweep_lender v ≡ sweep_lender t → bit ≡ entry reading (sweep_words t) (from + i)
+    → Fills reading v u mid next first (to + i) (bit ∷ [])
+    → Fills reading s u word next first to (piece (memory reading (sweep_words s)) from (i + 1))
+fills_bit reading s t v u word mid next first to from i bit some order within had same loan is more =
+    let m = memory reading (sweep_words s) in
+    let size : length (piece m from i) ≡ i = length-window reading (sweep_words s) from i (omega arith) in
+    let end : to + length (piece m from i) ≡ to + i = omega arith in
+    let there : bit ≡ entry reading (sweep_words s) (from + i) =
+    is ∙ had.ahead (from + i) (rw end (omega (arith, div-add-mod' (to + i) reading.bits))) in
+    let put : Fills reading v u mid next first (to + length (piece m from i)) (bit ∷ []) = rw end more in
+    rw (← window_more reading (sweep_words s) from i bit some within there)
+    (fills_more reading s v u word mid next first to (piece m from i) (bit ∷ []) some
+    (fills_read reading s t v word mid first to (piece m from i) had same loan) put)
+
+-- ---- all of them
+
+-- no bit yet
+pub filled_none : {R : Type 0} (reading : Reading R) (before : List R) (first : ℕ) (word : R)
+    → Filled reading before before first first word []
+filled_none reading before first word = record {
+  size = omega arith;
+  below = λ p _. elim (cases_lt p first) [
+    | inl early ↦ sym (filled_before reading before first [] p early)
+    | inr late ↦ sym (filled_behind reading before first [] p (omega arith))
+  ];
+  above = λ p _. refl;
+  begun = λ any. absurd (omega arith);
+  words = refl;
+}
+
+-- a word that is begun is one of the words
+pub begun_within : (b to n : ℕ) → 0 < b → to ≤ n * b → 0 < to % b → to / b < n
+begun_within b to n some within index = elim (cases_lt to (n * b)) [
+  | inl low ↦ div_below to b n some low
+  | inr high ↦
+      let at : n * b + 0 ≡ to = omega arith in
+      let none : to % b ≡ 0 = ap (λ q. q % b) (sym at) ∙ mod-mul-add n b 0 some in
+      absurd (omega arith)
+]
+
+-- no more words are counted than the bits touch: the last one not full, full, and none
+pub touched_part : (b first to : ℕ) → 0 < b → first < to → 0 < to % b
+    → first / b + touched b first (to - first) ≡ to / b + 1
+touched_part b first to some any index =
+    let n : ℕ = to - first - 1 in
+    let count : to - first ≡ suc n = omega arith in
+    let last : first + n + 1 ≡ to = omega arith in
+    let low : (first + n) % b + 1 < b = elim (cases_eq ((first + n) % b + 1) b) [
+      | inl full ↦ absurd (omega (arith, rw last at (next_first b (first + n) some full)))
+      | inr other ↦ omega (arith, mod_below (first + n) b some)
+    ] in
+    let row : to / b ≡ (first + n) / b = rw last at (next_inside b (first + n) low) in
+    let order : first / b ≤ (first + n) / b =
+    le-div (first / b) (first + n) b some (omega (arith, div-add-mod' first b)) in
+    rw count (omega arith)
+
+pub touched_full : (b first to : ℕ) → 0 < b → first < to → to % b ≡ 0
+    → first / b + touched b first (to - first) ≡ to / b
+touched_full b first to some any index =
+    let n : ℕ = to - first - 1 in
+    let count : to - first ≡ suc n = omega arith in
+    let last : first + n + 1 ≡ to = omega arith in
+    let full : (first + n) % b + 1 ≡ b = elim (cases_lt ((first + n) % b + 1) b) [
+      | inl low ↦
+          let row : to / b ≡ (first + n) / b = rw last at (next_inside b (first + n) low) in
+          absurd (omega (arith, ap (λ q. q * b) row, div-add-mod' to b, div-add-mod' (first + n) b))
+      | inr high ↦ omega (arith, mod_below (first + n) b some)
+    ] in
+    let row : to / b ≡ (first + n) / b + 1 = rw last at (next_word b (first + n) some full) in
+    let order : first / b ≤ (first + n) / b =
+    le-div (first / b) (first + n) b some (omega (arith, div-add-mod' first b)) in
+    rw count (omega arith)
+
+pub touched_none : (b first to : ℕ) → to ≡ first → first / b + touched b first (to - first) ≡ to / b
+touched_none b first to is =
+    let none : to - first ≡ 0 = omega arith in
+    rw (none, is) (omega arith)
+
+overwrites_all : {R : Type 0} (reading : Reading R) (before now : List R) (first : ℕ) (bits : List Bool)
+    → length now ≡ length before → ((p : ℕ) → entry reading now p ≡ filled_bit reading before first bits p)
+    → Overwrites reading before now first (length bits) (λ k. get_or bits k false)
+overwrites_all reading before now first bits words all = record {
+  there = λ k low.
+      let at : first + k - first ≡ k = omega arith in
+      all (first + k)
+      ∙ filled_inside reading before first bits (first + k) (omega arith) (omega arith)
+      ∙ ap (λ i. get_or bits i false) at;
+  below = λ p low. all p ∙ filled_before reading before first bits p low;
+  above = λ p high. all p ∙ filled_behind reading before first bits p high;
+  words = words;
+}
+
+-- no word is begun
+pub rest_none : {R : Type 0} (reading : Reading R) (before now : List R) (first to : ℕ) (word : R) (bits : List Bool)
+    → 0 < reading.bits → Filled reading before now first to word bits → (to ≡ first) ⊎ (to % reading.bits ≡ 0)
+    → Overwrites reading before now first (length bits) (λ k. get_or bits k false)
+rest_none reading before now first to word bits some had none =
+    let whole = div-add-mod' to reading.bits in
+    let size = had.size in
+    let all : (p : ℕ) → entry reading now p ≡ filled_bit reading before first bits p = λ p.
+    elim (cases_lt p (to / reading.bits * reading.bits)) [
+      | inl under ↦ had.below p under
+      | inr over ↦ had.above p over ∙ sym (elim none [
+        | inl empty ↦ elim (cases_lt p first) [
+          | inl early ↦ filled_before reading before first bits p early
+          | inr late ↦ filled_behind reading before first bits p (omega arith)
+        ]
+        | inr full ↦ filled_behind reading before first bits p (omega arith)
+      ])
+    ] in
+    overwrites_all reading before now first bits had.words all
+
+-- the word that was begun is put
+pub rest_put : {R : Type 0} (reading : Reading R) (before now : List R) (first to : ℕ) (word : R) (bits : List Bool)
+    → 0 < reading.bits → Filled reading before now first to word bits → first < to → 0 < to % reading.bits
+    → to / reading.bits < length now
+    → Overwrites reading before (set now (to / reading.bits) word) first (length bits) (λ k. get_or bits k false)
+rest_put reading before now first to word bits some had any index within =
+    let b = reading.bits in
+    let j : ℕ = to / b in
+    let whole : j * b + to % b ≡ to = div-add-mod' to b in
+    let small : to % b < b = mod_below to b some in
+    let over : (j + 1) * b ≡ j * b + b = omega arith in
+    let size = had.size in
+    let all : (p : ℕ) → entry reading (set now j word) p ≡ filled_bit reading before first bits p = λ p.
+    elim (cases_eq (p / b) j) [
+      | inl here ↦
+          let at : j * b + p % b ≡ p = ap (λ q. q * b + p % b) (sym here) ∙ div-add-mod' p b in
+          entry-set_same reading now j word p here within
+          ∙ had.begun any index (p % b) (mod_below p b some)
+          ∙ ap (filled_bit reading before first bits) at
+      | inr other ↦
+          entry-set_other reading now j word p other
+          ∙ elim (cases_lt p (j * b)) [
+            | inl under ↦ had.below p under
+            | inr high ↦
+                let behind : j ≤ p / b = le-div j p b some high in
+                let next : j + 1 ≤ p / b = omega arith in
+                let past : (j + 1) * b ≤ p = omega (arith, mul-le-mul_right b next, div-add-mod' p b) in
+                had.above p high ∙ sym (filled_behind reading before first bits p (omega arith))
+          ]
+    ] in
+    overwrites_all reading before (set now j word) first bits (length-set now j word ∙ had.words) all

@@ -1,0 +1,168 @@
+-- Rows kept one after another by a sweep that goes up, and what all of them make of a list.
+--
+-- Row by row: `at_first`, `at_kept`, `at_gone`. All rows: `keeps_rows`, `kept_writes`. The list: `kept_list`.
+use Rattle.std.proofs.Common.{◌≡◌, ℕ, ◌+◌, ◌-◌, ◌*◌, ◌/◌, ◌<◌, ◌≤◌, Bool, true, false, List, []}
+use Rattle.std.proofs.Common.{length, get_or, refl, sym, ap, ◌∙◌, arith, add-mul, mul-le-mul_right}
+use Rattle.std.proofs.lemmas.Nat.{div-add-mod'}
+use Rattle.bit_addressing_memory.proofs.MemoryLemmas.{length-piece, piece_piece}
+use Rattle.bit_addressing_memory.proofs.WindowLemmas.{length-window, window_overwritten, window_same}
+use Rattle.bit_addressing_memory.specs.Memory.{Overwrites, Reading, memory, piece, touched, with_piece}
+use Rattle.bit_addressing_memory.specs.Sweep.{IsFresh, sweep_words, writes_of}
+use Rattle.bit_addressing_memory.specs.declared.sweep.Sweep.{Sweep}
+use Rattle.bit_addressing_memory.specs.declared.sweep.Way.TheVariants.{Up}
+use Rattle.bit_table_rows.specs.KeepSteps.{AtRow, Filled, Fills}
+use Rattle.bit_table_rows.specs.RowMoves.{row_at}
+use Rattle.bit_table_rows.specs.RowsKept.{KeepsRows, kept, left_before, rows_joined, rows_kept, rows_left}
+use Rattle.bit_table_rows.proofs.KeepLemmas.{filled_none, fills_more, fills_none}
+use Rattle.bit_table_rows.proofs.KeptLemmas.{few_left, joined_next, joined_part, left_stays}
+use Rattle.bit_table_rows.proofs.KeptLemmas.{length-joined, more_left}
+use Rattle.bit_table_rows.proofs.RowLemmas.{row_end}
+
+-- ---- row by row
+
+-- no row yet
+pub at_first : {R : Type 0} (reading : Reading R) (s : Sweep R) (start : R) (first n w : ℕ) (off : List Bool)
+    → IsFresh s Up → AtRow reading s s start start first n w off 0 0
+at_first reading s start first n w off fresh = record {
+  fills = fills_none reading s start first first;
+  count_is = refl;
+  few = omega arith;
+  kept_end = omega arith;
+  end = omega arith;
+  edge = omega (arith, fresh.edge);
+  way = fresh.way_is;
+}
+
+module _ {R : Type 0} (reading : Reading R) (s t : Sweep R) (start word : R) (first n w : ℕ) (off : List Bool)
+    (k count : ℕ) (some : 0 < reading.bits) (low : k < n)
+    (within : first + n * w ≤ length (sweep_words s) * reading.bits)
+    (at : AtRow reading s t start word first n w off k count) where
+  bits : List Bool
+  bits = piece (memory reading (sweep_words s)) first (n * w)
+
+  next_end : (k + 1) * w ≤ n * w
+  next_end = mul-le-mul_right w (omega arith)
+
+  -- a row that goes
+  pub at_gone : get_or off k false ≡ true → AtRow reading s t start word first n w off (k + 1) count
+  at_gone goes =
+      let same = left_stays off k goes in
+      let more : (k + 1) * w ≡ k * w + 1 * w = add-mul k 1 w in
+      record {
+        fills = rw same at.fills;
+        count_is = rw same at.count_is;
+        few = omega (arith, at.few);
+        kept_end = omega (arith, at.kept_end);
+        end = next_end;
+        edge = at.edge;
+        way = at.way;
+      }
+
+  filled_end : first + length (rows_joined w (piece (memory reading (sweep_words s)) first (n * w)) (left_before off k))
+      ≡ first + count * w
+  filled_end =
+      let size : length (piece (memory reading (sweep_words s)) first (n * w)) ≡ n * w =
+      length-window reading (sweep_words s) first (n * w) within in
+      let all = length-joined w (piece (memory reading (sweep_words s)) first (n * w)) off k (omega (arith, at.end)) in
+      ap (λ m. first + m) (all ∙ ap (λ m. m * w) (sym at.count_is))
+
+  -- the row is still as it was
+  row_there : piece (memory reading (sweep_words t)) (first + k * w) w
+      ≡ row_at w (piece (memory reading (sweep_words s)) first (n * w)) k
+  row_there =
+      let inside = row_end k n w low in
+      let far = div-add-mod' (first + count * w) reading.bits in
+      window_same reading (sweep_words s) (sweep_words t) (first + k * w) w some (omega arith) at.fills.words
+      (λ i small.
+      at.fills.ahead (first + k * w + i) (rw filled_end (omega (arith, at.kept_end))))
+      ∙ sym (piece_piece (memory reading (sweep_words s)) first (n * w) (k * w) w inside)
+
+  -- a row that stays
+  pub at_kept : (u : Sweep R) (next : R) → get_or off k false ≡ false
+      → Fills reading t u word next first (first + count * w) (piece (memory reading (sweep_words t)) (first + k * w) w)
+      → AtRow reading s u start next first n w off (k + 1) (count + 1)
+  at_kept u next stays put =
+      let xs = piece (memory reading (sweep_words s)) first (n * w) in
+      let done = rows_joined w xs (left_before off k) in
+      let row = row_at w xs k in
+      let inside = row_end k n w low in
+      let row_size : length row ≡ w =
+      length-piece xs (k * w) w (omega (arith, length-window reading (sweep_words s) first (n * w) within)) in
+      let more : (count + 1) * w ≡ count * w + 1 * w = add-mul count 1 w in
+      let most : (k + 1) * w ≡ k * w + 1 * w = add-mul k 1 w in
+      let step : Fills reading t u word next first (first + length done) row = rw (filled_end, ← row_there) put in
+      let edge = put.edge at.edge in
+      let last : first + count * w + length (piece (memory reading (sweep_words t)) (first + k * w) w)
+      ≡ first + (count + 1) * w = rw row_there (omega arith) in
+      record {
+        fills =
+            rw (joined_next w xs off k stays)
+            (fills_more reading s t u start word next first first done row some at.fills step);
+        count_is = ap (λ m. m + 1) at.count_is ∙ sym (more_left off k stays);
+        few = omega (arith, at.few);
+        kept_end = omega (arith, at.kept_end);
+        end = next_end;
+        edge = rw last at edge;
+        way = put.way ∙ at.way;
+      }
+
+-- ---- all rows
+
+module _ {R : Type 0} (reading : Reading R) (s t : Sweep R) (start word : R) (first n w : ℕ) (off : List Bool)
+    (count : ℕ) (some : 0 < reading.bits) (flags : length off ≡ n)
+    (within : first + n * w ≤ length (sweep_words s) * reading.bits)
+    (at : AtRow reading s t start word first n w off n count) where
+  all_end : first + length (rows_joined w (piece (memory reading (sweep_words s)) first (n * w)) (left_before off n))
+      ≡ first + count * w
+  all_end =
+      let size : length (piece (memory reading (sweep_words s)) first (n * w)) ≡ n * w =
+      length-window reading (sweep_words s) first (n * w) within in
+      let all = length-joined w (piece (memory reading (sweep_words s)) first (n * w)) off n (omega arith) in
+      ap (λ m. first + m) (all ∙ ap (λ m. m * w) (sym at.count_is))
+
+  -- once the word at hand is put too
+  pub keeps_rows : (after : List R)
+      → ((before : List R) (bits : List Bool)
+      → Filled reading before (sweep_words t) first (first + count * w) word bits
+      → Overwrites reading before after first (length bits) (λ i. get_or bits i false))
+      → KeepsRows reading (sweep_words s) after first w off
+  keeps_rows after rest =
+      let before = sweep_words s in
+      let xs = rows_joined w (piece (memory reading before) first (n * w)) (left_before off n) in
+      let filled = at.fills.filled before [] (filled_none reading before first start) in
+      let size : length xs ≡ length (left_before off n) * w = omega (arith, all_end, ap (λ m. m * w) at.count_is) in
+      let is : Overwrites reading before after first (length xs) (λ i. get_or xs i false) =
+      rest before xs (rw (← all_end) filled) in
+      rw (flags, ← size) is
+
+  -- no more words are counted than the kept rows touch
+  pub kept_writes : (writes : ℕ) → writes_of s ≡ 0
+      → writes + (first + count * w) / reading.bits
+      ≡ writes_of t + (first / reading.bits + touched reading.bits first (first + count * w - first))
+      → writes ≡ touched reading.bits first (count * w)
+  kept_writes writes none counted =
+      let size : first + count * w - first ≡ count * w = omega arith in
+      let put : writes_of t + first / reading.bits ≡ writes_of s + (first + count * w) / reading.bits =
+      rw (← all_end) at.fills.writes in
+      let counts = rw size at counted in
+      omega arith
+
+-- ---- the list
+
+-- the list from a place on, of any length that has the rows
+pub kept_list : {R : Type 0} (reading : Reading R) (before after : List R) (place len w : ℕ) (off : List Bool)
+    → 0 < reading.bits → length off * w ≤ len → place + len ≤ length before * reading.bits
+    → KeepsRows reading before after place w off
+    → piece (memory reading after) place len ≡ rows_kept w off (piece (memory reading before) place len)
+kept_list reading before after place len w off some rows within is =
+    let m = memory reading before in
+    let ys = kept w off (piece m place (length off * w)) in
+    let here : place ≡ place + 0 = omega arith in
+    let few : length (rows_left off) * w ≤ length off * w = mul-le-mul_right w (few_left off (length off)) in
+    let size : length (piece m place (length off * w)) ≡ length off * w =
+    length-window reading before place (length off * w) (omega arith) in
+    let count : length ys ≡ length (rows_left off) * w =
+    length-joined w (piece m place (length off * w)) off (length off) (omega arith) in
+    window_overwritten reading before after place len place 0 (length (rows_left off) * w) (λ i. get_or ys i false) ys
+    some within here (omega arith) count (λ i low. refl) is
+    ∙ ap (with_piece (piece m place len) 0) (sym (joined_part w m off place len (length off) rows))

@@ -1,0 +1,37 @@
+use Rattle.std.proofs.Common.{arith, ◌≡◌, ◌+◌, ◌≤◌, ◌/◌, ◌<◌, length, refl}
+use Rattle.bit_addressing_memory.proofs.MemoryLemmas.{piece_none}
+use Rattle.bit_addressing_memory.proofs.WindowLemmas.{length-window}
+use Rattle.bit_addressing_memory.specs.Memory.{memory, piece, read_by}
+use Rattle.bit_addressing_memory.specs.Sweep.{edge_of, sweep_words}
+use Rattle.bit_table_rows.proofs.KeepLemmas.{fills_bit, fills_none}
+use Rattle.bit_table_rows.proofs.keep.keep_row.Goals as goal
+
+pub bits-init : goal.bits-init
+bits-init g c =
+    let reading = read_by g.T.BitRegister g.O.Positions.position in
+    rw (piece_none (memory reading (sweep_words c.args.sweep.now)) c.args.from 0 refl)
+    (fills_none reading c.args.sweep.now c.args.word c.args.first c.args.to)
+
+pub keep_bit-next-requires-clause-edge : goal.keep_bit-next-requires-clause-edge
+keep_bit-next-requires-clause-edge g c =
+    let reading = read_by g.T.BitRegister g.O.Positions.position in
+    let words = sweep_words c.args.sweep.now in
+    let size : length (piece (memory reading words) c.args.from c.bits.i) ≡ c.bits.i =
+    length-window reading words c.args.from c.bits.i (omega arith) in
+    let edge : edge_of c.bits.sweep ≤ (c.args.to + c.bits.i) / reading.bits =
+    rw size at (c.bits.invariant.edge c.requires.edge) in
+    rw c.bit_at_place-bit.ensures.same.edge edge
+
+pub bits-preserved : goal.bits-preserved
+bits-preserved g c =
+    let reading = read_by g.T.BitRegister g.O.Positions.position in
+    let some : 0 < reading.bits = omega (arith, g.met.T.BitRegister.least_bits) in
+    fills_bit reading c.args.sweep.now c.bits.sweep c.bit_at_place-bit.new.sweep c.keep_bit-next.new.sweep c.args.word
+    c.bits.next c.keep_bit-next.result c.args.first c.args.to c.args.from c.bits.i c.bit_at_place-bit.result some
+    c.requires.order (omega arith) c.bits.invariant c.bit_at_place-bit.ensures.same c.bit_at_place-bit.ensures.lender
+    c.bit_at_place-bit.ensures.value c.keep_bit-next.ensures
+
+pub returns : goal.returns
+returns g c =
+    let all : c.bits.i ≡ c.args.w = omega arith in
+    rw (← all) c.bits.invariant

@@ -1,0 +1,21 @@
+-- Lists of bits that hold the letters of rows: one list a letter, with one bit a row.
+use Rattle.std.specs.Prelude.{ℕ, Bool, false, List, [], map, slice_index_or}
+use Rattle.std.specs.List.{filter, range_with_len}
+use Rattle.std.specs.FinSet as set
+use Rattle.bit_table_commands.specs.LetterSets.{LetterSet, letter_count, with_letter}
+
+-- the list of letter x
+abbrev pub list_of : List (List Bool) → ℕ → List Bool
+list_of lists x = slice_index_or lists x []
+
+-- the letters that row k bears: those whose lists have a one there
+abbrev pub letters_at : List (List Bool) → ℕ → LetterSet
+letters_at lists k = set.from_list (filter (λ x. slice_index_or (list_of lists x) k false) (range_with_len 0 letter_count))
+
+-- the letters of n rows, row by row
+abbrev pub marks_of : ℕ → List (List Bool) → List LetterSet
+marks_of n lists = map (letters_at lists) (range_with_len 0 n)
+
+-- the rows' letters, letter x of each row as it is decided by the row's letters
+abbrev pub decided : ℕ → (LetterSet → Bool) → List LetterSet → List LetterSet
+decided x decide marks = map (λ letters. with_letter x (decide letters) letters) marks

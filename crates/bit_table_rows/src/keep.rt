@@ -1,0 +1,180 @@
+//! Rows kept by one sweep, the others left out.
+//!
+//! The kept rows' bits are gathered into words one after another, and each word is put once, when it is full or when
+//! all rows are there.
+
+ghost use Rattle.std.specs.Prelude.{◌≡◌, ℕ, ◌+◌, ◌-◌, ◌*◌, ◌/◌, ◌%◌, ◌^◌, ◌<◌, ◌≤◌, Bool, false, List, [], ◌∷◌, length};
+ghost use Rattle.std.specs.Prelude.{count_by, not, slice_index_or};
+ghost use Rattle.bit_addressing_memory.specs.Memory.{Overwrites, entry, memory, piece, read_by, touched};
+ghost use Rattle.bit_addressing_memory.specs.Moves.{changed};
+ghost use Rattle.bit_addressing_memory.specs.Sweep.{IsFresh, SameButReads, edge_of, sweep_lender, sweep_words, way_of};
+ghost use Rattle.bit_addressing_memory.specs.Sweep.{writes_of};
+ghost use Rattle.bit_addressing_memory.specs.declared.sweep.Way.TheVariants.{Up};
+ghost use Rattle.bit_slice_views.specs.View.{view_bits};
+ghost use Rattle.bit_table_rows.specs.KeepSteps.{Filled, Fills, IsFilledWord};
+ghost use Rattle.bit_table_rows.specs.RowsKept.{KeepsRows, rows_kept};
+
+use bit_addressing_memory::mem::bits_of;
+use bit_addressing_memory::{BitIdx, BitOrder, BitRegister, Sweep, read_bit, write_bit};
+use bit_slice_views::{BitSlice, Bits};
+
+/// Keeps those of the `n` rows whose entry in `off` is false: they come to lie in their order from bit `head` of the
+/// sweep's first word on, and it answers how many they are. The rows have `w` bits each and lie end to end from that bit
+/// on. Every bit outside the kept rows' new places stays.
+///
+/// The sweep is fresh and goes up. `off` has one entry a row, and the rows' bits are there.
+///
+/// No word is written twice, and none that the kept rows do not touch at their new places.
+pub fn keep_rows<T: BitRegister, O: BitOrder<T>>(
+    sweep: &mut Sweep<'_, T>,
+    head: BitIdx<T>,
+    n: usize,
+    w: usize,
+    off: BitSlice<'_, T, O>,
+) -> usize
+    requires fresh { IsFresh sweep.old Up }
+    requires flags { length (view_bits (read_by T.BitRegister O.position) off) ≡ n }
+    requires within { head + n * w ≤ length (sweep_words sweep.old) * T.BITS }
+    requires ends { head + n * w < 2 ^ 64 }
+    ensures count { result ≡ count_by not (view_bits (read_by T.BitRegister O.position) off.entry) }
+
+    // The kept rows end to end, and each other bit as before.
+    ensures rows { KeepsRows (read_by T.BitRegister O.position) (sweep_words sweep.old) (sweep_words sweep.new)
+        head w (view_bits (read_by T.BitRegister O.position) off.entry) }
+
+    // The list from `head` on, of any length that has the rows.
+    ensures list { (len : ℕ) → n * w ≤ len → head + len ≤ length (sweep_words sweep.old) * T.BITS
+        → piece (memory (read_by T.BitRegister O.position) (sweep_words sweep.new)) head len
+        ≡ rows_kept w (view_bits (read_by T.BitRegister O.position) off.entry)
+        (piece (memory (read_by T.BitRegister O.position) (sweep_words sweep.old)) head len) }
+
+    // Its writes: at most the words that the kept rows touch, at least the words that became other ones.
+    ensures writes { writes_of sweep.new ≤ touched T.BITS head (result * w) }
+    ensures changed { changed T.number (sweep_words sweep.old) (sweep_words sweep.new) ≤ writes_of sweep.new }
+
+    // What stays.
+    ensures way { way_of sweep.new ≡ way_of sweep.old }
+    ensures lender { sweep_lender sweep.new ≡ sweep_lender sweep.old }
+{
+    let first = head.into_inner() as usize;
+    let mut word = T::ZERO;
+    let mut kept: usize = 0;
+    'rows: for k in 0..n {
+        if !off.bit(k) {
+            word = keep_row::<T, O>(sweep, word, first, first + kept * w, first + k * w, w);
+            kept += 1;
+        }
+    }
+    put_rest::<T, O>(sweep, word, first, first + kept * w);
+    kept
+}
+
+// Puts the bits of a row, which stand from the place `from` on, to the place `to` on. `word` is at hand for the word of
+// `to`, and the word for the place behind them is answered.
+fn keep_row<T: BitRegister, O: BitOrder<T>>(
+    sweep: &mut Sweep<'_, T>,
+    word: T,
+    first: usize,
+    to: usize,
+    from: usize,
+    w: usize,
+) -> T
+    requires way { way_of sweep.old ≡ Up }
+    requires edge { edge_of sweep.old ≤ to / T.BITS }
+    requires order { to ≤ from }
+    requires within { from + w ≤ length (sweep_words sweep.old) * T.BITS }
+    requires ends { from + w < 2 ^ 64 }
+    ensures { Fills (read_by T.BitRegister O.position) sweep.old sweep.new word result first to
+        (piece (memory (read_by T.BitRegister O.position) (sweep_words sweep.old)) from w) }
+{
+    let mut next = word;
+    'bits: for i in 0..w {
+        let bit = bit_at_place::<T, O>(sweep, from + i);
+        next = keep_bit::<T, O>(sweep, next, first, to + i, bit);
+    }
+    next
+}
+
+// Puts one bit to the place `to`: into its word, which is put once it is full.
+fn keep_bit<T: BitRegister, O: BitOrder<T>>(
+    sweep: &mut Sweep<'_, T>,
+    word: T,
+    first: usize,
+    to: usize,
+    bit: bool,
+) -> T
+    requires way { way_of sweep.old ≡ Up }
+    requires edge { edge_of sweep.old ≤ to / T.BITS }
+    requires within { to < length (sweep_words sweep.old) * T.BITS }
+    ensures { Fills (read_by T.BitRegister O.position) sweep.old sweep.new word result first to (bit ∷ []) }
+{
+    let bits = bits_of::<T>();
+    let index = to % bits;
+    let own = begun::<T, O>(sweep, word, first, to);
+    let next = write_bit::<T, O>(own, BitIdx::new_unchecked(index as u8), bit);
+    if index + 1 == bits {
+        sweep.put(to / bits, next);
+    }
+    next
+}
+
+// The word of the place `to`: that at hand, or the memory's own where none is begun.
+fn begun<T: BitRegister, O: BitOrder<T>>(
+    sweep: &mut Sweep<'_, T>,
+    word: T,
+    first: usize,
+    to: usize,
+) -> T
+    requires within { to < length (sweep_words sweep.old) * T.BITS }
+    ensures filled { (before : List T) (bits : List Bool)
+        → Filled (read_by T.BitRegister O.position) before (sweep_words sweep.old) first to word bits
+        → IsFilledWord (read_by T.BitRegister O.position) before first bits (to / T.BITS) result }
+    ensures same { SameButReads sweep.old sweep.new }
+    ensures lender { sweep_lender sweep.new ≡ sweep_lender sweep.old }
+{
+    let bits = bits_of::<T>();
+    if first < to && to % bits > 0 {
+        return word;
+    }
+    sweep.read(to / bits)
+}
+
+// Puts the word at hand, where one is begun.
+fn put_rest<T: BitRegister, O: BitOrder<T>>(
+    sweep: &mut Sweep<'_, T>,
+    word: T,
+    first: usize,
+    to: usize,
+)
+    requires way { way_of sweep.old ≡ Up }
+    requires edge { edge_of sweep.old ≤ to / T.BITS }
+    requires order { first ≤ to }
+    requires within { to ≤ length (sweep_words sweep.old) * T.BITS }
+    ensures filled { (before : List T) (bits : List Bool)
+        → Filled (read_by T.BitRegister O.position) before (sweep_words sweep.old) first to word bits
+        → Overwrites (read_by T.BitRegister O.position) before (sweep_words sweep.new) first (length bits)
+        (λ k. slice_index_or bits k false) }
+    ensures writes { writes_of sweep.new + to / T.BITS
+        ≡ writes_of sweep.old + (first / T.BITS + touched T.BITS first (to - first)) }
+    ensures changed { (others : List T) → changed T.number others (sweep_words sweep.new) + writes_of sweep.old
+        ≤ changed T.number others (sweep_words sweep.old) + writes_of sweep.new }
+    ensures way { way_of sweep.new ≡ way_of sweep.old }
+    ensures lender { sweep_lender sweep.new ≡ sweep_lender sweep.old }
+{
+    let bits = bits_of::<T>();
+    if first < to && to % bits > 0 {
+        sweep.put(to / bits, word);
+    }
+}
+
+// The bit of the words at a place.
+fn bit_at_place<T: BitRegister, O: BitOrder<T>>(sweep: &mut Sweep<'_, T>, place: usize) -> bool
+    requires { place < length (sweep_words sweep.old) * T.BITS }
+    ensures value { result ≡ entry (read_by T.BitRegister O.position) (sweep_words sweep.old) place }
+    ensures same { SameButReads sweep.old sweep.new }
+    ensures lender { sweep_lender sweep.new ≡ sweep_lender sweep.old }
+{
+    let bits = bits_of::<T>();
+    let index = BitIdx::new_unchecked((place % bits) as u8);
+    read_bit::<T, O>(sweep.read(place / bits), index)
+}

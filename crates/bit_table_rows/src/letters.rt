@@ -1,0 +1,200 @@
+//! The letters that rows bear.
+
+ghost use Rattle.std.specs.Prelude.{◌≡◌, ◌≢◌, ◌+◌, ◌*◌, ◌≤◌, ◌<◌, [], length, map, replicate, slice_set};
+ghost use Rattle.std.specs.Prelude.{slice_index, slice_index_or, IfOk, IsOk, OnOk, OnErr, not};
+ghost use Rattle.std.specs.List.{All, count_by, filter};
+ghost use Rattle.std.specs.FinSet as set;
+ghost use Rattle.bit_addressing_memory.specs.Memory.{read_by, touched};
+ghost use Rattle.bit_addressing_span.specs.declared.span.TheConstants.{MAX_BITS};
+ghost use Rattle.bit_slice_words.specs.Steps.{groups, Takes};
+ghost use Rattle.bit_slice_views.specs.View.{view_bits};
+ghost use Rattle.bit_table_rows.specs.Lists.{AreColumns};
+ghost use Rattle.bit_table_commands.specs.Letters.{combined};
+ghost use Rattle.bit_table_commands.specs.LetterSets.{bears, letter_count, with_letter};
+ghost use Rattle.bit_table_rows.specs.Marks.{decided};
+ghost use Rattle.bit_table_rows.specs.RowEdit.{added, edited_by, most_moved, LiesIn};
+
+use crate::combine::combine_lists;
+use crate::drops::drop_marked;
+use crate::edit::RowEdit;
+use crate::lists::{copy_lists, edit_lists, extend_lists, reserve_lists};
+use bit_addressing_memory::BitOrder;
+use bit_containers_vector::BitVec;
+use bit_slice_views::{BitSlice, BitStore, Bits};
+use bit_slice_views_mut::BitsMut;
+use bit_slice_words::{Steps, WordPaths};
+use bit_table_commands::BoolOp;
+use std::alloc::{AllocError, Global};
+use std::array;
+use std::marker::Model;
+
+/// How many letters there are.
+pub const LETTERS: usize = 26;
+
+/// The letters that the rows of a table bear, each as its place in the alphabet: 26 lists of bits, each with one bit a
+/// row.
+///
+/// Clauses see one set of letters a row.
+#[derive(Drop)]
+pub struct Letters<T: BitStore, O: WordPaths<T>> {
+    rows: usize,
+    lists: [BitVec<T, O>; LETTERS],
+}
+
+impl<T: BitStore, O: WordPaths<T>> Model for Letters<T, O> {
+    ghost use Rattle.std.specs.Prelude.{◌≡◌, ◌*◌, ◌≤◌, List, length, map};
+    ghost use Rattle.std.specs.Coded.{codes};
+    ghost use Rattle.bit_addressing_memory.specs.Memory.{read_by};
+    ghost use Rattle.bit_addressing_span.specs.declared.span.TheConstants.{MAX_BITS};
+    ghost use Rattle.bit_containers_vector.specs.Vector.{vec_bits};
+    ghost use Rattle.bit_table_commands.specs.LetterSets.{LetterSet, letters_code, letter_count};
+    ghost use Rattle.bit_table_rows.specs.Marks.{marks_of};
+    ghost use Rattle.bit_table_rows.specs.Lists.{AreColumns};
+
+    ghost Value = { List LetterSet };
+
+    ghost coded = { Prim.hlevel (codes, letters_code) };
+
+    ghost view = { λ t. marks_of t.rows (map (vec_bits (read_by T.BitRegister O.position)) t.lists) };
+
+    ghost invariant = { λ t. AreColumns (read_by T.BitRegister O.position) t.rows t.lists };
+}
+
+impl<T: BitStore, O: WordPaths<T>> Letters<T, O> {
+    /// The letters of no rows. It takes no memory.
+    pub fn new(alloc: Global) -> Letters<T, O>
+        ensures { result ≡ [] }
+    {
+        Letters {
+            rows: 0,
+            lists: empty_lists::<T, O>(alloc),
+        }
+    }
+
+    /// How many rows there are.
+    pub fn rows(&self) -> usize
+        ensures { result ≡ length self.now }
+    {
+        self.rows
+    }
+
+    /// One bit a row: whether it bears the letter.
+    pub fn list(&self, letter: usize) -> BitSlice<'_, T, O>
+        requires { letter < letter_count }
+        ensures { view_bits (read_by T.BitRegister O.position) result ≡ map (bears letter) self.now }
+    {
+        self.lists[letter].as_bitslice()
+    }
+
+    /// Edits the rows, with their letters; a new row bears none. It answers how many words the moves of an insertion or
+    /// a deletion wrote, letter by letter.
+    ///
+    /// Memory for all lists is asked for before the first is edited, so a refusal changes nothing; an edit that adds no
+    /// row asks for none.
+    pub fn edit(&mut self, edit: RowEdit) -> Result<[usize; LETTERS], AllocError>
+        requires range { LiesIn (length self.old) edit }
+        requires most { length self.old + added edit ≤ MAX_BITS }
+        ensures ok { OnOk result (self.new ≡ edited_by set.empty edit self.old) }
+        ensures err { OnErr result (self.new ≡ self.old) }
+        ensures succeeds { added edit ≡ 0 → IsOk result }
+        ensures writes { IfOk result (λ writes. All (λ k. k ≤ most_moved T.BITS 1 (length self.old) edit) writes) }
+    {
+        let rows = self.rows;
+        reserve_lists(&mut self.lists, edit.rows_added())?;
+        let mut writes = [0; LETTERS];
+        edit_lists(&mut self.lists, rows, edit, &mut writes);
+        self.rows = edit.rows_after(rows);
+        Ok(writes)
+    }
+
+    /// Makes one row bear a letter, or not.
+    pub fn put(&mut self, letter: usize, row: usize, bears_it: bool)
+        requires letter { letter < letter_count }
+        requires row { row < length self.old }
+        ensures { self.new
+            ≡ slice_set self.old row (with_letter letter bears_it (slice_index_or self.old row set.empty)) }
+    {
+        self.lists[letter].set(row, bears_it);
+    }
+
+    /// Turns a letter round in each row: the rows that bore it do not, and the others do.
+    pub fn invert(&mut self, letter: usize)
+        requires { letter < letter_count }
+        ensures { self.new ≡ decided letter (λ letters. not (bears letter letters)) self.old }
+    {
+        self.lists[letter].invert();
+    }
+
+    /// Makes a letter of each row what an operation makes of it and of another letter of the row, or of itself.
+    pub fn combine(&mut self, op: BoolOp, letter: usize, other: usize, steps: &mut Steps)
+        requires letter { letter < letter_count }
+        requires other { other < letter_count }
+        ensures rows { self.new ≡ decided letter
+            (λ letters. combined op (bears letter letters) (bears other letters)) self.old }
+
+        // Of two letters as many word steps as of that many bits; of a letter and itself none.
+        ensures steps { letter ≢ other
+            → Takes steps.old steps.new (groups (length self.old) 64) (groups (length self.old) O.SPAN) }
+        ensures alone { letter ≡ other → steps.new ≡ steps.old }
+    {
+        combine_lists(&mut self.lists, self.rows, op, letter, other, steps);
+    }
+
+    /// Takes out the rows that bear a letter: the others move together, in their order. It answers how many words the
+    /// move of each letter's list wrote.
+    ///
+    /// No memory is taken.
+    pub fn drop_rows(&mut self, letter: usize) -> [usize; LETTERS]
+        requires { letter < letter_count }
+        ensures rows { self.new ≡ filter (λ letters. not (bears letter letters)) self.old }
+
+        // At most the words that the rows that stay touch, and of the letter itself none.
+        ensures writes { All (λ k. k ≤ touched T.BITS 0 (length self.new)) result }
+        ensures own { slice_index result letter ≡ 0 }
+    {
+        let mut writes = [0; LETTERS];
+        self.rows = drop_marked(&mut self.lists, self.rows, letter, &mut writes);
+        writes
+    }
+
+    /// How many rows bear a letter.
+    pub fn count(&self, letter: usize) -> usize
+        requires { letter < letter_count }
+        ensures { result ≡ count_by (bears letter) self.now }
+    {
+        self.lists[letter].count_ones()
+    }
+
+    /// The letters of so many new rows, which bear none.
+    pub fn of_rows(alloc: Global, rows: usize) -> Result<Letters<T, O>, AllocError>
+        requires { rows ≤ MAX_BITS }
+        ensures { IfOk result (λ letters. letters ≡ replicate rows set.empty) }
+    {
+        let blank = BitVec::<T, O>::repeat(alloc, false, rows)?;
+        let mut lists = empty_lists::<T, O>(alloc);
+        extend_lists(&mut lists, &blank)?;
+        Ok(Letters { rows, lists })
+    }
+
+    /// The letters of other rows, whatever their words and their order.
+    pub fn copy_of<Q: BitStore, P: WordPaths<Q>>(
+        alloc: Global,
+        others: &Letters<Q, P>,
+    ) -> Result<Letters<T, O>, AllocError>
+        ensures { IfOk result (λ letters. letters ≡ others.now) }
+    {
+        let mut lists = empty_lists::<T, O>(alloc);
+        copy_lists(&mut lists, &others.lists)?;
+        Ok(Letters {
+            rows: others.rows,
+            lists,
+        })
+    }
+}
+
+// A list without a bit for each letter.
+fn empty_lists<T: BitStore, O: BitOrder<T>>(alloc: Global) -> [BitVec<T, O>; LETTERS]
+    ensures { AreColumns (read_by T.BitRegister O.position) 0 result }
+{
+    array::from_fn(|_letter| BitVec::new(alloc))
+}

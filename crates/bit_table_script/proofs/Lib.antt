@@ -1,7 +1,0 @@
-pub mod Sending
-pub mod LineLemmas
-pub mod GoingLemmas
-pub mod Pieces
-pub mod ReachedLemmas
-pub mod CallerLemmas
-mod KnownRows

@@ -1,5 +1,0 @@
-pub mod Lines
-pub mod Streams
-pub mod Ends
-pub mod Runs
-pub mod Going

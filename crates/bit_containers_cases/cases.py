@@ -85,6 +85,7 @@ ROWS = [
     ("u16 lsb0 - 0 0 from_array 12345678 ; given", "12345678 [] 0 0"),
     ("u16 msb0 - 0 0 from_array 12345678 ; ones", "13,3,28,6,[00010010001101000101011001111000] 0 2"),
     ("u8 msb0 - 0 0 from_element b5 ; zeros", "3,1,6,6,[10110101] 0 1"),
+    ("u8 msb0 - 0 0 from_array b5 ; zeros", "3,1,6,6,[10110101] 0 1"),
     # the bits 14 to before 20 of ffff, 00ff: the last word turned; of two bits the first one, and the other is held
     ("u16 lsb0 ffff00ff 14 6 raw ; put 1 fff0 ; raw ; ones", "c000000f c000fff0 2,0,1,1,[110000] 14 2"),
     ("u16 lsb0 ffff00ff 14 6 put 1 fff0 ; truncate 2 ; put 0 3fff ; raw ; held", "3fff 3ffffff0 [] 0 0"),
@@ -144,6 +145,8 @@ ROWS = [
     ),
     # words and windows that arrays lend
     ("array2 u16 msb0 12345678 0 32 raw ; put 1 8000 ; raw ; at 16 ; lent set 0 1 ; raw", "12345678 12348000 192348000 [10010010001101001000000000000000] 2"),
+    # 0xa001 from its lowest digit on, in a loop that takes it
+    ("array2 u8 lsb0 01a0 0 16 by_value", "1000000000000101[1000000000000101] 2"),
     ("array2 u16 msb0 12345678 0 32 lent fill 1 ; raw", "ffffffff [" + "1" * 32 + "] 2"),
     # cc, ff: each bit turned; with aa, 0f, with 01, 80 and with the first of these again
     ("array2 u8 lsb0 ccff 0 16 not ; raw", "3300 [1100110000000000] 2"),
@@ -312,8 +315,14 @@ def look(plain, name, rng):
 
 
 WRITES = (
-    "fill fill_odd invert reverse rotate rotate_right shift_left shift_right set set_lent replace swap move and or xor take put"
+    "fill fill_odd invert reverse rotate rotate_right shift_left shift_right set set_lent replace swap move and or xor take put with swept"
 ).split()
+
+# those that boxes and arrays have too; calls that write words, which no window that is lent has; calls of a container alone
+# that read it
+IN_PLACE = [name for name in WRITES if name != "swept"]
+WORDS_WRITTEN = "put with swept".split()
+OWN_LOOKS = "text each at".split()
 
 
 def write(plain, name, rng):
@@ -321,11 +330,12 @@ def write(plain, name, rng):
     bits, n = plain.bits, plain.n
     a, b, one = rng.randint(0, n), rng.randint(0, n), rng.getrandbits(1)
     new, call, answer = bits[:], name, ""
-    if name == "put":
+    if name in ("put", "with", "swept"):
         k, word = rng.randint(0, len(plain.words) // plain.size), [rng.getrandbits(1) for _ in range(plain.size)]
         if k * plain.size < len(plain.words):
             plain.words[k * plain.size : (k + 1) * plain.size] = word
-        return f"put {k} {plain.hex(word)}", ""
+        is_there = k * plain.size < len(plain.words)
+        return f"{name} {k} {plain.hex(word)}", "refused " if name == "swept" and not is_there else ""
     if name == "fill":
         call, new = f"fill {one}", [one] * n
     elif name == "fill_odd":
@@ -367,7 +377,7 @@ def write(plain, name, rng):
 
 def whole_words(plain, name, rng):
     """A call of `make`: all bits of some words, or one bit; its words."""
-    count = {"from_element": 1, "from_array": 2}.get(name, rng.randint(0, 4))
+    count = {"from_element": 1, "from_array": rng.randint(1, 2)}.get(name, rng.randint(0, 4))
     words = [rng.getrandbits(1) for _ in range(count * plain.size)]
     plain.start(words)
     return f"{name} {plain.hex(words) or '-'}"
@@ -587,7 +597,7 @@ def box_call(plain, name, rng):
     return name, answer
 
 
-ARRAYS = "not zero default inner iter left".split()
+ARRAYS = "not zero default inner iter left by_value".split()
 
 
 def array_call(plain, name, rng):
@@ -600,6 +610,8 @@ def array_call(plain, name, rng):
         return name, turns(plain.bits) if name == "iter" else ends + shown(inner) + turns([1 - b for b in inner]) * 2
     if name == "inner":
         return name, ""
+    if name == "by_value":
+        return name, text(plain.bits)
     return vector_call(plain, name, rng)
 
 
@@ -611,11 +623,12 @@ def groups_of(rng, names, size):
 
 
 def run(plain, names, call_of, rng, calls, answers):
-    """Makes calls, some on the window that is lent, and shows the words behind most of those that write."""
+    """Makes calls, some on a window that is lent, and shows the words behind most of those that write."""
     for name in names:
-        lent = name in WRITES and name != "put" and rng.randrange(4) == 0
+        can_be_lent = name in WRITES and name not in WORDS_WRITTEN or name in LOOKS and name not in OWN_LOOKS
+        lent = rng.choice(("lent ", "window ", "", "", "", "")) if can_be_lent else ""
         call, answer = call_of(plain, name, rng)
-        calls.append("lent " + call if lent else call)
+        calls.append(lent + call)
         answers.append(answer)
         if not plain.known() and rng.randrange(3) == 0:
             one = rng.getrandbits(1)
@@ -672,7 +685,7 @@ def boxes(rng):
         heads = range(8) if word == "u8" else (0, WORDS[word] - 1)
         for order in SWEPT:
             for head in heads:
-                for names in groups_of(rng, LOOKS + WRITES + BOXES, 5):
+                for names in groups_of(rng, LOOKS + IN_PLACE + BOXES, 5):
                     memory, bits = window(rng, word, order, head, rng.choice((0, 1, 2, 5, 8, 9, 13, 20)))
                     plain, calls, answers = Plain(word, order, head, bits), [], []
                     plain.held = len(plain.words)
@@ -687,7 +700,7 @@ def arrays(rng):
     for kind, count in (("word", 1), ("array1", 1), ("array2", 2), ("array3", 3)):
         for word in WORDS:
             for order in SWEPT:
-                for names in groups_of(rng, LOOKS + WRITES + ARRAYS, 7):
+                for names in groups_of(rng, LOOKS + IN_PLACE + ARRAYS, 7):
                     n = count * WORDS[word]
                     memory, bits = window(rng, word, order, 0, n)
                     plain, calls, answers = Plain(word, order, 0, bits), [], []

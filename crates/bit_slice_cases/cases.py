@@ -25,7 +25,8 @@ ROWS = [
     ("u8 lsb0 78 3 4 or 10", "78"),
     ("u8 lsb0 78 3 4 xor 10", "70"),
     # sixteen bits moved in the window of bits 2 to before 22
-    ("u8 lsb0 123456 2 20 move 2 0 16", "068d55"),
+    ("u8 lsb0 123456 2 20 move 2 0 16 3", "few 068d55"),
+    ("u8 lsb0 123456 4 16 move_words 2 3", "few 068d55"),
     # bits 0, 3 and the last and a part written by index and range
     ("u8 lsb0 000000 0 24 first_mut 1", "010000"),
     ("u8 lsb0 010000 0 24 get_mut 3 1", "090000"),
@@ -190,6 +191,7 @@ ORDERS = {
     "lsb0": lambda bits, i: i,
     "msb0": lambda bits, i: bits - 1 - i,
     "fifth": lambda bits, i: (5 * i + 3) % bits,
+    "hilo": lambda bits, i: i ^ 4,
 }
 TYPES = {"u8": 8, "u16": 16, "u32": 32, "u64": 64, "u128": 128, "usize": 64}
 TYPES |= {"i8": 8, "i16": 16, "i32": 32, "i64": 64, "i128": 128, "isize": 64}
@@ -218,6 +220,10 @@ class Memory:
     def with_part(self, place, new):
         all_bits = self.list()
         return self.with_list(all_bits[:place] + new + all_bits[place + len(new) :])
+
+    def touched(self, place, length):
+        """How many words a stretch touches."""
+        return (place + length - 1) // self.bits - place // self.bits + 1 if length else 0
 
     def head(self, place, length):
         return f"{self.word} {self.order} {self.hex()} {place} {length}"
@@ -331,6 +337,10 @@ def cuts(bits, size):
         for kind in (*KINDS, "windows"):
             pieces = [text(bits[a:b]) for a, b in stretches(n, kind, size)]
             yield kind, f"{size} {way}", "|" + "".join(f"{it}|" for it in in_turn(pieces, way))
+            if way != "turns":
+                call, by = ("nth", "nth_back")[way == "back"], size % 4
+                found = in_turn(pieces, way)[by :: by + 1]
+                yield kind, f"{size} {call} {by}", "|" + "".join(f"{it}|" for it in found)
         for call, bit in (("iter_ones", 1), ("iter_zeros", 0)):
             indices = [i for i, b in enumerate(bits) if b == bit]
             yield call, way, "".join(f"{i}," for i in in_turn(indices, way)) + "."
@@ -423,7 +433,7 @@ def put(bits, at, new):
     return bits[:at] + new + bits[at + len(new) :]
 
 
-def edits(bits, other, count, rng):
+def edits(bits, other, count, touched, rng):
     """What changes single bits, and parts."""
     n = len(bits)
     i, j, bit = rng.randint(0, n), rng.randint(0, n), rng.randint(0, 1)
@@ -444,7 +454,7 @@ def edits(bits, other, count, rng):
         yield call, args, [1 - b for b in bits[:mid]] + bits[mid:][::-1], ""
     k = min(count, n)
     at, to = rng.randint(0, n - k), rng.randint(0, n - k)
-    yield "move", f"{at} {to} {k}", put(bits, to, bits[at : at + k]), ""
+    yield "move", f"{at} {to} {k} {touched(to, k)}", put(bits, to, bits[at : at + k]), "few "
     yield "copy_within", f"{at} {at + k} {to}", put(bits, to, bits[at : at + k]), ""
     yield "copy_within", f"{n} {n + 1} 0", bits, "refused "
     part = other[:n] or [1] * min(n, 1)
@@ -559,21 +569,21 @@ def calls_of(memory, place, length, rng):
     for call, args, new, told in (
         *changes(bits, other, by),
         *copies(bits, same),
-        *edits(bits, other, count, rng),
+        *edits(bits, other, count, lambda to, k: memory.touched(place + to, k), rng),
         *lent(bits, random, size, rng.randint(0, 2)),
     ):
         yield call, f"{head} {call} {args}".rstrip(), told + memory.with_part(place, new)
 
 
 def sweep():
-    """Of each window two calls, and four under `fifth`: those that came least often under its order."""
+    """Of each window two calls, and four under orders of a user's own: those that came least often under its order."""
     rng = random.Random(7)
     came = {}
     for memory, place, length in memories(rng):
         calls = list(calls_of(memory, place, length, rng))
         rng.shuffle(calls)
         calls.sort(key=lambda it: came.get((it[0], memory.order), 0))
-        for call, line, answer in calls[: 4 if memory.order == "fifth" else 2]:
+        for call, line, answer in calls[: 4 if memory.order in ("fifth", "hilo") else 2]:
             came[call, memory.order] = came.get((call, memory.order), 0) + 1
             yield line, answer
 
@@ -634,7 +644,7 @@ def path_sweep():
     """Word paths of two memories, a step a bit: of another memory, of the same one, and of one that differs in one bit."""
     rng = random.Random(5)
     for word in ("u8", "u16", "u64"):
-        for order in ("lsb0", "msb0"):
+        for order in ("lsb0", "msb0", "hilo"):
             for length in (0, 1, 4, 8, 13, 40, 64, 140):
                 for kind in ("another", "same", "near"):
                     place = rng.choice((0, 3, 7))
@@ -669,6 +679,20 @@ def path_calls(memory, place, others, from_, length):
         yield call, f"true 0 {memory.with_part(place, its)} {others.hex()}"
 
 
+def move_sweep():
+    """Bits of a memory moved to each place, in no more writes than words that the target touches."""
+    rng = random.Random(11)
+    for word, lengths in (("u8", (0, 1, 5, 8, 13, 24)), ("u16", (7, 16, 30))):
+        for order in ORDERS:
+            for source in range(0, 25, 3):
+                for target in range(25):
+                    length = rng.choice(lengths)
+                    memory = Memory(word, order, filled(WORDS[word], 64 // WORDS[word], rng))
+                    new = memory.with_part(target, memory.list()[source : source + length])
+                    line = f"{memory.head(source, length)} move_words {target} {memory.touched(target, length)}"
+                    yield line, f"few {new}"
+
+
 def number_sweep():
     """Fields of 1 to 16 bits at heads 0 to 15, with and without sign, stored in a part too; each type whole."""
     rng = random.Random(9)
@@ -691,7 +715,7 @@ def number_sweep():
 
 
 def main():
-    cases = [*ROWS, *sweep(), *part_sweep(), *piece_sweep(), *single_sweep(), *path_sweep(), *number_sweep()]
+    cases = [*ROWS, *sweep(), *part_sweep(), *piece_sweep(), *single_sweep(), *path_sweep(), *move_sweep(), *number_sweep()]
     with open("stdin", "w") as file:
         file.write("".join(line + "\n" for line, _ in cases))
     with open("stdout", "w") as file:

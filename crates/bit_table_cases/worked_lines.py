@@ -239,6 +239,11 @@ MEMORIES = [
     ("row u8 lsb0 ffff 0 0 high a:u3 b:i4 c:u3 d:i4;5 -1 2 3", "[5, -1, 2, 3] 7df1"),
     ("row u8 hilo ffff 0 0 high a:u3 b:i4 c:u3 d:i4;5 -1 2 3", "[5, -1, 2, 3] d71f"),
     ("row u8 lsb0 ffff 0 0 low a:u3 b:i4 c:u3 d:i4;5 -1 2 3", "[5, -1, 2, 3] 7dcd"),
+    # its fields one by one: loaded by both rules, as they are and with a sign, stored by both, a step a digit
+    ("digits u8 hilo d7d0 0 3 5", "5 5 -3 -3 12 d7d0 d7d0 6"),
+    ("digits u8 hilo d7d0 3 4 -1", "15 15 -1 -1 16 d7d0 d7d0 8"),
+    ("digits u8 hilo d7d0 7 3 2", "2 2 2 2 12 d7d0 d7d0 6"),
+    ("digits u8 hilo d7d0 10 4 3", "3 12 3 -4 16 d7d0 d713 8"),
     # the second of them alone, behind seven ones
     ("row u8 msb0 ffff 0 7 high a:u3 b:i4;2 3", "[2, 3] fe8f"),
     # a row of three bits from bit 3 on moves up by one row

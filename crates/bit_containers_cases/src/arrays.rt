@@ -3,7 +3,7 @@
 use crate::call::{Call, put_bits, read_word};
 use crate::looks::look;
 use crate::shown::{push_bit, push_list, push_ref, push_texts, push_turns, push_words};
-use crate::writes::{put_word, write};
+use crate::writes::{on_lent, put_word, write};
 use bit_addressing_sample_orders::texts::number;
 use bit_containers::array::IntoIter;
 use bit_containers::{
@@ -48,9 +48,13 @@ fn step<A: BitViewSized, O: BitOrder<A::Store>>(
     let mut room = [0u16; 16];
     let count = put_bits(&mut room, call.first);
     let other = BitSlice::<u16, Msb0>::from_place(&room, 5, count);
-    if call.is_lent {
+    if call.lent_by == "window" {
+        let mut lent = array.as_mut_bitslice();
+        return on_lent(alloc, text, &mut lent, call, &other);
+    }
+    if call.lent_by == "lent" {
         let mut lent = array.as_mut_slice();
-        return write(text, &mut lent, call, &other);
+        return on_lent(alloc, text, &mut lent, call, &other);
     }
     if look(alloc, text, &*array, call, &other)? || write(text, &mut *array, call, &other)? {
         return Ok(true);
@@ -65,16 +69,14 @@ fn change<A: BitViewSized, O: BitOrder<A::Store>>(
     array: &mut BitArray<A, O>,
     call: &Call<'_>,
 ) -> Result<bool, AllocError> {
+    let word = read_word::<A::Store>(call.second);
     match call.name {
         "not" => *array = !*array,
         "zero" => *array = BitArray::<A, O>::ZERO,
         "default" => *array = BitArray::<A, O>::default(),
         "inner" => *array = BitArray::<A, O>::from(array.into_inner()),
-        "put" => put_word::<A::Store>(
-            array.as_raw_mut_slice(),
-            number(call.first),
-            read_word::<A::Store>(call.second),
-        ),
+        "put" => put_word::<A::Store>(array.as_raw_mut_slice(), number(call.first), word),
+        "with" => array.with_words(|words| put_word::<A::Store>(words, number(call.first), word)),
         "at" => {
             let at = number(call.first);
             if at >= array.len() {
@@ -89,6 +91,11 @@ fn change<A: BitViewSized, O: BitOrder<A::Store>>(
         "each" => {
             for bit in &*array {
                 push_ref(text, Some(bit))?;
+            }
+        }
+        "by_value" => {
+            for bit in *array {
+                push_bit(text, Some(bit))?;
             }
         }
         _ => return Ok(false),

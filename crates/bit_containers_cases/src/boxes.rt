@@ -5,7 +5,7 @@ use crate::looks::look;
 use crate::shown::{
     push_bit, push_list, push_number, push_ref, push_texts, push_turns, push_words,
 };
-use crate::writes::{put_word, write};
+use crate::writes::{on_lent, put_word, write};
 use bit_addressing_sample_orders::texts::{number, read_words};
 use bit_containers::boxed::IntoIter;
 use bit_containers::{BitBox, BitOrder, BitSlice, BitStore, BitVec, Bits, BitsMut, Msb0};
@@ -46,8 +46,8 @@ fn step<T: BitStore, O: BitOrder<T>>(
     let mut room = [0u16; 16];
     let count = put_bits(&mut room, call.first);
     let other = BitSlice::<u16, Msb0>::from_place(&room, 5, count);
-    if call.is_lent {
-        return write_lent(text, boxed, call, &other);
+    if !call.lent_by.is_empty() {
+        return write_lent(alloc, text, boxed, call, &other);
     }
     if look(alloc, text, &*boxed, call, &other)? || write(text, &mut *boxed, call, &other)? {
         return Ok(true);
@@ -60,13 +60,18 @@ fn step<T: BitStore, O: BitOrder<T>>(
 
 // Makes a call on the window that a box lends.
 fn write_lent<T: BitStore, O: BitOrder<T>, W: Bits>(
+    alloc: Global,
     text: &mut String,
     boxed: &mut BitBox<T, O>,
     call: &Call<'_>,
     other: &W,
 ) -> Result<bool, AllocError> {
+    if call.lent_by == "window" {
+        let mut lent = boxed.as_mut_bitslice();
+        return on_lent(alloc, text, &mut lent, call, other);
+    }
     let mut lent = boxed.as_mut_slice();
-    write(text, &mut lent, call, other)
+    on_lent(alloc, text, &mut lent, call, other)
 }
 
 // Makes a call of the words of a box.
@@ -77,10 +82,12 @@ fn fit<T: BitStore, O: BitOrder<T>>(
     call: &Call<'_>,
 ) -> Result<bool, AllocError> {
     let a = number(call.first);
+    let word = read_word::<T>(call.second);
     match call.name {
         "dead" => boxed.fill_uninitialized(a == 1),
         "align" => boxed.force_align(),
-        "put" => put_word::<T>(boxed.as_raw_mut_slice(), a, read_word::<T>(call.second)),
+        "put" => put_word::<T>(boxed.as_raw_mut_slice(), a, word),
+        "with" => boxed.with_words(|words| put_word::<T>(words, a, word)),
         "at" if a < boxed.len() => push_bit(text, Some(boxed[a]))?,
         "raw" => push_words(text, boxed.as_raw_slice())?,
         "text" => push_texts(alloc, text, &*boxed)?,
@@ -109,6 +116,7 @@ fn make<T: BitStore, O: BitOrder<T>>(
             let word = Box::new(alloc, words[0])?;
             BitBox::from_element_box(word).map_err(AllocError::from)?
         }
+        "from_array" if words.len() == 1 => BitBox::from_array(alloc, &[words[0]])?,
         "from_array" if words.len() == 2 => BitBox::from_array(alloc, &[words[0], words[1]])?,
         "from_boxed_slice" => BitBox::from_boxed_slice(words.into_boxed_slice()),
         "try_from_boxed_slice" => match BitBox::try_from(words.into_boxed_slice()) {

@@ -10,8 +10,9 @@ use std::str::SplitWhitespace;
 pub struct Call<'a> {
     /// Its name.
     pub name: &'a str,
-    /// Whether it is made on the window that is lent: a word `lent` stands before the name.
-    pub is_lent: bool,
+    /// The word before the name where it is made on a window that is lent, else empty: `lent` by `as_mut_slice`, `window`
+    /// by `as_mut_bitslice`.
+    pub lent_by: &'a str,
     /// Its words, empty where there are none.
     pub first: &'a str,
     pub second: &'a str,
@@ -23,13 +24,13 @@ impl<'a> Call<'a> {
     pub fn read(words: &mut SplitWhitespace<'a>) -> Option<Call<'a>> {
         let mut call = Call {
             name: words.next()?,
-            is_lent: false,
+            lent_by: "",
             first: "",
             second: "",
             third: "",
         };
-        if call.name == "lent" {
-            call.is_lent = true;
+        if call.name == "lent" || call.name == "window" {
+            call.lent_by = call.name;
             call.name = words.next().unwrap_or("");
         }
         for at in 0..4u8 {

@@ -33,6 +33,7 @@ pub fn make<T: BitStore, O: BitOrder<T>>(
             Err(_) => return Ok(false),
         },
         "from_element" if words.len() == 1 => BitVec::from_element(alloc, words[0])?,
+        "from_array" if words.len() == 1 => BitVec::from_array(alloc, &[words[0]])?,
         "from_array" if words.len() == 2 => BitVec::from_array(alloc, &[words[0], words[1]])?,
         "collect_elements" => BitVec::collect_elements(alloc, words.into_iter())?,
         _ => return Ok(false),

@@ -6,9 +6,9 @@ use crate::looks::look;
 use crate::made::{make, remake};
 use crate::shown::{push_bit, push_list, push_ref, push_texts, push_words};
 use crate::taken::take;
-use crate::writes::{put_word, write};
+use crate::writes::{on_lent, put_swept, put_word, write};
 use bit_addressing_sample_orders::texts::number;
-use bit_containers::{BitOrder, BitSlice, BitStore, BitVec, Bits, BitsMut, Msb0};
+use bit_containers::{BitOrder, BitSlice, BitStore, BitVec, Bits, BitsMut, Msb0, way_for};
 use std::alloc::{AllocError, Global};
 use std::str::SplitWhitespace;
 
@@ -45,8 +45,8 @@ fn step<T: BitStore, O: BitOrder<T>>(
     let mut room = [0u16; 16];
     let count = put_bits(&mut room, call.first);
     let other = BitSlice::<u16, Msb0>::from_place(&room, 5, count);
-    if call.is_lent {
-        return write_lent(text, vector, call, &other);
+    if !call.lent_by.is_empty() {
+        return write_lent(alloc, text, vector, call, &other);
     }
     if look(alloc, text, &*vector, call, &other)? || write(text, &mut *vector, call, &other)? {
         return Ok(true);
@@ -65,13 +65,18 @@ fn step<T: BitStore, O: BitOrder<T>>(
 
 // Makes a call on the window that a vector lends.
 fn write_lent<T: BitStore, O: BitOrder<T>, W: Bits>(
+    alloc: Global,
     text: &mut String,
     vector: &mut BitVec<T, O>,
     call: &Call<'_>,
     other: &W,
 ) -> Result<bool, AllocError> {
+    if call.lent_by == "window" {
+        let mut lent = vector.as_mut_bitslice();
+        return on_lent(alloc, text, &mut lent, call, other);
+    }
     let mut lent = vector.as_mut_slice();
-    write(text, &mut lent, call, other)
+    on_lent(alloc, text, &mut lent, call, other)
 }
 
 // Makes a call that puts bits in or takes them off.
@@ -114,6 +119,7 @@ fn fit<T: BitStore, O: BitOrder<T>>(
     call: &Call<'_>,
 ) -> Result<bool, AllocError> {
     let a = number(call.first);
+    let word = read_word::<T>(call.second);
     let most = vector.as_raw_slice().len().saturating_mul(T::BITS as usize);
     if vector.len() > 2000 {
         return Ok(false);
@@ -126,7 +132,11 @@ fn fit<T: BitStore, O: BitOrder<T>>(
         "dead" => vector.set_uninitialized(a == 1),
         "set_len" if a <= 2000 && vector.first_place() + a <= most => vector.set_len(a),
         "elements" => vector.set_elements(read_word::<T>(call.first)),
-        "put" => put_word::<T>(vector.as_raw_mut_slice(), a, read_word::<T>(call.second)),
+        "put" => put_word::<T>(vector.as_raw_mut_slice(), a, word),
+        "with" => vector.with_words(|words| put_word::<T>(words, a, word)),
+        "swept" if a < vector.as_raw_slice().len() => {
+            vector.sweep(way_for(a, a), |sweep| put_swept::<T>(sweep, a, word))
+        }
         "at" if a < vector.len() => push_bit(text, Some(vector[a]))?,
         "raw" => push_words(text, vector.as_raw_slice())?,
         "text" => push_texts(alloc, text, &*vector)?,

@@ -1,12 +1,29 @@
-//! Calls that write a list in place.
+//! Calls that write a list in place, and words of it.
 
-ghost use Rattle.std.specs.Prelude.{◌≡◌, length};
+ghost use Rattle.std.specs.Prelude.{◌≡◌, ◌<◌, length};
+ghost use Rattle.bit_containers.specs.Sweep.{IsFresh, sweep_lender, sweep_words};
+ghost use Rattle.bit_containers.specs.SweepWays.{way_for};
 
 use crate::call::Call;
+use crate::looks::look;
 use crate::shown::push_bit;
 use bit_addressing_sample_orders::texts::number;
-use bit_containers::{BitRegister, Bits, BitsAccess, BitsFill, BitsMut};
-use std::alloc::AllocError;
+use bit_containers::{BitRegister, Bits, BitsAccess, BitsFill, BitsMut, Sweep};
+use std::alloc::{AllocError, Global};
+
+/// Makes a call that reads or writes a window that is lent; whether it is one of these.
+pub fn on_lent<V: BitsMut, W: Bits>(
+    alloc: Global,
+    text: &mut String,
+    lent: &mut V,
+    call: &Call<'_>,
+    other: &W,
+) -> Result<bool, AllocError> {
+    if look(alloc, text, &*lent, call, other)? {
+        return Ok(true);
+    }
+    write(text, lent, call, other)
+}
 
 /// Makes a call that writes a list in place, with another list perhaps; whether the call is one of these.
 pub fn write<V: BitsMut, W: Bits>(
@@ -65,4 +82,14 @@ pub fn put_word<R: BitRegister>(words: &mut [R], k: usize, word: R)
     if k < words.len() {
         words[k] = word;
     }
+}
+
+/// Writes one of the words of a sweep.
+pub fn put_swept<R: BitRegister>(sweep: &mut Sweep<'_, R>, k: usize, word: R)
+    requires fresh { IsFresh sweep.old (way_for k k) }
+    requires within { k < length (sweep_words sweep.old) }
+    ensures lender { sweep_lender sweep.new ≡ sweep_lender sweep.old }
+    ensures len { length (sweep_words sweep.new) ≡ length (sweep_words sweep.old) }
+{
+    sweep.put(k, word);
 }

@@ -37,7 +37,7 @@ fn made<O: WordPaths<u8>>(
     let list = BitSlice::<u16, Msb0>::from_place(&list, 5, 9);
     let mut made = BitVec::from_bitslice(
         alloc,
-        BitSlice::<u8, O>::from_place(&words, head % 7, 9),
+        BitSlice::<u8, O>::from_place(&words, head % 8, 9),
     )?;
     made.set_uninitialized(dead);
     if made.len() == list.len() {
@@ -70,8 +70,8 @@ fn alike<O: WordPaths<u8>>(alloc: Global, head: usize, other: usize) -> Result<b
 
 #[test]
 fn lists_at_two_heads(rt: HostRuntime) -> Result<(), AllocError> {
-    for head in 0..7usize {
-        for other in 0..7usize {
+    for head in 0..8usize {
+        for other in 0..8usize {
             assert!(rt; alike::<Lsb0>(rt.alloc(), head, other)?);
             assert!(rt; alike::<Msb0>(rt.alloc(), head, other)?);
         }

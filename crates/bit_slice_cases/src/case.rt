@@ -2,7 +2,7 @@
 
 ghost use Rattle.std.specs.Prelude.{◌+◌, ◌*◌, ◌≤◌, length};
 
-use crate::edits::{edit, lend_bits, lend_halves};
+use crate::edits::{edit, lend_bits, lend_halves, move_stretch};
 use crate::lent::write_pieces;
 use crate::looks::look;
 use crate::memory::{OTHERS_FROM, has_window, put_bits};
@@ -19,6 +19,7 @@ use bit_slice::{
     BitOrder, BitRegister, BitSlice, BitSliceMut, Bits, BitsWindow, FieldOrder, Lsb0, Msb0,
     WordPaths,
 };
+use bit_table_fields::HiLo;
 use std::alloc::{AllocError, Global};
 
 /// What a case asks of its window.
@@ -36,6 +37,7 @@ pub struct Case<'a> {
     pub first: &'a str,
     pub second: &'a str,
     pub third: &'a str,
+    pub fourth: &'a str,
 }
 
 impl<'a> Case<'a> {
@@ -49,6 +51,7 @@ impl<'a> Case<'a> {
             first: words.next().unwrap_or(""),
             second: words.next().unwrap_or(""),
             third: words.next().unwrap_or(""),
+            fourth: words.next().unwrap_or(""),
         }
     }
 }
@@ -78,11 +81,12 @@ fn in_words<R: BitRegister>(
         "lsb0" => in_turn::<R, Lsb0>(alloc, case),
         "msb0" => in_turn::<R, Msb0>(alloc, case),
         "fifth" => in_order::<R, FifthStep>(alloc, case),
+        "hilo" => in_paths::<R, HiLo>(alloc, case),
         _ => "no such order".to_string(alloc),
     }
 }
 
-// What a case is answered under an order that holds numbers and has word paths of its own.
+// What a case is answered under an order that holds numbers too.
 fn in_turn<R: BitRegister, O: FieldOrder<R> + WordPaths<R>>(
     alloc: Global,
     case: &Case<'_>,
@@ -90,6 +94,14 @@ fn in_turn<R: BitRegister, O: FieldOrder<R> + WordPaths<R>>(
     if case.call.starts_with("load") || case.call.starts_with("store") {
         return hold_number::<R, O>(alloc, case);
     }
+    in_paths::<R, O>(alloc, case)
+}
+
+// What it is answered under an order that has word paths of its own.
+fn in_paths<R: BitRegister, O: WordPaths<R>>(
+    alloc: Global,
+    case: &Case<'_>,
+) -> Result<String, AllocError> {
     if case.call.starts_with("path_") || case.call.starts_with("copy_from") {
         return go_path::<R, O>(alloc, case);
     }
@@ -104,6 +116,9 @@ fn in_order<R: BitRegister, O: BitOrder<R>>(
     let mut words = read_words::<R>(alloc, case.memory)?;
     if !has_window(&words, case.from, case.len) {
         return "no such window".to_string(alloc);
+    }
+    if let "move_words" = case.call {
+        return move_stretch::<R, O>(alloc, &mut words, case);
     }
     let mut room = [0u16; 16];
     let count = put_bits(&mut room, case.first);

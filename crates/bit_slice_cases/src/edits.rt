@@ -1,10 +1,15 @@
 //! Calls that write bits and parts of a window.
 
+ghost use Rattle.std.specs.Prelude.{◌+◌, ◌*◌, ◌≤◌, length};
+
 use crate::case::Case;
-use crate::memory::push_bit;
-use bit_addressing_sample_orders::texts::number;
-use bit_slice::{Bits, BitsAccess, BitsCopy, BitsCut, BitsEdits, BitsMut, BitsWindow};
-use std::alloc::AllocError;
+use crate::memory::{has_window, push_bit};
+use bit_addressing_sample_orders::texts::{number, push_words};
+use bit_slice::words::move_words;
+use bit_slice::{
+    BitOrder, BitRegister, Bits, BitsAccess, BitsCopy, BitsCut, BitsEdits, BitsMut, BitsWindow,
+};
+use std::alloc::{AllocError, Global};
 
 /// Makes the call of a case, and answers whether it is one of these; what it tells goes into the text.
 pub fn edit<V: BitsMut, W: Bits>(
@@ -25,7 +30,8 @@ pub fn edit<V: BitsMut, W: Bits>(
         }
         "swap" if a < len && b < len => view.swap(a, b),
         "move" if is_within && b <= len - c => {
-            view.move_within(a, b, c);
+            let writes = view.move_within(a, b, c);
+            text.push_str(amount(writes, case.fourth))?;
         }
         "copy_within" if a <= b && b <= len && c <= len && b - a <= len - c => {
             view.copy_within(a..b, c);
@@ -36,6 +42,36 @@ pub fn edit<V: BitsMut, W: Bits>(
         _ => return Ok(false),
     }
     Ok(true)
+}
+
+// Whether so many writes are no more than a word of the case says.
+fn amount(writes: usize, most: &str) -> &'static str {
+    if writes <= number(most) {
+        "few "
+    } else {
+        "many "
+    }
+}
+
+/// Moves the bits of a window to the place that the first word of the call says, in no more writes than the next one says,
+/// and tells the memory.
+pub fn move_stretch<R: BitRegister, O: BitOrder<R>>(
+    alloc: Global,
+    words: &mut [R],
+    case: &Case<'_>,
+) -> Result<String, AllocError>
+    requires near { case.now.from ≤ 2048 }
+    requires short { case.now.len ≤ 2048 }
+    requires fits { case.now.from + case.now.len ≤ length words.old * R.BITS }
+{
+    let to = number(case.first);
+    if !has_window(words, to, case.len) {
+        return "no such window".to_string(alloc);
+    }
+    let writes = move_words::<R, O>(words, case.from, to, case.len);
+    let mut text = amount(writes, case.second).to_string(alloc)?;
+    push_words(&mut text, words)?;
+    Ok(text)
 }
 
 /// Writes a bit or a part that a window lends, and answers whether the call is one of these.

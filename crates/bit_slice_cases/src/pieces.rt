@@ -7,24 +7,25 @@ use bit_slice::pieces::{Cuts, Indices, Pieces, Sought};
 use bit_slice::{BitOrder, BitRegister, BitSlice, Bits, BitsIter, BitsPieces};
 use std::alloc::{AllocError, Global};
 
-/// What a call gives one after another: from the front, from the back where the case's last word is `back`, from the back
-/// and the front by turns where it is `turns`.
+/// What a call gives one after another: from the front, from the back where the case's second word is `back`, from the back
+/// and the front by turns where it is `turns`; of pieces by `nth` and `nth_back`, each time behind as many as the third word
+/// says.
 pub fn cut<R: BitRegister, O: BitOrder<R>>(
     alloc: Global,
     view: &BitSlice<'_, R, O>,
     case: &Case<'_>,
 ) -> Result<Option<String>, AllocError> {
-    let (size, way) = (number(case.first), case.second);
+    let size = number(case.first);
     let mut text = String::new(alloc);
     match case.call {
         "iter_ones" => push_indices(alloc, &mut text, view.iter_ones(), case.first)?,
         "iter_zeros" => push_indices(alloc, &mut text, view.iter_zeros(), case.first)?,
         _ if size == 0 => return Ok(None),
-        "chunks" => push_pieces(&mut text, view.chunks(size), way)?,
-        "chunks_exact" => push_pieces(&mut text, view.chunks_exact(size), way)?,
-        "rchunks" => push_pieces(&mut text, view.rchunks(size), way)?,
-        "rchunks_exact" => push_pieces(&mut text, view.rchunks_exact(size), way)?,
-        "windows" => push_pieces(&mut text, view.windows(size), way)?,
+        "chunks" => push_pieces(&mut text, view.chunks(size), case)?,
+        "chunks_exact" => push_pieces(&mut text, view.chunks_exact(size), case)?,
+        "rchunks" => push_pieces(&mut text, view.rchunks(size), case)?,
+        "rchunks_exact" => push_pieces(&mut text, view.rchunks_exact(size), case)?,
+        "windows" => push_pieces(&mut text, view.windows(size), case)?,
         "chunks_exact_rest" => push_bits(&mut text, &view.chunks_exact(size).remainder())?,
         "rchunks_exact_rest" => push_bits(&mut text, &view.rchunks_exact(size).remainder())?,
         _ => return Ok(None),
@@ -41,13 +42,15 @@ fn is_from_back(way: &str, k: usize) -> bool {
 fn push_pieces<R: BitRegister, O: BitOrder<R>, C: Cuts>(
     text: &mut String,
     mut all: Pieces<'_, R, O, C>,
-    way: &str,
+    case: &Case<'_>,
 ) -> Result<(), AllocError> {
+    let (way, by) = (case.second, number(case.third));
     for k in 0..all.len() {
-        let piece = if is_from_back(way, k) {
-            all.next_back()
-        } else {
-            all.next()
+        let piece = match way {
+            "nth" => all.nth(by),
+            "nth_back" => all.nth_back(by),
+            _ if is_from_back(way, k) => all.next_back(),
+            _ => all.next(),
         };
         let Some(piece) = piece else { break };
         text.push('|')?;

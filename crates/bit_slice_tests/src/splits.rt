@@ -43,6 +43,17 @@ fn a_predicate_is_asked(rt: HostRuntime) {
     }
     // 0 and 1 from the front, 0 and 1 from the back, the two between
     assert!(rt; calls == 6);
+    let mut calls = 0usize;
+    {
+        let mut parts = view.rsplitn(2, |_i, bit| {
+            calls = calls.wrapping_add(1);
+            *bit
+        });
+        assert!(rt; row(parts.next()) == 0b10 && row(parts.next()) == 0b10100);
+        assert!(rt; row(parts.next()) == 0);
+    }
+    // 0 and 1 from the back; the last part that may come asks nothing
+    assert!(rt; calls == 2);
 }
 
 #[test]

@@ -1,6 +1,6 @@
 //! `HiLo`: that it is lawful, its positions, selectors and masks, and its word paths.
 
-use bit_addressing_memory::{BitEnd, BitIdx, OrderCandidate, Positions, read_entry};
+use bit_addressing_memory::{BitEnd, BitIdx, OrderCandidate, Positions, direction_of, read_entry};
 use bit_addressing_sample_orders::word_callers::toggled;
 use bit_addressing_verify::verify;
 use bit_slice_words::{Steps, WordPaths};
@@ -11,6 +11,7 @@ fn it_is_lawful_at_each_word(rt: HostRuntime) {
     assert!(rt; verify::<HiLo>() == Ok(()));
     let first = BitIdx::<u8>::new_unchecked(0);
     assert!(rt; toggled::<u8, HiLo>(0xff, first) == 0b1110_1111);
+    assert!(rt; direction_of::<u8, HiLo>().is_none() && direction_of::<u64, HiLo>().is_none());
 }
 
 #[test]

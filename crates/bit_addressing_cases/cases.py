@@ -1,0 +1,330 @@
+#!/usr/bin/env python3
+"""Writes the cases of this program, `stdin` and `stdout`: first worked rows with the answers that were worked out by hand,
+then sweeps whose answers come from a plain list of bits and from nothing else.
+
+usage: ./cases.py, in this folder. A case is: word order memory(hex) call words.
+"""
+
+import itertools
+import random
+
+# Worked rows: none of these answers is computed here.
+ROWS = [
+    # 16 bits from place 4 on: moved down, up by a word, up by one bit, with reads and writes at most
+    ("u8 lsb0 123456 move 4 0 16 6 2", "416356 yes"),
+    ("u8 lsb0 123456 move 4 8 16 6 2", "124163 yes"),
+    ("u8 lsb0 123456 move 4 5 16 9 3", "32684c yes"),
+    ("u8 msb0 482c6a move 4 0 16 6 2", "82c66a yes"),
+    ("u8 msb0 482c6a move 4 8 16 6 2", "4882c6 yes"),
+    ("u8 msb0 482c6a move 4 5 16 9 3", "4c1632 yes"),
+    ("u8 fifth 123456 move 4 8 16 99 2", "126341 yes"),
+    ("u8 fifth 123456 move 4 0 16 99 2", "634156 yes"),
+    # the same copied
+    ("u8 lsb0 123456 copy 4 0 16", "416356 113456"),
+    ("u8 lsb0 123456 copy 4 5 16", "32684c 123446"),
+    # bytes from the highest digit on into a word from the lowest digit on
+    ("u64 lsb0 0000000000000000 between between u8-msb0 1234 0 4 16", "000000000002c480 1234"),
+    # bits exchanged
+    ("u8 lsb0 c4 exchange 0 4 4", "4c"),
+    ("u8 lsb0 70 swap 0 4", "61 70"),
+    # pointers go on and back, and wrap round at the ends of `isize`
+    ("u8 lsb0 - pointer 3 5 3", "4.0 4.0 4.0 4.0 "),
+    ("u8 lsb0 - pointer 3 5 -6", "2.7 2.7 2.7 2.7 "),
+    ("u8 lsb0 - pointer 3 5 -30", "-1.7 -1.7 -1.7 -1.7 "),
+    ("u8 lsb0 - pointer 3 5 100", "16.1 16.1 16.1 16.1 "),
+    ("u8 msb0 - pointer 9223372036854775807 7 1", "none none -9223372036854775808.0 -9223372036854775808.0 "),
+    ("u64 fifth - pointer -9223372036854775808 0 -1", "none none 9223372036854775807.63 9223372036854775807.63 "),
+    ("u64 fifth - pointer 9223372036854775807 63 66", "none none -9223372036854775807.1 -9223372036854775807.1 "),
+    # bits 2 to before 6 of one byte stored and flipped, and from the highest digit on
+    ("u8 lsb0 f0 act store 2 4 ff", "1,01 2-6 30, fc"),
+    ("u8 lsb0 fc act invert 2 4 00", "1,01 2-6 3c, c0"),
+    ("u8 msb0 0f act store 2 4 ff", "1,01 2-6 0c, 3f"),
+]
+
+WORDS = {"u8": 8, "u16": 16, "u32": 32, "u64": 64, "usize": 64}
+ORDERS = {
+    "lsb0": lambda bits, i: i,
+    "msb0": lambda bits, i: bits - 1 - i,
+    "fifth": lambda bits, i: (5 * i + 3) % bits,
+}
+OTHERS = {"u8-msb0": ("u8", "msb0"), "u16-fifth": ("u16", "fifth"), "u64-lsb0": ("u64", "lsb0")}
+
+
+class Memory:
+    """Words as one list of bits, in an order."""
+
+    def __init__(self, word, order, words):
+        self.word, self.order, self.words = word, order, words
+        self.bits, self.at = WORDS[word], ORDERS[order]
+
+    def list(self):
+        return [w >> self.at(self.bits, i) & 1 for w in self.words for i in range(self.bits)]
+
+    def text(self, word):
+        return f"{word:0{self.bits // 4}x}"
+
+    def hex(self):
+        return "".join(map(self.text, self.words))
+
+    def of(self, bits):
+        """The same words with this list."""
+        cut = [bits[k : k + self.bits] for k in range(0, len(bits), self.bits)]
+        words = [sum(bit << self.at(self.bits, i) for i, bit in enumerate(part)) for part in cut]
+        return Memory(self.word, self.order, words)
+
+    def put(self, place, new):
+        bits = self.list()
+        return self.of(bits[:place] + new + bits[place + len(new) :])
+
+    def piece(self, place, length):
+        return self.list()[place : place + length]
+
+    def head(self):
+        return f"{self.word} {self.order} {self.hex()}"
+
+    def touched(self, place, length):
+        """How many words a stretch touches."""
+        return (place + length - 1) // self.bits - place // self.bits + 1 if length else 0
+
+
+def memory(rng, word, order, count):
+    full = (1 << WORDS[word]) - 1
+    return Memory(word, order, [rng.choice((full, *[rng.getrandbits(WORDS[word])] * 4)) for _ in range(count)])
+
+
+# ---- entries, copies, exchanges, moves
+
+
+def entry(own, place, bit):
+    was, new = own.list()[place], own.put(place, [bit])
+    return f"entry {place} {bit}", f"{was}{was}{new.hex()}{bit}{new.hex()}{bit}{own.hex()}"
+
+
+def swap(own, first, second):
+    bits = own.list()
+    return f"swap {first} {second}", f"{own.put(first, [bits[second]]).put(second, [bits[first]]).hex()} {own.hex()}"
+
+
+def copy(own, source, target, length):
+    new = own.put(target, own.piece(source, length))
+    back = new.put(source, new.piece(target, length))
+    return f"copy {source} {target} {length}", f"{new.hex()} {back.hex()}"
+
+
+def exchange(own, first, second, length):
+    new = own.put(first, own.piece(second, length)).put(second, own.piece(first, length))
+    return f"exchange {first} {second} {length}", new.hex()
+
+
+def move(own, source, target, length):
+    words = own.touched(target, length)
+    # under an order whose positions go straight a word is read up to three times, else a bit at a time
+    reads = 3 * words if own.order != "fifth" else 2 * length + 2 * words
+    new = own.put(target, own.piece(source, length))
+    return f"move {source} {target} {length} {reads} {words}", f"{new.hex()} yes"
+
+
+def inside(rng):
+    """Each entry, each two places and most stretches of 32 bits, at the start of bytes and across wide words."""
+    for (word, count, first), order in itertools.product((("u8", 4, 0), ("u64", 2, 48)), ORDERS):
+        for source in range(0, 25, 1 if word == "u8" else 4):
+            own = memory(rng, word, order, count)
+            yield own, entry(own, first + source, source % 2)
+            for target in range(25):
+                own = memory(rng, word, order, count)
+                if (source + target) % 5 == 0:
+                    yield own, swap(own, first + source, first + target)
+                length = rng.randrange(33 - max(source, target))
+                yield own, copy(own, first + source, first + target, length)
+                if source < target:
+                    length = rng.randint(0, min(target - source, 32 - target))
+                    yield own, exchange(own, first + source, first + target, length)
+
+
+def moves(rng):
+    """Small moves over nine bytes; moves at edges of four words of each width."""
+    for order in ORDERS:
+        for source, target in itertools.product(range(25), range(25)):
+            own = memory(rng, "u8", order, 9)
+            for length in rng.sample(range(41), 1):
+                yield own, move(own, source, target, length)
+    for word, b in WORDS.items():
+        rows = [
+            (3, b, b), (2 * b, b, b), (b + 5, 0, 2 * b), (5, b, 2 * b), (1, 0, 3 * b), (0, b, 3 * b), (b - 1, b, 3 * b),
+            (0, 0, 4 * b), (2 * b + 3, b + 1, b - 2), (1, 2 * b + 2, 3), (3 * b + 7, 7, 1), (7, b + 5, b - 5),
+            (b + 1, 0, b + 1), (3, b - 1, 2), (3 * b - 2, b - 1, 2), (b, 3, 2 * b), (3, b, 2 * b + 1), (5, 3, 3 * b),
+            (3, 5, 3 * b), (b + 3, 3, 2 * b + 2), (3, b + 3, 2 * b + 2), (17, 49, 0),
+        ]  # fmt: skip
+        for order, (source, target, length) in itertools.product(ORDERS, rows):
+            if max(source, target) + length <= 4 * b:
+                own = memory(rng, word, order, 4)
+                yield own, move(own, source, target, length)
+
+
+def between(rng):
+    """Each call between two memories, at each start of the others."""
+    for word, order, kind in itertools.product(("u8", "u64"), ORDERS, OTHERS):
+        for source, call in itertools.product(range(0, 25, 3), ("between", "to", "to_apart", "from", "from_apart", "swap", "swap_bit")):
+            own = memory(rng, word, order, 4 if word == "u8" else 2)
+            others = memory(rng, *OTHERS[kind], 64 // WORDS[OTHERS[kind][0]])
+            target = rng.randrange(25) + (48 if word == "u64" else 0)
+            length = 1 if call == "swap_bit" else rng.randrange(25)
+            length = min(length, len(own.list()) - target)
+            new, left = own.put(target, others.piece(source, length)), others
+            if call.startswith("swap"):
+                left = others.put(source, own.piece(target, length))
+            line = f"between {call} {kind} {others.hex()} {source} {target} {length}"
+            yield own, (line, f"{new.hex()} {left.hex()}")
+
+
+# ---- pointers
+
+LEAST, MOST = -(1 << 63), (1 << 63) - 1
+
+
+def pointer(bits, word, index, by):
+    there, bit = divmod(word * bits + index + by, bits)
+    wrapped = (there - LEAST) % (1 << 64) + LEAST
+    moved = f"{there}.{bit} " if LEAST <= there <= MOST else "none "
+    return moved * 2 + f"{wrapped}.{bit} " * 2
+
+
+def pointers(rng):
+    """From each bit of words about 0 and at both ends, up to 70 bits on and back."""
+    for word, bits in (("u8", 8), ("u64", 64)):
+        for order in ORDERS:
+            for number in (-3, -1, 0, 2, LEAST, LEAST + 1, MOST - 1, MOST):
+                for index in range(0, bits, 1 if bits == 8 else 9):
+                    for by in rng.sample(range(-70, 71), 2):
+                        yield f"{word} {order} - pointer {number} {index} {by}", pointer(bits, number, index, by)
+
+
+# ---- spans, their domains, and parts of words
+
+
+def masked(own, k, start, end):
+    """Word k with zeros outside the places from start up to before end."""
+    bits = own.list()
+    kept = [bits[p] if start <= p < end else 0 for p in range(k * own.bits, (k + 1) * own.bits)]
+    return own.text(own.of(kept).words[0])
+
+
+def mask(own, first, end):
+    return own.text(own.of([int(first <= i < end) for i in range(own.bits)]).words[0])
+
+
+def part_text(own, start, end):
+    """A part of one word."""
+    k, first, last = start // own.bits, start % own.bits, end - start // own.bits * own.bits
+    bounds = f",{first} ,{last} " * 2
+    return f" {masked(own, k, start, end)}{bounds}{mask(own, first, last)}={own.text(own.words[k])},{first},{end - start} "
+
+
+def cut_text(own, start, end):
+    first, b = start % own.bits, own.bits
+    if start == end:
+        return " - [] - "
+    if first > 0 and first + end - start < b:
+        return " in" + part_text(own, start, end)
+    head, tail = (start + b - 1) // b * b, end // b * b
+    body = "".join(own.text(w) for w in own.words[head // b : tail // b])
+    return (
+        (part_text(own, start, head) if first else " - ")
+        + f"[{body}]"
+        + (part_text(own, tail, end) if tail < end else " - ")
+    )
+
+
+def held(own, start, end):
+    return [masked(own, k, start, end) for k in range(start // own.bits, (end - 1) // own.bits + 1)] if start < end else []
+
+
+def span(own, start, length):
+    end, b, count = start + length, own.bits, own.touched(start, length)
+    tail = (end - 1) % b + 1 if length else start % b
+    text = f"{count},{tail},{start // b},{start % b},{length} "
+    text += "".join(str(int(start // b + count <= n)) for n in range(1, 9))
+    if start // b + count <= len(own.words):
+        words = held(own, start, end)
+        text += cut_text(own, start, end) + ("".join(f"{w}," for w in words) + " ") * 2
+        text += "".join(f"{w}," for w in words[::-1]) + " "
+        left = words[:]
+        for k in range(len(words)):
+            text += f"{len(left)}:{left.pop(0 if k % 2 == 0 else -1)},"
+        text += "0:-,-,-,"
+    return f"span {start} {length}", text
+
+
+ACTS = ("load", "store", "invert", "clear", "set")
+
+
+def acted(name, old, new):
+    return {"load": old, "store": new, "invert": 1 - old, "clear": 0, "set": 1}[name]
+
+
+def act(own, name, start, length, values):
+    end, b = start + length, own.bits
+    words = held(own, start, end)
+    inside = start % b > 0 and start % b + length < b and length > 0
+    text = f"{len(words)},{int(not words)}{int(inside)} "
+    for k in range(start // b, start // b + len(words)):
+        text += f"{max(start - k * b, 0)}-{min(end - k * b, b)} "
+    text += "".join(f"{w}," for w in words)
+    bits, new = own.list(), values.list()
+    for p in range(start, end):
+        bits[p] = acted(name, bits[p], new[p - start // b * b])
+    return f"act {name} {start} {length} {values.hex()}", f"{text} {own.of(bits).hex()}"
+
+
+def part(own, name, first, end, value):
+    kept = masked(own, 0, first, end)
+    bits, new = own.list(), value.list()
+    for i in range(first, end):
+        bits[i] = acted(name, bits[i], new[i])
+    text = f"{first},{end},{first},{end} {mask(own, first, end)},{kept},{kept} {own.of(bits).hex()} "
+    return f"part {name} {first} {end} {value.hex()}", text + f"{first},{end - first} {value.hex()}"
+
+
+def spans(rng):
+    """Bytes at every start and length, wide words at edges."""
+    for order in ORDERS:
+        for start, length in itertools.product(range(25), range(25)):
+            own = memory(rng, "u8", order, 4)
+            yield own, span(own, start, length)
+            if own.touched(start, length) + start // 8 <= 4:
+                yield own, act(own, ACTS[(start + length) % 5], start, length, memory(rng, "u8", order, 4))
+        starts, lengths = (0, 1, 31, 63, 64, 65, 100, 128, 191, 192, 200), (0, 1, 2, 27, 33, 63, 64, 65, 127, 128, 129, 156)
+        for word, start, length in itertools.product(("u64", "u16"), starts, lengths):
+            own = memory(rng, word, order, 256 // WORDS[word])
+            yield own, span(own, start, length)
+            if start + length <= 256:
+                yield own, act(own, rng.choice(ACTS), start, length, memory(rng, word, order, 256 // WORDS[word]))
+
+
+def parts(rng):
+    """Each part of a byte, some of wider words."""
+    for order in ORDERS:
+        for first in range(8):
+            for end, name in itertools.product(range(first, 9), ACTS[1:]):
+                own = memory(rng, "u8", order, 1)
+                yield own, part(own, name, first, end, memory(rng, "u8", order, 1))
+        for word, first, length in itertools.product(("u64", "u32"), (0, 1, 24, 31), (0, 1, 7, 24, 33, 63, 64)):
+            if first + length <= WORDS[word]:
+                own = memory(rng, word, order, 1)
+                yield own, part(own, rng.choice(ACTS[1:]), first, first + length, memory(rng, word, order, 1))
+
+
+def main():
+    rng = random.Random(13)
+    cases = list(ROWS)
+    for sweep in (inside, moves, between, spans, parts):
+        cases += [(f"{own.head()} {line}", answer) for own, (line, answer) in sweep(rng)]
+    cases += pointers(rng)
+    with open("stdin", "w") as file:
+        file.write("".join(f"{line}\n" for line, _ in cases))
+    with open("stdout", "w") as file:
+        file.write("".join(f"{answer}\n" for _, answer in cases))
+
+
+if __name__ == "__main__":
+    main()

@@ -190,3 +190,16 @@ fn domains_of_wide_words_are_written(rt: HostRuntime) -> Result<(), Fail> {
     }
     Ok(())
 }
+
+#[test]
+fn domains_of_words_of_128_bits_are_written(rt: HostRuntime) -> Result<(), Fail> {
+    let mut memory = [0u128; 4];
+    for start in [0, 1, 64, 127, 128, 129] {
+        for len in [0, 1, 64, 127, 128, 129, 256] {
+            check::<u128, Lsb0>(&rt, Plain::widest(Count::Lowest), &mut memory, start, len)?;
+            check::<u128, Msb0>(&rt, Plain::widest(Count::Highest), &mut memory, start, len)?;
+            check::<u128, FifthStep>(&rt, Plain::widest(Count::Fifths), &mut memory, start, len)?;
+        }
+    }
+    Ok(())
+}

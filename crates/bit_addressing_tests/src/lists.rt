@@ -4,10 +4,10 @@ ghost use Rattle.std.specs.Prelude.{◌≡◌, ◌+◌, ◌*◌, ◌^◌, ◌<�
 ghost use Rattle.bit_addressing.specs.Pointer.{memory_place};
 
 use crate::plain::{fill, listed};
-use bit_addressing::{
-    BitIdx, BitOrder, BitPtr, BitRegister, Lsb0, Msb0, copy_within, read_entry, replace_entry,
-    swap_entries, swap_within, write_entry,
+use bit_addressing::entries::{
+    copy_within, read_entry, replace_entry, swap_entries, swap_within, write_entry,
 };
+use bit_addressing::{BitIdx, BitOrder, BitPtr, BitRegister, Lsb0, Msb0};
 use bit_addressing_sample_orders::{Count, FifthStep};
 
 // The pointer to a place of a memory.
@@ -202,4 +202,12 @@ fn wide_words_from_the_highest_digit_act_as_a_list(rt: HostRuntime) {
 fn wide_words_by_steps_act_as_a_list(rt: HostRuntime) {
     let mut words = [0u64; 2];
     assert!(rt; acts_inside::<u64, FifthStep>(Count::Fifths, &mut words, 48));
+}
+
+#[test]
+fn words_of_128_bits_act_as_a_list(rt: HostRuntime) {
+    let mut words = [0u128; 2];
+    assert!(rt; acts_inside::<u128, Lsb0>(Count::Lowest, &mut words, 112));
+    assert!(rt; acts_inside::<u128, Msb0>(Count::Highest, &mut words, 112));
+    assert!(rt; acts_inside::<u128, FifthStep>(Count::Fifths, &mut words, 112));
 }

@@ -46,8 +46,8 @@ fn moves_under_another_order(rt: HostRuntime) {
     assert!(rt; writes <= 2);
 }
 
-// How many bits a plain list has: those of four words of 64.
-const LISTED: usize = 256;
+// How many bits a plain list has: those of four words of 128.
+const LISTED: usize = 512;
 
 // Whether a move of these words leaves what a plain copy of their bits leaves.
 fn agrees<R: BitRegister, O: BitOrder<R>, const N: usize>(
@@ -200,6 +200,13 @@ fn moves_at_edges_of_words_are_plain_copies(rt: HostRuntime) {
         0x0fed_cba9_8765_4321,
         0x5bad_c0de_1337_beef,
         0xa5f0_0d1e_e7c0_ffee,
+    ];
+    assert!(rt; first_wide_faults(before) == [None; 3]);
+    let before = [
+        0x1234_5678_9abc_def0_0fed_cba9_8765_4321u128,
+        0x5bad_c0de_1337_beef_a5f0_0d1e_e7c0_ffee,
+        0x8000_0000_0000_0000_0000_0000_0000_0001,
+        0xfedc_ba98_7654_3210_0123_4567_89ab_cdef,
     ];
     assert!(rt; first_wide_faults(before) == [None; 3]);
 }

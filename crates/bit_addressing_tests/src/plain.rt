@@ -5,10 +5,10 @@ ghost use Rattle.std.specs.Prelude.{◌<◌};
 use bit_addressing::BitRegister;
 use bit_addressing_sample_orders::Count;
 
-/// The bits of a memory of at most 256, and false past its end.
-pub fn listed<R: BitRegister>(count: Count, words: &[R]) -> [bool; 256] {
-    let mut list = [false; 256];
-    for place in 0..256usize {
+/// The bits of a memory of at most 512, and false past its end.
+pub fn listed<R: BitRegister>(count: Count, words: &[R]) -> [bool; 512] {
+    let mut list = [false; 512];
+    for place in 0..512usize {
         list[place] = is_set(count, words, place);
     }
     list

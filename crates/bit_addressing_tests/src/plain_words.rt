@@ -16,7 +16,7 @@ pub struct Plain {
     pub count: Count,
 
     ghost some: { 0 < bits },
-    ghost most: { bits ≤ 64 },
+    ghost most: { bits ≤ 128 },
 }
 
 impl Plain {
@@ -43,9 +43,23 @@ impl Plain {
         }
     }
 
+    /// Four words of 128 bits.
+    pub fn widest(count: Count) -> Plain {
+        Plain {
+            words: [
+                0x0123_4567_89ab_cdef_fedc_ba98_7654_3210,
+                0x8000_0000_5a5a_0001_0f1e_2d3c_4b5a_6978,
+                0x5bad_c0de_1337_beef_a5f0_0d1e_e7c0_ffee,
+                0xf000_0000_0000_0000_0000_0000_0000_000f,
+            ],
+            bits: 128,
+            count,
+        }
+    }
+
     // The digit of an index.
     fn digit(self, index: usize) -> usize
-        ensures { result < 64 }
+        ensures { result < 128 }
     {
         self.count.digit(self.bits, index % self.bits)
     }

@@ -4,7 +4,8 @@ ghost use Rattle.std.specs.Prelude.{◌+◌, ◌*◌, ◌<◌, ◌≤◌, length
 
 use crate::lists::pointer_to;
 use crate::plain::{fill, listed};
-use bit_addressing::{BitOrder, BitRegister, Lsb0, Msb0, copy_between, swap_between};
+use bit_addressing::entries::{copy_between, swap_between};
+use bit_addressing::{BitOrder, BitRegister, Lsb0, Msb0};
 use bit_addressing_sample_orders::{Count, FifthStep};
 
 // The five calls that copy between two memories.

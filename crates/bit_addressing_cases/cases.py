@@ -41,7 +41,7 @@ ROWS = [
     ("u8 msb0 0f act store 2 4 ff", "1,01 2-6 0c, 3f"),
 ]
 
-WORDS = {"u8": 8, "u16": 16, "u32": 32, "u64": 64, "usize": 64}
+WORDS = {"u8": 8, "u16": 16, "u32": 32, "u64": 64, "u128": 128, "usize": 64}
 ORDERS = {
     "lsb0": lambda bits, i: i,
     "msb0": lambda bits, i: bits - 1 - i,
@@ -126,7 +126,7 @@ def move(own, source, target, length):
 
 def inside(rng):
     """Each entry, each two places and most stretches of 32 bits, at the start of bytes and across wide words."""
-    for (word, count, first), order in itertools.product((("u8", 4, 0), ("u64", 2, 48)), ORDERS):
+    for (word, count, first), order in itertools.product((("u8", 4, 0), ("u64", 2, 48), ("u128", 2, 112)), ORDERS):
         for source in range(0, 25, 1 if word == "u8" else 4):
             own = memory(rng, word, order, count)
             yield own, entry(own, first + source, source % 2)
@@ -294,7 +294,7 @@ def spans(rng):
             if own.touched(start, length) + start // 8 <= 4:
                 yield own, act(own, ACTS[(start + length) % 5], start, length, memory(rng, "u8", order, 4))
         starts, lengths = (0, 1, 31, 63, 64, 65, 100, 128, 191, 192, 200), (0, 1, 2, 27, 33, 63, 64, 65, 127, 128, 129, 156)
-        for word, start, length in itertools.product(("u64", "u16"), starts, lengths):
+        for word, start, length in itertools.product(("u64", "u16", "u128"), starts, lengths):
             own = memory(rng, word, order, 256 // WORDS[word])
             yield own, span(own, start, length)
             if start + length <= 256:
@@ -308,7 +308,7 @@ def parts(rng):
             for end, name in itertools.product(range(first, 9), ACTS[1:]):
                 own = memory(rng, "u8", order, 1)
                 yield own, part(own, name, first, end, memory(rng, "u8", order, 1))
-        for word, first, length in itertools.product(("u64", "u32"), (0, 1, 24, 31), (0, 1, 7, 24, 33, 63, 64)):
+        for word, first, length in itertools.product(("u64", "u32", "u128"), (0, 1, 24, 31), (0, 1, 7, 24, 33, 63, 64, 97)):
             if first + length <= WORDS[word]:
                 own = memory(rng, word, order, 1)
                 yield own, part(own, rng.choice(ACTS[1:]), first, first + length, memory(rng, word, order, 1))

@@ -11,7 +11,7 @@ cases ask for them only where a contract says what they are: the plain list has 
 
 import random
 
-WORDS = {"u8": 8, "u16": 16, "u32": 32, "u64": 64}
+WORDS = {"u8": 8, "u16": 16, "u32": 32, "u64": 64, "u128": 128}
 ORDERS = {
     "lsb0": lambda bits, i: i,
     "msb0": lambda bits, i: bits - 1 - i,

@@ -186,7 +186,7 @@ ROWS = [
     ("u64 msb0 0000000000000000 7 1 store_le i16 1", "-1 0100000000000000"),
 ]
 
-WORDS = {"u8": 8, "u16": 16, "u32": 32, "u64": 64, "usize": 64}
+WORDS = {"u8": 8, "u16": 16, "u32": 32, "u64": 64, "u128": 128, "usize": 64}
 ORDERS = {
     "lsb0": lambda bits, i: i,
     "msb0": lambda bits, i: bits - 1 - i,

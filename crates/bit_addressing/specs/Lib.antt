@@ -5,6 +5,8 @@ pub mod Own
 pub mod Runs
 -- what public clauses cite of the crates below
 pub use Rattle.bit_addressing_span.specs.Domain
+pub use Rattle.bit_addressing_span.specs.BitDomain
+pub use Rattle.bit_addressing_span.specs.BitPart
 pub use Rattle.bit_addressing_span.specs.DomainMut
 pub use Rattle.bit_addressing_memory.specs.Memory
 pub use Rattle.bit_addressing_memory.specs.Partial

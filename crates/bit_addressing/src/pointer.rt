@@ -187,6 +187,17 @@ impl<R: BitRegister, O: BitOrder<R>> BitPtr<R, O> {
         let (words, _) = bits_back::<R>(bit, count);
         fits_on(word, words)
     }
+
+    /// Whether `offset_from` may be called: whether `isize` holds how many bits this pointer lies on from
+    /// `origin`.
+    pub fn can_offset_from(self, origin: BitPtr<R, O>) -> bool
+        ensures { IsTrue result ↔ FitsSigned w64 (whole_place R.BITS self -ℤ whole_place R.BITS origin) }
+    {
+        let (word, bit) = self.raw_parts();
+        let (first, start) = origin.raw_parts();
+        let on = distance::<R>(first, start, word, bit);
+        on >= isize::MIN as i128 && on <= isize::MAX as i128
+    }
 }
 
 // Move.

@@ -76,6 +76,16 @@ impl<R: BitRegister, O: BitOrder<R>> Default for BitPtrRange<R, O> {
 
 // Make and read.
 impl<R: BitRegister, O: BitOrder<R>> BitPtrRange<R, O> {
+    /// Whether `from_range` may be called: whether the start is not past the end, and an `isize` counts the bits
+    /// between.
+    pub fn is_range(range: &Range<BitPtr<R, O>>) -> bool
+        ensures { IsTrue result ↔ ((whole_place R.BITS range.now.start ≤ℤ whole_place R.BITS range.now.end)
+            × FitsSigned w64 (whole_place R.BITS range.now.end -ℤ whole_place R.BITS range.now.start)) }
+    {
+        let on = bits_to(range.start, range.end);
+        on >= 0 && on <= isize::MAX as i128
+    }
+
     /// The pointers of a range whose start is not past its end, and whose bits an `isize` counts.
     #[tactic(auto, using(crate::proofs::PointerRangeLemmas::stays_here))]
     pub fn from_range(range: Range<BitPtr<R, O>>) -> BitPtrRange<R, O>

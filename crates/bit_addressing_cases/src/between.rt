@@ -4,7 +4,8 @@ ghost use Rattle.std.specs.Prelude.{◌+◌, ◌*◌, ◌<◌, ◌≤◌, length
 
 use crate::entries::pointer_to;
 use crate::text::{has_stretch, next_number};
-use bit_addressing::{BitOrder, BitRegister, Lsb0, Msb0, copy_between, swap_between};
+use bit_addressing::entries::{copy_between, swap_between};
+use bit_addressing::{BitOrder, BitRegister, Lsb0, Msb0};
 use bit_addressing_sample_orders::FifthStep;
 use bit_addressing_sample_orders::texts::{push_words, read_words};
 use std::alloc::{AllocError, Global};

@@ -20,6 +20,7 @@ pub fn answer(alloc: Global, line: &str) -> Result<String, AllocError> {
         "u16" => in_words::<u16>(alloc, words),
         "u32" => in_words::<u32>(alloc, words),
         "u64" => in_words::<u64>(alloc, words),
+        "u128" => in_words::<u128>(alloc, words),
         "usize" => in_words::<usize>(alloc, words),
         _ => "no such word".to_string(alloc),
     }

@@ -4,10 +4,10 @@ ghost use Rattle.std.specs.Prelude.{◌≡◌, ◌+◌, ◌*◌, ◌^◌, ◌<�
 ghost use Rattle.bit_addressing.specs.Pointer.{memory_place};
 
 use crate::text::{has_stretch, next_number, push_bit};
-use bit_addressing::{
-    BitIdx, BitOrder, BitPtr, BitRegister, Sweep, copy_within, move_in, read_entry, replace_entry,
-    swap_entries, swap_within, way_for, write_entry,
+use bit_addressing::entries::{
+    copy_within, read_entry, replace_entry, swap_entries, swap_within, write_entry,
 };
+use bit_addressing::{BitIdx, BitOrder, BitPtr, BitRegister, Sweep, move_in, way_for};
 use bit_addressing_sample_orders::texts::push_words;
 use std::alloc::{AllocError, Global};
 use std::str::SplitWhitespace;

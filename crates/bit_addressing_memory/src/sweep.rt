@@ -23,6 +23,15 @@ pub fn way_for(source: usize, target: usize) -> Way
     if target <= source { Way::Up } else { Way::Down }
 }
 
+impl Sweep<'_, ()> {
+    /// `way_for`, by the name of the type that it is for.
+    pub fn way_for(source: usize, target: usize) -> Way
+        ensures { result ≡ way_for source target }
+    {
+        way_for(source, target)
+    }
+}
+
 /// The words of a slice, lent to one sweep over them.
 ///
 /// Any word may be read at any time. A word is written by `put`, and only past the last written one

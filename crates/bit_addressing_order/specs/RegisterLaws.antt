@@ -19,6 +19,10 @@ size_of_32 = (5, lit≤ tt, lit≤ tt, refl)
 pub size_of_64 : IsRegisterSize 64
 size_of_64 = (6, lit≤ tt, lit≤ tt, refl)
 
+-- the size of `u128`
+pub size_of_128 : IsRegisterSize 128
+size_of_128 = (7, lit≤ tt, lit≤ tt, refl)
+
 -- a remainder by two to a power is below that power
 pub below_power : (bits n : ℕ) → n % 2 ^ bits < 2 ^ bits
 below_power bits n = omega (arith, pow_pos bits)

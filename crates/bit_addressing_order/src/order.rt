@@ -50,9 +50,10 @@ pub trait OrderCandidate<R: BitRegister>: Positions<R> {
         ensures value { R.number result ≡ selector index }
         ensures one { IsSelector R.BITS (R.number result) };
 
-    /// The mask of the indices from one bound up to before another. An absent bound is 0, or
-    /// `BITS`.
+    /// The mask of the indices from one bound, an index, up to before another. An absent bound is
+    /// 0, or `BITS`.
     fn mask_of(from: Option<u8>, upto: Option<u8>) -> R
+        requires from { IsIndexBound R.BITS from }
         requires order { lower from ≤ upper R.BITS upto }
         requires within { upper R.BITS upto ≤ R.BITS }
         ensures { R.number result ≡ masked from upto };

@@ -10,12 +10,12 @@ use std::cmp::Ordering;
 /// An unsigned integer that is used as a storage word.
 ///
 /// A contract sees a word as `number`, a number below `2 ^ BITS`. The trait is implemented by `u8`,
-/// `u16`, `u32`, `u64` and `usize`; names and values are those of the crate bitvec, but for `ZERO`,
+/// `u16`, `u32`, `u64`, `usize` and `u128`; names and values are those of the crate bitvec, but for `ZERO`,
 /// `ONE`, `NAME` and the functions, which that crate takes from the integers themselves.
 pub trait BitRegister: Copy {
     ghost BITS: { ℕ };
 
-    /// How many bits a word has: 8, 16, 32 or 64.
+    /// How many bits a word has: 8, 16, 32, 64 or 128.
     const BITS: u8;
 
     ghost INDX: { ℕ };

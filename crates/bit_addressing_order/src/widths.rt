@@ -463,3 +463,96 @@ impl BitRegister for usize {
         self >> by
     }
 }
+
+#[tactic(auto, using(crate::proofs::WidthLemmas::wide))]
+impl BitRegister for u128 {
+    ghost use Rattle.std.specs.Prelude.{◌%◌, ◌^◌, codes};
+    ghost use Rattle.std.proofs.Common.{refl, lit≤};
+    ghost use Rattle.bit_addressing_order.specs.RegisterLaws.{below_power, size_of_128};
+
+    ghost BITS = { 128 };
+
+    const BITS: u8 = 128;
+
+    ghost INDX = { 7 };
+
+    const INDX: u8 = 7;
+
+    ghost MASK = { 127 };
+
+    const MASK: u8 = 127;
+
+    ghost ZERO = { 0 };
+
+    const ZERO: u128 = 0;
+
+    ghost ONE = { 1 };
+
+    const ONE: u128 = 1;
+
+    ghost ALL = { 340282366920938463463374607431768211455 };
+
+    const ALL: u128 = u128::MAX;
+
+    const NAME: &'static str = "u128";
+
+    ghost number = { λ word. word % 2 ^ 128 };
+
+    ghost name = { codes "u128" };
+
+    ghost number_fits = { λ word. below_power 128 word };
+
+    ghost size = { size_of_128 };
+
+    ghost least_bits = { lit≤ tt };
+
+    ghost most_bits = { lit≤ tt };
+
+    ghost bits_of_indx = { refl };
+
+    ghost most_indx = { lit≤ tt };
+
+    ghost mask_is = { refl };
+
+    ghost zero_is = { refl };
+
+    ghost one_is = { refl };
+
+    ghost all_is = { refl };
+
+    fn type_name() -> &'static str {
+        Self::NAME
+    }
+
+    fn value(self) -> u128 {
+        self
+    }
+
+    fn from_value(value: u128) -> u128 {
+        value
+    }
+
+    fn and(self, other: u128) -> u128 {
+        self & other
+    }
+
+    fn or(self, other: u128) -> u128 {
+        self | other
+    }
+
+    fn xor(self, other: u128) -> u128 {
+        self ^ other
+    }
+
+    fn not(self) -> u128 {
+        !self
+    }
+
+    fn shl(self, by: u8) -> u128 {
+        self << by
+    }
+
+    fn shr(self, by: u8) -> u128 {
+        self >> by
+    }
+}

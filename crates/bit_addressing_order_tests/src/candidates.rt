@@ -121,3 +121,35 @@ impl<R: BitRegister> OrderCandidate<R> for EmptyTail {
         }
     }
 }
+
+/// Counts from the least significant bit, but the mask from 100 with no second bound is empty: words of
+/// 128 bits alone have such an index.
+#[derive(Clone, Copy)]
+pub struct EmptyUpperTail;
+
+impl<R: BitRegister> Positions<R> for EmptyUpperTail {
+    ghost position = { λ i. i };
+
+    fn position_of(index: u8) -> u8 {
+        index
+    }
+}
+
+impl<R: BitRegister> OrderCandidate<R> for EmptyUpperTail {
+    ghost selector = { selectors_from (λ i. i) };
+
+    ghost masked = { λ from upto. if lower from == 100 && is_none upto then 0
+        else masks_from R.BITS (λ i. i) from upto };
+
+    fn selector_of(index: u8) -> R {
+        select_from_at::<R, EmptyUpperTail>(index)
+    }
+
+    fn mask_of(from: Option<u8>, upto: Option<u8>) -> R {
+        if from.unwrap_or(0) == 100 && upto.is_none() {
+            R::ZERO
+        } else {
+            mask_from_at::<R, EmptyUpperTail>(from, upto)
+        }
+    }
+}

@@ -1,6 +1,6 @@
 //! The worked rows of orders and of their verification.
 
-use crate::candidates::{AllAtZero, EmptyMask, EmptyTail, OtherSelector};
+use crate::candidates::{AllAtZero, EmptyMask, EmptyTail, EmptyUpperTail, OtherSelector};
 use bit_addressing_order::{
     BitEnd, BitIdx, BitOrder, BitRegister, Lsb0, Msb0, disjoint_masks, mask_from_at, select_from_at,
 };
@@ -53,6 +53,11 @@ fn masks_of_ranges_apart(rt: HostRuntime) -> Result<(), Fail> {
     let (low, high) = disjoint_masks::<u32, Msb0>(None, split, from, None);
     assert!(rt; low.into_inner() == 0xff80_0000);
     assert!(rt; high.into_inner() == 0x007f_ffff);
+    let split = BitEnd::<u128>::new(100);
+    let from = Some(BitIdx::<u128>::new(100)?);
+    let (low, high) = disjoint_masks::<u128, Lsb0>(None, split, from, None);
+    assert!(rt; low.into_inner() == 0x0000_000f_ffff_ffff_ffff_ffff_ffff_ffff);
+    assert!(rt; high.into_inner() == 0xffff_fff0_0000_0000_0000_0000_0000_0000);
     Ok(())
 }
 
@@ -74,6 +79,9 @@ fn unlawful_candidates_are_told_their_first_fault(rt: HostRuntime) -> Result<(),
     let tail = OrderFault::Mask(Some(BitIdx::<u8>::new(4)?), None);
     assert!(rt; verify_for_type::<u8, EmptyTail>() == Err(tail));
     assert!(rt; verify::<EmptyTail>() == Err(WordFault::U8(tail)));
+    assert!(rt; verify_for_type::<u64, EmptyUpperTail>() == Ok(()));
+    let upper = OrderFault::Mask(Some(BitIdx::<u128>::new(100)?), None);
+    assert!(rt; verify::<EmptyUpperTail>() == Err(WordFault::U128(upper)));
     Ok(())
 }
 
@@ -126,4 +134,6 @@ fn positions_are_those_counted_by_hand(rt: HostRuntime) {
     assert!(rt; counts_alike::<usize, Msb0>(Count::Highest));
     assert!(rt; counts_alike::<u8, FifthStep>(Count::Fifths));
     assert!(rt; counts_alike::<u32, FifthStep>(Count::Fifths));
+    assert!(rt; counts_alike::<u128, Msb0>(Count::Highest));
+    assert!(rt; counts_alike::<u128, FifthStep>(Count::Fifths));
 }

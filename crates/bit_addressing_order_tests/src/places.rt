@@ -27,6 +27,13 @@ fn offsets_round_down(rt: HostRuntime) -> Result<(), Fail> {
 }
 
 #[test]
+fn offsets_go_to_the_next_word_but_one(rt: HostRuntime) -> Result<(), Fail> {
+    let (words, there) = BitIdx::<u128>::new(10)?.offset(300);
+    assert!(rt; (words, there.into_inner()) == (2, 54));
+    Ok(())
+}
+
+#[test]
 fn neighbours_tell_a_crossing(rt: HostRuntime) -> Result<(), Fail> {
     // index, the one above, crossed, the one below, crossed
     let rows = [
@@ -51,6 +58,9 @@ fn places_past_the_word_are_refused(rt: HostRuntime) {
     assert!(rt; error.err() == Some(200));
     assert!(rt; BitEnd::<u64>::new(65) == None);
     assert!(rt; BitPos::<u64>::new(64) == None);
+    assert!(rt; BitIdx::<u128>::new(127).is_ok() && BitIdx::<u128>::new(128).is_err());
+    assert!(rt; BitEnd::<u128>::new(129) == None);
+    assert!(rt; BitSel::<u128>::new(1 << 127).is_some());
 }
 
 #[test]
@@ -203,4 +213,5 @@ fn registers(rt: HostRuntime) {
     calls_of_register::<u32>(&rt, (32, 5, 31), "u32");
     calls_of_register::<u64>(&rt, (64, 6, 63), "u64");
     calls_of_register::<usize>(&rt, (64, 6, 63), "usize");
+    calls_of_register::<u128>(&rt, (128, 7, 127), "u128");
 }

@@ -35,6 +35,8 @@ fn texts_of_places(rt: HostRuntime) -> Result<(), Fail> {
     assert!(rt; has_texts(alloc, end, "1000 1000 BitEnd<u8>(1000)")?);
     let position = BitPos::<usize>::new(9).ok_or("position")?;
     assert!(rt; has_texts(alloc, position, "001001 001001 BitPos<usize>(001001)")?);
+    let end = BitEnd::<u128>::new(5).ok_or("end")?;
+    assert!(rt; has_texts(alloc, end, "00000101 00000101 BitEnd<u128>(00000101)")?);
     Ok(())
 }
 
@@ -56,6 +58,8 @@ fn texts_of_errors(rt: HostRuntime) -> Result<(), Fail> {
     let error = BitIdx::<u8>::new(8).err().ok_or("no error")?;
     assert!(rt; format!(in alloc; "{error}")?.as_str() == "index 8 is not below 8 of u8");
     assert!(rt; format!(in alloc; "{error:?}")?.as_str() == "BitIdxError<u8>(8)");
+    let error = BitIdx::<u128>::new(128).err().ok_or("no error")?;
+    assert!(rt; format!(in alloc; "{error}")?.as_str() == "index 128 is not below 128 of u128");
     Ok(())
 }
 

@@ -1,4 +1,6 @@
 pub mod Domain
+pub mod BitPart
+pub mod BitDomain
 pub mod Form
 pub mod PartialElement
 pub mod Span

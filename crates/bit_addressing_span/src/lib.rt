@@ -1,6 +1,8 @@
 //! Spans of a memory, cut into domains of whole words and parts of words.
 #![tactic(auto)]
 
+mod bit_domain;
+mod bit_part;
 mod cut;
 mod domain;
 mod domain_mut;
@@ -11,6 +13,8 @@ mod span;
 mod span_error;
 mod words;
 
+pub use bit_domain::BitDomain;
+pub use bit_part::BitPart;
 pub use domain::Domain;
 pub use domain_mut::DomainMut;
 pub use partial::PartialElement;

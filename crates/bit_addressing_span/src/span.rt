@@ -11,6 +11,8 @@ use std::marker::{Model, PhantomData};
 /// The greatest number of bits that a span has: `usize::MAX >> 3`.
 pub const MAX_BITS: usize = 2305843009213693951;
 
+const _: () = prove!(MAX_BITS == usize::MAX >> 3);
+
 /// So many bits of a memory, from an index of a word on. A contract sees it as these three numbers.
 ///
 /// It is numbers alone: its calls are handed the memory. In bitvec the type is private.

@@ -1,8 +1,8 @@
 //! The masked words of a domain, one after another, from both ends.
 
-ghost use Rattle.std.specs.Prelude.{◌≡◌, ◌+◌, ◌<◌, ◌≤◌, ◌^◌, ◌↔◌, ◌++◌, [], length, IfSome, IsTrue, Some, None};
+ghost use Rattle.std.specs.Prelude.{◌≡◌, ◌+◌, ◌<◌, ◌≤◌, ◌^◌, ◌↔◌, ◌++◌, [], length, IfSome, IsSome, IsTrue, Some, None};
 ghost use Rattle.std.specs.Iterator.{YieldsFirstBy, YieldsLastBy, item_count, UpTo};
-ghost use Rattle.std.specs.Iterator.SizeHint.{IsWithinCount};
+ghost use Rattle.std.specs.Iterator.SizeHint.{IsExactHint, IsWithinCount};
 ghost use Rattle.bit_addressing_span.specs.Domain.{domain_numbers, option_numbers};
 ghost use Rattle.bit_addressing_span.specs.DomainWords.{option_word};
 
@@ -55,12 +55,7 @@ impl<'a, R: BitRegister, O: BitOrder<R>> Domain<'a, R, O> {
     pub fn is_counted(&self) -> bool
         ensures { IsTrue result ↔ (length (domain_numbers R.number O.masked self.now) < 2 ^ 64) }
     {
-        match *self {
-            Domain::Enclave(part) => is_counted(0, count_of(Some(part))),
-            Domain::Region { head, body, tail } => {
-                is_counted(body.len(), count_of(head) + count_of(tail))
-            }
-        }
+        count_of_words(*self).is_some()
     }
 
     /// The masked words of the domain, in order, as an iterator that tells their exact number, which a `usize` counts.
@@ -83,11 +78,17 @@ impl<'a, R: BitRegister, O: BitOrder<R>> Domain<'a, R, O> {
     }
 }
 
-// Whether a `usize` counts so many words and so many more.
-fn is_counted(words: usize, more: usize) -> bool
-    ensures { IsTrue result ↔ (words + more < 2 ^ 64) }
+// How many words a domain has, where a `usize` counts them.
+fn count_of_words<'a, R: BitRegister, O: BitOrder<R>>(domain: Domain<'a, R, O>) -> Option<usize>
+    ensures counted { IsSome result ↔ (length (domain_numbers R.number O.masked domain.entry) < 2 ^ 64) }
+    ensures count { IfSome result (λ count. count ≡ length (domain_numbers R.number O.masked domain.entry)) }
 {
-    words.checked_add(more).is_some()
+    match domain {
+        Domain::Enclave(part) => Some(count_of(Some(part))),
+        Domain::Region { head, body, tail } => {
+            body.len().checked_add(count_of(head) + count_of(tail))
+        }
+    }
 }
 
 // How many words a part has: one, where there is one.
@@ -187,6 +188,17 @@ impl<'a, R: BitRegister, O: BitOrder<R>> Iterator for Domain<'a, R, O> {
         let (word, rest) = first_and_rest(*self);
         *self = rest;
         word
+    }
+
+    fn size_hint(&self) -> (usize, Option<usize>)
+        ensures lower { IsWithinCount result.0 (item_count (domain_numbers R.number O.masked) self.now) }
+        ensures upper { IfSome result.1 (UpTo (item_count (domain_numbers R.number O.masked) self.now)) }
+        ensures exact { IsExactHint result (length (domain_numbers R.number O.masked self.now)) }
+    {
+        match count_of_words(*self) {
+            Some(count) => (count, Some(count)),
+            None => (usize::MAX, None),
+        }
     }
 }
 

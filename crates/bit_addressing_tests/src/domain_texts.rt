@@ -152,6 +152,20 @@ fn widest_words_are_written(rt: HostRuntime) -> Result<(), Fail> {
 }
 
 #[test]
+fn words_of_128_bits_are_written(rt: HostRuntime) -> Result<(), Fail> {
+    let memory = [u128::MAX, 0xfedc_ba98_7654_3210];
+    // the upper half of the first word, 64 ones behind 64 zeros, and the lowest 8 digits of the next
+    let texts = [
+        "[11111111111111111111111111111111111111111111111111111111111111110000000000000000000000000000000000000000000000000000000000000000, 10000]",
+        "[3777777777777777777776000000000000000000000, 20]",
+        "[ffffffffffffffff0000000000000000, 10]",
+        "[FFFFFFFFFFFFFFFF0000000000000000, 10]",
+    ];
+    assert!(rt; span_has_texts::<u128, Lsb0>(rt.alloc(), &memory, 64, 72, texts)?);
+    Ok(())
+}
+
+#[test]
 fn writable_domains_are_written(rt: HostRuntime) -> Result<(), Fail> {
     let mut memory = [0x1fu8, 0xab, 0xcd, 0x5e];
     let span = BitSpan::<u8, Lsb0>::new(0, BitIdx::new(4)?, 24)?;

@@ -1,6 +1,8 @@
 //! Domains and parts of words: the rows.
 
-use bit_addressing::{BitEnd, BitIdx, BitOrder, BitSpan, Domain, Lsb0, Msb0, PartialElementMut};
+use bit_addressing::{
+    BitDomain, BitEnd, BitIdx, BitOrder, BitSpan, Domain, Lsb0, Msb0, PartialElementMut,
+};
 use std::slice::from_mut;
 use std::test::Fail;
 
@@ -49,6 +51,44 @@ fn parts_of_a_region(rt: HostRuntime) -> Result<(), Fail> {
     assert!(rt; (from.into_inner(), count) == (4, 4));
     let (from, upto) = tail.ok_or("tail")?.bounds();
     assert!(rt; (from.into_inner(), upto.into_inner()) == (0, 4));
+    Ok(())
+}
+
+#[test]
+fn parts_have_words_heads_and_lengths(rt: HostRuntime) -> Result<(), Fail> {
+    let memory = [0x12u8, 0x34, 0x56];
+    let parts = region(&memory)?.into_bit_domain();
+    assert!(rt; parts.enclave().is_none());
+    let (head, body, tail) = parts.region().ok_or("region")?;
+    assert!(rt; body == [0x34].as_slice());
+    let (words, from, count) = head.ok_or("head")?.raw_parts();
+    assert!(rt; words == [0x12].as_slice() && (from.into_inner(), count) == (4, 4));
+    let (words, from, count) = tail.ok_or("tail")?.raw_parts();
+    assert!(rt; words == [0x56].as_slice() && (from.into_inner(), count) == (0, 4));
+    let word = [0xf0u8];
+    let span = BitSpan::<u8, Msb0>::new(0, BitIdx::new(2)?, 4)?;
+    assert!(rt; span.fits(1));
+    let part = span
+        .domain(&word)
+        .into_bit_domain()
+        .enclave()
+        .ok_or("enclave")?;
+    let (words, from, count) = part.raw_parts();
+    assert!(rt; words == [0xf0].as_slice() && (from.into_inner(), count) == (2, 4));
+    let none = BitDomain::<u8, Lsb0>::default();
+    assert!(rt; none.enclave().is_none() && none.region().is_some());
+    Ok(())
+}
+
+#[test]
+fn a_domain_tells_how_many_words_it_has(rt: HostRuntime) -> Result<(), Fail> {
+    let memory = [0x12u8, 0x34, 0x56];
+    let mut domain = region(&memory)?;
+    for left in [3, 2, 1, 0] {
+        assert!(rt; domain.size_hint() == (left, Some(left)));
+        let _ = domain.next_back();
+    }
+    assert!(rt; Domain::<u8, Lsb0>::default().size_hint() == (0, Some(0)));
     Ok(())
 }
 

@@ -1,10 +1,11 @@
 //! What a user of the crate proves from its contracts alone.
 
-ghost use Rattle.std.specs.Prelude.{◌≡◌, ◌≢◌, ℕ, ◌+◌, ◌*◌, ◌<◌, pos, ◌+ℤ◌, ◌*ℤ◌, length, true, false};
+ghost use Rattle.std.specs.Prelude.{◌≡◌, ◌≢◌, ℕ, ◌+◌, ◌*◌, ◌<◌, pos, ◌+ℤ◌, ◌-ℤ◌, ◌*ℤ◌, length, true, false, IfSome};
 ghost use Rattle.bit_addressing.specs.Memory.{entry, read_by};
-ghost use Rattle.bit_addressing.specs.Pointer.{StaysIn};
+ghost use Rattle.bit_addressing.specs.Pointer.{StaysIn, whole_place};
 
-use bit_addressing::{BitIdx, BitOrder, BitPtr, BitRegister, read_entry, write_entry};
+use bit_addressing::entries::{read_entry, write_entry};
+use bit_addressing::{BitIdx, BitOrder, BitPtr, BitPtrRange, BitRegister};
 
 /// Writes two neighbouring places, perhaps of one word. Both are known then, and all else is as it was.
 pub fn write_two<R: BitRegister, O: BitOrder<R>>(
@@ -45,4 +46,19 @@ pub fn moved_distance<R: BitRegister, O: BitOrder<R>>(word: isize, index: u8, by
     let bit = BitIdx::<R>::new_unchecked(index);
     let far = BitPtr::<R, O>::new(word, bit).offset(by);
     far.offset_from(BitPtr::new(word, bit))
+}
+
+/// The pointers from one up to before another, where these are the ends of a range: by comparing them, and by the test
+/// of their distance.
+pub fn range_between<R: BitRegister, O: BitOrder<R>>(
+    start: BitPtr<R, O>,
+    end: BitPtr<R, O>,
+) -> Option<BitPtrRange<R, O>>
+    ensures { IfSome result (λ range. pos range.len ≡ whole_place R.BITS end -ℤ whole_place R.BITS start) }
+{
+    if start <= end && end.can_offset_from(start) {
+        Some(BitPtrRange::from_range(start..end))
+    } else {
+        None
+    }
 }

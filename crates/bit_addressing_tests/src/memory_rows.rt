@@ -1,10 +1,11 @@
 //! Rows of entries, copies and pointers.
 
 use crate::memory_callers::{write_two, written_then_read};
-use bit_addressing::{
-    BitIdx, BitPtr, BitPtrRange, Dangling, EmptyRange, Limits, Lsb0, Msb0, copy_between,
-    copy_within, read_entry, replace_entry, swap_between, swap_entries, swap_within, write_entry,
+use bit_addressing::entries::{
+    copy_between, copy_within, read_entry, replace_entry, swap_between, swap_entries, swap_within,
+    write_entry,
 };
+use bit_addressing::{BitIdx, BitPtr, BitPtrRange, Dangling, EmptyRange, Limits, Lsb0, Msb0};
 
 #[test]
 fn entries_are_read_and_replaced(rt: HostRuntime) {

@@ -1,10 +1,8 @@
 //! Parts of words, stored, loaded and restored.
 
 use crate::part_callers::{first_word, store_and_load, store_and_restore, write_two};
-use bit_addressing::{
-    BitEnd, BitIdx, BitSpan, Lsb0, Msb0, PartialElementMut, each_digit, flipped, load_in, masked,
-    no_digits, store_in, stored,
-};
+use bit_addressing::parts::{each_digit, flipped, load_in, masked, no_digits, store_in, stored};
+use bit_addressing::{BitEnd, BitIdx, BitSpan, Lsb0, Msb0, PartialElementMut};
 use std::slice::from_mut;
 use std::test::Fail;
 

@@ -1,6 +1,6 @@
 //! Ranges of pointers, against places counted from word -100 on, and what pointers ask.
 
-use crate::memory_callers::moved_distance;
+use crate::memory_callers::{moved_distance, range_between};
 use bit_addressing::{BitIdx, BitOrder, BitPtr, BitPtrRange, BitRegister, Limits, Lsb0, Msb0};
 use bit_addressing_sample_orders::FifthStep;
 use std::ops::{Bound, RangeBounds};
@@ -120,6 +120,25 @@ fn ranges_are_counted(rt: HostRuntime) -> Result<(), Fail> {
 fn each_count_can_be_added(rt: HostRuntime) {
     let pointer = BitPtr::<u8, Lsb0>::new(0, BitIdx::MIN);
     assert!(rt; pointer.can_add(usize::MAX) && pointer.can_sub(usize::MAX));
+}
+
+#[test]
+fn distances_are_tested(rt: HostRuntime) {
+    let first = BitPtr::<u8, Msb0>::new(isize::MIN, BitIdx::MIN);
+    let here = BitPtr::<u8, Msb0>::new(0, BitIdx::MIN);
+    assert!(rt; !here.can_offset_from(first) && !first.can_offset_from(here));
+    assert!(rt; !BitPtrRange::is_range(&(first..here)) && !BitPtrRange::is_range(&(here..first)));
+    // 2 ^ 60 words of 8 bits are 2 ^ 63 bits on, one more than an `isize` counts, and as many back it does
+    let far = BitPtr::<u8, Msb0>::new(1152921504606846976, BitIdx::MIN);
+    assert!(rt; !far.can_offset_from(here) && here.can_offset_from(far));
+    assert!(rt; here.offset_from(far) == isize::MIN);
+    assert!(rt; !BitPtrRange::is_range(&(here..far)) && !BitPtrRange::is_range(&(far..here)));
+    let last = BitPtr::<u8, Msb0>::new(1152921504606846975, BitIdx::MAX);
+    assert!(rt; last.can_offset_from(here) && BitPtrRange::is_range(&(here..last)));
+    assert!(rt; BitPtrRange::from_range(here..last).len() == isize::MAX as usize);
+    assert!(rt; BitPtrRange::is_range(&(here..here)));
+    assert!(rt; range_between(here, last).is_some());
+    assert!(rt; range_between(last, here).is_none() && range_between(here, far).is_none());
 }
 
 #[test]

@@ -1,6 +1,7 @@
 //! Rows of directions and of words cut by shifts.
 
-use bit_addressing::{BitRegister, Direction, Lsb0, Msb0, direction_of, goes, joined, raised};
+use bit_addressing::shifts::{Direction, direction_of, goes, joined, raised};
+use bit_addressing::{BitRegister, Lsb0, Msb0};
 use bit_addressing_sample_orders::FifthStep;
 
 // The directions of the orders of the crate, and of another one.
@@ -24,6 +25,7 @@ fn directions_of_orders(rt: HostRuntime) {
     assert!(rt; directions::<u32>() == wanted);
     assert!(rt; directions::<u64>() == wanted);
     assert!(rt; directions::<usize>() == wanted);
+    assert!(rt; directions::<u128>() == wanted);
     assert!(rt; goes::<u8, Msb0>(Direction::Descending) && !goes::<u8, Msb0>(Direction::Ascending));
 }
 

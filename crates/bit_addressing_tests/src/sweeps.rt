@@ -9,6 +9,10 @@ fn ways_of_a_move(rt: HostRuntime) {
     let rows = [(4, 0, Way::Up), (4, 4, Way::Up), (4, 5, Way::Down)];
     for (source, target, way) in rows {
         assert!(rt; way_for(source, target) == way, "{source} to {target}");
+        assert!(rt;
+            Sweep::way_for(source, target) == way,
+            "{source} to {target}"
+        );
     }
 }
 

@@ -74,4 +74,7 @@ pub enum WordFault {
     /// At `usize`.
     #[error("at usize, {0}")]
     Usize(OrderFault<usize>),
+    /// At `u128`.
+    #[error("at u128, {0}")]
+    U128(OrderFault<u128>),
 }

@@ -15,7 +15,7 @@ pub fn answer(alloc: Global, line: &str) -> Result<String, AllocError> {
     let mut words = line.split_whitespace();
     let first = words.next().unwrap_or("");
     let (kind, word) = match first {
-        "u8" | "u16" | "u32" | "u64" => ("vector", first),
+        "u8" | "u16" | "u32" | "u64" | "u128" => ("vector", first),
         _ => (first, words.next().unwrap_or("")),
     };
     match word {
@@ -23,6 +23,9 @@ pub fn answer(alloc: Global, line: &str) -> Result<String, AllocError> {
         "u16" => in_words::<u16, [u16; 0], [u16; 1], [u16; 2], [u16; 3]>(alloc, kind, words),
         "u32" => in_words::<u32, [u32; 0], [u32; 1], [u32; 2], [u32; 3]>(alloc, kind, words),
         "u64" => in_words::<u64, [u64; 0], [u64; 1], [u64; 2], [u64; 3]>(alloc, kind, words),
+        "u128" => {
+            in_words::<u128, [u128; 0], [u128; 1], [u128; 2], [u128; 3]>(alloc, kind, words)
+        }
         _ => "no such word".to_string(alloc),
     }
 }

@@ -67,6 +67,7 @@ pub fn answer(alloc: Global, line: &str) -> Result<String, AllocError> {
         "u16" => in_words::<u16>(alloc, order, &case),
         "u32" => in_words::<u32>(alloc, order, &case),
         "u64" => in_words::<u64>(alloc, order, &case),
+        "u128" => in_words::<u128>(alloc, order, &case),
         "usize" => in_words::<usize>(alloc, order, &case),
         _ => "no such word".to_string(alloc),
     }

@@ -40,3 +40,9 @@ impl BitStore for usize {
 
     ghost fits = { Prim.search rules };
 }
+
+impl BitStore for u128 {
+    ghost use Rattle.std.proofs.Common.{rules};
+
+    ghost fits = { Prim.search rules };
+}

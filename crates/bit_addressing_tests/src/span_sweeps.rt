@@ -17,7 +17,7 @@ fn check_part<'a, R: BitRegister, O: BitOrder<R>>(
     start: usize,
     end: usize,
 )
-    requires start { start ≤ 256 }
+    requires start { start ≤ 512 }
     requires end { end ≤ 1000 }
 {
     let number = start / plain.bits;
@@ -143,7 +143,7 @@ fn check_tail<'a, R: BitRegister, O: BitOrder<R>>(
     edge: usize,
     end: usize,
 ) {
-    assert!(rt; edge <= 256 && end <= 1000);
+    assert!(rt; edge <= 512 && end <= 1000);
     check_part(rt, plain, part, edge, end);
 }
 

@@ -5,8 +5,22 @@
 -- `list_of_one`, `list_in_range`, `answer_of_one`, `answer_in_range`. A reply that is seen as a bit is that bit:
 -- `seen_bit`.
 -- The word that a domain gives first: `first_masked`.
+-- From `a <= b` of pointers to their places: `places_ordered`.
 use Rattle.std.proofs.Common.{◌≡◌, ℕ, ◌+◌, ◌<◌, Bool, true, false, List, [], ◌∷◌, length, map, get_or, refl}
 use Rattle.std.proofs.Common.{suc, Option, Some, None, IfSome, MatchOption, sym, ap, ◌∙◌, arith}
+use Rattle.std.proofs.Common.{◌*◌, ◌≤◌}
+use Rattle.std.proofs.Math.IntN.{pos, ◌-ℤ◌, ◌*ℤ◌}
+use Rattle.std.proofs.Math.Nat.{mul-le-mul_right}
+use Rattle.std.proofs.lemmas.Bool.{false≢true}
+use Rattle.std.proofs.lemmas.Int.{ints}
+use Rattle.std.proofs.lemmas.Map.Keys.{le_from_is_le}
+use Rattle.std.specs.Cmp.{int_ranks}
+use Rattle.std.proofs.Common.{Ordering}
+use Rattle.std.specs.declared.cmp.Ordering.TheVariants.{Less, Equal, Greater}
+use Rattle.std.specs.Ordering.{MatchOrdering, int_cmp, nat_cmp, is_le, is_some_and}
+use Rattle.std.specs.Ordering.{partial_le, partial_ordering_then}
+use Rattle.std.specs.Int.RustNames.{unsigned_abs}
+use lib.Signed.{◌≤ℤ◌, ◌<ℤ◌}
 use Rattle.bit_addressing_memory.specs.Memory.{Reading, entry, reading_in, touched}
 use Rattle.bit_addressing_memory.proofs.PartsLemmas.{stored_back, stored_then_read}
 use Rattle.bit_addressing_span.specs.Parts.{AreMasked, part_from, part_upto}
@@ -17,7 +31,9 @@ use Rattle.bit_addressing.specs.declared.command.SpanReply.{SpanReply}
 use Rattle.bit_addressing.specs.declared.command.SpanReply.TheVariants.{Word, Bit, Done, Refused}
 use Rattle.bit_addressing.specs.Own.{lies_in, own_after, own_answer, own_answers, own_edit, own_list, own_reading, seen}
 use Rattle.bit_addressing.specs.Runs.{Runs, commands_of, replies_of, span_at}
+use Rattle.bit_addressing.specs.Pointer.{Pointer, whole_place}
 use Rattle.bit_addressing.proofs.CommandLemmas.{span_bit}
+use Rattle.bit_addressing.proofs.PointerLemmas.{times_difference}
 
 -- bit i of the span of number s is afterwards that of the list which the span's own commands leave
 pub run_bit : {R : Type 0} (reading : Reading R) (before after : List R) (spans : List Extent)
@@ -92,6 +108,34 @@ first_masked b number at words span numbers left (Some word) count are gives =
     let start : span.word + 0 ≡ span.word = omega arith in
     let part = are 0 (omega arith) in
     rw (start, first) at part
+
+later_word : (b : ℕ) (p q : Pointer) → p.word <ℤ q.word → p.bit < b → whole_place b p ≤ℤ whole_place b q
+later_word b p q later low =
+    let d = unsigned_abs (q.word -ℤ p.word) in
+    let apart : q.word -ℤ p.word ≡ pos d = omega (arith, ints) in
+    let some : 1 ≤ d = omega (arith, ints) in
+    let more : 1 * b ≤ d * b = mul-le-mul_right b some in
+    let on : (q.word *ℤ pos b) -ℤ (p.word *ℤ pos b) ≡ pos d *ℤ pos b =
+    sym (times_difference q.word p.word b) ∙ ap (λ x. x *ℤ pos b) apart in
+    omega (arith, ints)
+
+ordered_by : (b : ℕ) (p q : Pointer) (r : Ordering)
+    → MatchOrdering r (p.word <ℤ q.word) (p.word ≡ q.word) (q.word <ℤ p.word) → p.bit < b
+    → is_some_and is_le (partial_ordering_then (Some r) (Some (nat_cmp p.bit q.bit))) ≡ true
+    → whole_place b p ≤ℤ whole_place b q
+ordered_by b p q Less later low h = later_word b p q later low
+ordered_by b p q Equal same low h =
+    let bits : p.bit ≤ q.bit = le_from_is_le p.bit q.bit h in
+    let words : p.word *ℤ pos b ≡ q.word *ℤ pos b = ap (λ w. w *ℤ pos b) same in
+    omega (arith, ints)
+ordered_by b p q Greater earlier low h = absurd (false≢true h)
+
+-- where `p <= q` of two pointers is true, the place of p is not past that of q
+pub places_ordered : (b : ℕ) (p q : Pointer) → p.bit < b
+    → partial_le (λ (x y : Pointer). partial_ordering_then (Some (int_cmp x.word y.word)) (Some (nat_cmp x.bit y.bit)))
+    p q ≡ true
+    → whole_place b p ≤ℤ whole_place b q
+places_ordered b p q low h = ordered_by b p q (int_cmp p.word q.word) (int_ranks p.word q.word) low h
 
 -- what is read of a part of a word after it was written, and what restores it
 pub ruleset parts = (stored_then_read, stored_back)

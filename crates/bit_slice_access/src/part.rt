@@ -47,6 +47,8 @@ impl<V: BitsWindow> Bits for Part<'_, V> {
 
     ghost bits = { λ part. V.bits (part_view part) };
 
+    ghost start = { λ part. V.start (part_view part) };
+
     fn as_bitslice(&self) -> BitSlice<'_, V::Store, V::Order> {
         self.of.as_bitslice()
     }
@@ -81,6 +83,8 @@ impl<V: BitsWindow> BitsMut for Part<'_, V> {
     ghost fits = { λ part. V.fits (part_view part) };
 
     ghost framed = { λ part. refl };
+
+    ghost starts = { λ part. V.starts (part_view part) };
 }
 
 impl<V: BitsWindow> BitsWindow for Part<'_, V> {

@@ -111,13 +111,16 @@ impl<'a, T: BitRegister, O: BitOrder<T>> BitSliceMut<'a, T, O> {
 
 #[tactic(auto, using(bit_slice_views::proofs::ViewLemmas::views))]
 impl<T: BitRegister, O: BitOrder<T>> Bits for BitSliceMut<'_, T, O> {
-    ghost use Rattle.bit_slice_views_mut.specs.ViewMut.{lent_bits};
+    ghost use Rattle.std.specs.Prelude.{◌%◌};
+    ghost use Rattle.bit_slice_views_mut.specs.ViewMut.{lent_bits, lent_place};
 
     type Store = T;
 
     type Order = O;
 
     ghost bits = { lent_bits (read_by T.BitRegister O.position) };
+
+    ghost start = { λ v. lent_place v % T.BITS };
 
     fn as_bitslice(&self) -> BitSlice<'_, T, O> {
         BitSlice::<T, O>::from_place(&*self.words, self.head, self.len)
@@ -154,6 +157,8 @@ impl<T: BitRegister, O: BitOrder<T>> BitsMut for BitSliceMut<'_, T, O> {
     ghost fits = { λ v. shown_fits (reading_in T.BITS T.number O.position) v.words.now v.head v.len v.fits };
 
     ghost framed = { λ v. refl };
+
+    ghost starts = { λ v. refl };
 }
 
 #[tactic(auto, using(crate::proofs::FrameLemmas::frames))]

@@ -79,6 +79,8 @@ impl<A: BitViewSized, O: BitOrder<A::Store>> Bits for BitArray<A, O> {
 
     ghost bits = { array_bits (read_by A.Store.BitRegister O.position) A.words };
 
+    ghost start = { λ _. 0 };
+
     fn as_bitslice(&self) -> BitSlice<'_, A::Store, O> {
         let len = BitArray::len(self);
         BitSlice::from_parts(self.words.as_raw_slice(), 0, len)
@@ -89,6 +91,7 @@ impl<A: BitViewSized, O: BitOrder<A::Store>> Bits for BitArray<A, O> {
 impl<A: BitViewSized, O: BitOrder<A::Store>> BitsMut for BitArray<A, O> {
     ghost use Rattle.std.specs.Prelude.{refl};
     ghost use Rattle.bit_slice_views_mut.specs.Frame.{frame_of};
+    ghost use Rattle.bit_slice_views_mut.specs.FrameLaws.{front_start};
     ghost use Rattle.bit_containers_array.specs.Array.{array_bits, array_words};
     ghost use Rattle.bit_containers_array.specs.ArrayLaws.{first_window, first_within};
 
@@ -118,6 +121,8 @@ impl<A: BitViewSized, O: BitOrder<A::Store>> BitsMut for BitArray<A, O> {
         (array_words A.words array) };
 
     ghost framed = { λ _. refl };
+
+    ghost starts = { λ _. front_start A.Store.BITS A.Store.least_bits };
 }
 
 impl<A: BitViewSized, O: BitOrder<A::Store>> BitsOwned for BitArray<A, O> {

@@ -212,11 +212,12 @@ where
 
     type IntoIter = Iter<'a, A::Store, O>;
 
-    ghost into_iter_gives = { λ array iter. iter
-        ≡ array_bits (read_by A.Store.BitRegister O.position) A.words array.now };
+    ghost into_iter_gives = { λ array iter. (iter.bits
+        ≡ array_bits (read_by A.Store.BitRegister O.position) A.words array.now) × (iter.head ≡ 0) };
 
     fn into_iter(self) -> Iter<'a, A::Store, O>
-        ensures into_iter_gives { result ≡ array_bits (read_by A.Store.BitRegister O.position) A.words self.now }
+        ensures into_iter_gives { (result.bits
+            ≡ array_bits (read_by A.Store.BitRegister O.position) A.words self.now) × (result.head ≡ 0) }
     {
         self.iter()
     }

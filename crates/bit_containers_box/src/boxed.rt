@@ -29,13 +29,15 @@ pub struct BitBox<T: BitStore, O> {
 
 #[tactic(auto, using(bit_slice_views::proofs::ViewLemmas::views))]
 impl<T: BitStore, O: BitOrder<T>> Bits for BitBox<T, O> {
-    ghost use Rattle.bit_containers_box.specs.Box.{box_bits};
+    ghost use Rattle.bit_containers_box.specs.Box.{box_bits, box_head};
 
     type Store = T;
 
     type Order = O;
 
     ghost bits = { box_bits (read_by T.BitRegister O.position) };
+
+    ghost start = { box_head };
 
     fn as_bitslice(&self) -> BitSlice<'_, T, O> {
         BitSlice::<T, O>::from_place(self.words.as_slice(), self.head, self.len)
@@ -45,7 +47,7 @@ impl<T: BitStore, O: BitOrder<T>> Bits for BitBox<T, O> {
 #[tactic(auto, using(bit_slice_views_mut::proofs::FrameLemmas::frames))]
 impl<T: BitStore, O: BitOrder<T>> BitsMut for BitBox<T, O> {
     ghost use Rattle.std.specs.Prelude.{refl};
-    ghost use Rattle.bit_slice_views_mut.specs.FrameLaws.{shown_window, shown_fits};
+    ghost use Rattle.bit_slice_views_mut.specs.FrameLaws.{shown_window, shown_fits, first_start};
     ghost use Rattle.bit_containers_box.specs.Box.{box_bits, box_frame, box_head, box_words};
 
     ghost Lender = { Unit {0} };
@@ -71,6 +73,8 @@ impl<T: BitStore, O: BitOrder<T>> BitsMut for BitBox<T, O> {
     ghost fits = { λ b. shown_fits (reading_in T.BITS T.number O.position) b.words.items b.head b.len b.fits };
 
     ghost framed = { λ _. refl };
+
+    ghost starts = { λ b. first_start T.BITS b.head b.inside };
 }
 
 // A function's work on words, which keeps how many there are.

@@ -55,10 +55,12 @@ impl<'a, T: BitStore + 'a, O: BitOrder<T>> IntoIterator for &'a BitBox<T, O> {
 
     type IntoIter = Iter<'a, T, O>;
 
-    ghost into_iter_gives = { λ bits iter. iter ≡ box_bits (read_by T.BitRegister O.position) bits.now };
+    ghost into_iter_gives = { λ bits iter. (iter.bits ≡ box_bits (read_by T.BitRegister O.position) bits.now)
+        × (iter.head ≡ box_head bits.now) };
 
     fn into_iter(self) -> Iter<'a, T, O>
-        ensures into_iter_gives { result ≡ box_bits (read_by T.BitRegister O.position) self.now }
+        ensures into_iter_gives { (result.bits ≡ box_bits (read_by T.BitRegister O.position) self.now)
+            × (result.head ≡ box_head self.now) }
     {
         self.iter()
     }

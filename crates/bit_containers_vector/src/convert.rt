@@ -78,10 +78,12 @@ impl<'a, T: BitStore + 'a, O: BitOrder<T>> IntoIterator for &'a BitVec<T, O> {
 
     type IntoIter = Iter<'a, T, O>;
 
-    ghost into_iter_gives = { λ vector iter. iter ≡ vec_bits (read_by T.BitRegister O.position) vector.now };
+    ghost into_iter_gives = { λ vector iter. (iter.bits ≡ vec_bits (read_by T.BitRegister O.position) vector.now)
+        × (iter.head ≡ vec_head vector.now) };
 
     fn into_iter(self) -> Iter<'a, T, O>
-        ensures into_iter_gives { result ≡ vec_bits (read_by T.BitRegister O.position) self.now }
+        ensures into_iter_gives { (result.bits ≡ vec_bits (read_by T.BitRegister O.position) self.now)
+            × (result.head ≡ vec_head self.now) }
     {
         self.iter()
     }

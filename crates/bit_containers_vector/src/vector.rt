@@ -48,13 +48,15 @@ impl<T: BitStore, O: BitOrder<T>> BitVec<T, O> {
 
 #[tactic(auto, using(bit_slice_views::proofs::ViewLemmas::views))]
 impl<T: BitStore, O: BitOrder<T>> Bits for BitVec<T, O> {
-    ghost use Rattle.bit_containers_vector.specs.Vector.{vec_bits};
+    ghost use Rattle.bit_containers_vector.specs.Vector.{vec_bits, vec_head};
 
     type Store = T;
 
     type Order = O;
 
     ghost bits = { vec_bits (read_by T.BitRegister O.position) };
+
+    ghost start = { vec_head };
 
     fn as_bitslice(&self) -> BitSlice<'_, T, O> {
         BitSlice::<T, O>::from_place(self.words.as_slice(), self.head, self.len)
@@ -65,7 +67,7 @@ impl<T: BitStore, O: BitOrder<T>> Bits for BitVec<T, O> {
 impl<T: BitStore, O: BitOrder<T>> BitsMut for BitVec<T, O> {
     ghost use Rattle.std.specs.Prelude.{ℕ, refl};
     ghost use Rattle.bit_slice_views_mut.specs.Frame.{frame_of};
-    ghost use Rattle.bit_slice_views_mut.specs.FrameLaws.{shown_window, shown_fits};
+    ghost use Rattle.bit_slice_views_mut.specs.FrameLaws.{shown_window, shown_fits, first_start};
     ghost use Rattle.bit_containers_vector.specs.Vector.{vec_bits, vec_words, words_held};
 
     ghost Lender = { ℕ };
@@ -92,6 +94,8 @@ impl<T: BitStore, O: BitOrder<T>> BitsMut for BitVec<T, O> {
     ghost fits = { λ v. shown_fits (reading_in T.BITS T.number O.position) v.words.items v.head v.len v.fits };
 
     ghost framed = { λ v. refl };
+
+    ghost starts = { λ v. first_start T.BITS v.head v.inside };
 }
 
 // A function's work on words, which keeps how many there are.

@@ -19,6 +19,7 @@ pub use Rattle.bit_slice_access.specs.Shows
 pub use Rattle.bit_slice_access.specs.Cut
 pub use Rattle.bit_slice_access.specs.Domain
 pub use Rattle.bit_slice_access.specs.Halves
+pub use Rattle.bit_slice_iterators.specs.BitsLeft
 pub use Rattle.bit_slice_iterators.specs.Cuts
 pub use Rattle.bit_slice_iterators.specs.PiecesMut
 pub use Rattle.bit_slice_iterators.specs.Remainder

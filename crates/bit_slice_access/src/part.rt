@@ -8,7 +8,7 @@ ghost use Rattle.bit_slice_views_mut.specs.Frame.{frame_of};
 
 use bit_addressing_memory::BitRegister;
 use bit_slice_views::{BitSlice, Bits};
-use bit_slice_views_mut::{BitsMut, BitsWindow};
+use bit_slice_views_mut::{BitsMut, BitsShown, BitsWindow};
 
 /// Some bits of a window, as a window of its own: what a range lends.
 ///
@@ -47,6 +47,8 @@ impl<V: BitsWindow> Bits for Part<'_, V> {
 
     ghost bits = { λ part. V.bits (part_view part) };
 
+    ghost start = { λ part. V.start (part_view part) };
+
     fn as_bitslice(&self) -> BitSlice<'_, V::Store, V::Order> {
         self.of.as_bitslice()
     }
@@ -81,13 +83,17 @@ impl<V: BitsWindow> BitsMut for Part<'_, V> {
     ghost fits = { λ part. V.fits (part_view part) };
 
     ghost framed = { λ part. refl };
+
+    ghost starts = { λ part. V.starts (part_view part) };
 }
 
-impl<V: BitsWindow> BitsWindow for Part<'_, V> {
+impl<V: BitsWindow> BitsShown for Part<'_, V> {
     fn show(&mut self, from: usize, count: usize) {
         self.of.show(from, count);
     }
 }
+
+impl<V: BitsWindow> BitsWindow for Part<'_, V> {}
 
 impl<'s, V: BitsWindow> Part<'s, V> {
     ghost use Rattle.bit_slice_access.specs.Part.{part_loan};

@@ -1,12 +1,13 @@
 //! Bits and parts of what shows bits, by their indices, to read.
 
-ghost use Rattle.std.specs.Prelude.{◌≡◌, ℕ, ◌+◌, ◌-◌, ◌<◌, ◌≤◌, ◌↔◌, IfSome, IsSome, false, length};
+ghost use Rattle.std.specs.Prelude.{◌≡◌, ℕ, ◌+◌, ◌-◌, ◌%◌, ◌<◌, ◌≤◌, ◌↔◌, IfSome, IsSome, false, length};
 ghost use Rattle.std.specs.Prelude.{drop, slice_index_or, take};
 ghost use Rattle.bit_addressing_memory.specs.Memory.{piece, read_by};
-ghost use Rattle.bit_addressing_span.specs.Domain.{domain_bits, IsCut};
+ghost use Rattle.bit_addressing_span.specs.Domain.{domain_bits, domain_start, IsCut, IsEnclave};
+ghost use Rattle.bit_addressing_span.specs.Span.{extent, LiesInside};
 ghost use Rattle.bit_slice_views.specs.BitRef.{bit_value};
-ghost use Rattle.bit_slice_views.specs.Parts.{parts_bits, IsBitCut};
-ghost use Rattle.bit_slice_views.specs.View.{view_bits};
+ghost use Rattle.bit_slice_views.specs.Parts.{parts_bits, parts_start, IsBitCut, IsOnePart};
+ghost use Rattle.bit_slice_views.specs.View.{view_bits, view_head};
 
 use bit_addressing_memory::{BitOrder, BitRegister};
 use bit_addressing_span::Domain;
@@ -24,6 +25,7 @@ pub trait BitsParts: Bits {
     ) -> Option<I::Immut>
         ensures variant { IsSome result ↔ I.within index (length (Self.bits self.now)) }
         ensures value { IfSome result (λ shown. (head : ℕ) × I.shows index head (Self.bits self.now) shown) }
+        ensures shows { IfSome result (I.shows index (Self.start self.now) (Self.bits self.now)) }
     {
         self.as_bitslice().get(index)
     }
@@ -34,7 +36,8 @@ pub trait BitsParts: Bits {
         index: I,
     ) -> I::Immut
         requires { I.within index (length (Self.bits self.now)) }
-        ensures { (head : ℕ) × I.shows index head (Self.bits self.now) result }
+        ensures value { (head : ℕ) × I.shows index head (Self.bits self.now) result }
+        ensures shows { I.shows index (Self.start self.now) (Self.bits self.now) result }
     {
         self.as_bitslice().index(index)
     }
@@ -45,7 +48,8 @@ pub trait BitsParts: Bits {
         index: I,
     ) -> I::Immut
         requires { I.within index (length (Self.bits self.now)) }
-        ensures { (head : ℕ) × I.shows index head (Self.bits self.now) result }
+        ensures value { (head : ℕ) × I.shows index head (Self.bits self.now) result }
+        ensures shows { I.shows index (Self.start self.now) (Self.bits self.now) result }
     {
         self.as_bitslice().get_unchecked(index)
     }
@@ -55,8 +59,9 @@ pub trait BitsParts: Bits {
     /// `count` bits, from bit `from` on.
     final fn part(&self, from: usize, count: usize) -> BitSlice<'_, Self::Store, Self::Order>
         requires { from + count ≤ length (Self.bits self.now) }
-        ensures { view_bits (read_by Self.Store.BitRegister Self.Order.position) result
+        ensures bits { view_bits (read_by Self.Store.BitRegister Self.Order.position) result
             ≡ piece (Self.bits self.now) from count }
+        ensures head { view_head result ≡ (Self.start self.now + from) % Self.Store.BITS }
     {
         self.as_bitslice().part(from, count)
     }
@@ -74,6 +79,8 @@ pub trait BitsParts: Bits {
             ≡ take i (Self.bits self.now) }
         ensures right { view_bits (read_by Self.Store.BitRegister Self.Order.position) result.1
             ≡ drop i (Self.bits self.now) }
+        ensures left_head { view_head result.0 ≡ Self.start self.now }
+        ensures right_head { view_head result.1 ≡ (Self.start self.now + i) % Self.Store.BITS }
     {
         self.as_bitslice().split_at(i)
     }
@@ -91,6 +98,8 @@ pub trait BitsParts: Bits {
             ≡ take i (Self.bits self.now) }
         ensures right { view_bits (read_by Self.Store.BitRegister Self.Order.position) result.1
             ≡ drop i (Self.bits self.now) }
+        ensures left_head { view_head result.0 ≡ Self.start self.now }
+        ensures right_head { view_head result.1 ≡ (Self.start self.now + i) % Self.Store.BITS }
     {
         self.as_bitslice().split_at_unchecked(i)
     }
@@ -101,6 +110,7 @@ pub trait BitsParts: Bits {
         ensures bit { IfSome result (λ parts. bit_value parts.0 ≡ slice_index_or (Self.bits self.now) 0 false) }
         ensures rest { IfSome result (λ parts. view_bits (read_by Self.Store.BitRegister Self.Order.position) parts.1
             ≡ drop 1 (Self.bits self.now)) }
+        ensures head { IfSome result (λ parts. view_head parts.1 ≡ (Self.start self.now + 1) % Self.Store.BITS) }
     {
         self.as_bitslice().split_first()
     }
@@ -112,6 +122,7 @@ pub trait BitsParts: Bits {
             ≡ slice_index_or (Self.bits self.now) (length (Self.bits self.now) - 1) false) }
         ensures rest { IfSome result (λ parts. view_bits (read_by Self.Store.BitRegister Self.Order.position) parts.1
             ≡ take (length (Self.bits self.now) - 1) (Self.bits self.now)) }
+        ensures head { IfSome result (λ parts. view_head parts.1 ≡ Self.start self.now) }
     {
         self.as_bitslice().split_last()
     }
@@ -125,6 +136,8 @@ pub trait BitsParts: Bits {
             ↔ (take (length (V.bits prefix.now)) (Self.bits self.now) ≡ V.bits prefix.now) }
         ensures rest { IfSome result (λ rest. view_bits (read_by Self.Store.BitRegister Self.Order.position) rest
             ≡ drop (length (V.bits prefix.now)) (Self.bits self.now)) }
+        ensures head { IfSome result
+            (λ rest. view_head rest ≡ (Self.start self.now + length (V.bits prefix.now)) % Self.Store.BITS) }
     {
         self.as_bitslice().strip_prefix(prefix)
     }
@@ -139,6 +152,7 @@ pub trait BitsParts: Bits {
             ≡ V.bits suffix.now) }
         ensures rest { IfSome result (λ rest. view_bits (read_by Self.Store.BitRegister Self.Order.position) rest
             ≡ take (length (Self.bits self.now) - length (V.bits suffix.now)) (Self.bits self.now)) }
+        ensures head { IfSome result (λ rest. view_head rest ≡ Self.start self.now) }
     {
         self.as_bitslice().strip_suffix(suffix)
     }
@@ -148,6 +162,9 @@ pub trait BitsParts: Bits {
     /// The words that the bits stand in, cut at their borders: each bit once, in order, and no other.
     final fn domain(&self) -> Domain<'_, Self::Store, Self::Order>
         ensures bits { domain_bits (read_by Self.Store.BitRegister Self.Order.position) result ≡ Self.bits self.now }
+        ensures start { 0 < length (Self.bits self.now) → domain_start result ≡ Self.start self.now }
+        ensures enclave { IsEnclave result ↔ LiesInside Self.Store.BITS
+            (extent 0 (Self.start self.now) (length (Self.bits self.now))) }
         ensures cut { IsCut Self.Store.BITS result }
     {
         self.as_bitslice().domain()
@@ -156,6 +173,9 @@ pub trait BitsParts: Bits {
     /// The same cut as windows.
     final fn bit_domain(&self) -> BitDomain<'_, Self::Store, Self::Order>
         ensures bits { parts_bits (read_by Self.Store.BitRegister Self.Order.position) result ≡ Self.bits self.now }
+        ensures start { 0 < length (Self.bits self.now) → parts_start result ≡ Self.start self.now }
+        ensures enclave { IsOnePart result ↔ LiesInside Self.Store.BITS
+            (extent 0 (Self.start self.now) (length (Self.bits self.now))) }
         ensures cut { IsBitCut (read_by Self.Store.BitRegister Self.Order.position) result }
     {
         self.as_bitslice().bit_domain()

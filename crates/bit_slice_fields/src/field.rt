@@ -31,6 +31,9 @@ pub trait BitField: Bits {
         ensures value { result ≡ head self.now }
         ensures within { result < Self.Store.BITS };
 
+    // It is where the list begins.
+    ghost begins: { (v : Self) → Self.start v ≡ head v };
+
     ghost counts: { CountsFrom low_first Self.Store.BITS Self.Order.position };
 
     /// The number that the bits hold, the first segment lowest: what `load_le` does. They are 1 up to `M::BITS` bits.

@@ -11,6 +11,7 @@ use bit_slice_views::BitSlice;
 use bit_slice_views_mut::{BitSliceMut, BitsMut, BitsWindow};
 
 impl<T: BitRegister, O: FieldOrder<T>> BitField for BitSlice<'_, T, O> {
+    ghost use Rattle.std.specs.Prelude.{refl};
     ghost use Rattle.bit_slice_views.specs.View.{view_head};
 
     ghost low_first = { O.LOW_FIRST };
@@ -26,11 +27,13 @@ impl<T: BitRegister, O: FieldOrder<T>> BitField for BitSlice<'_, T, O> {
         head
     }
 
+    ghost begins = { λ v. refl };
+
     ghost counts = { O.counts };
 }
 
 impl<T: BitRegister, O: FieldOrder<T>> BitField for BitSliceMut<'_, T, O> {
-    ghost use Rattle.std.specs.Prelude.{◌%◌};
+    ghost use Rattle.std.specs.Prelude.{◌%◌, refl};
     ghost use Rattle.bit_slice_views_mut.specs.ViewMut.{lent_place};
 
     ghost low_first = { O.LOW_FIRST };
@@ -44,6 +47,8 @@ impl<T: BitRegister, O: FieldOrder<T>> BitField for BitSliceMut<'_, T, O> {
     fn head_index(&self) -> u8 {
         index_of_first(self)
     }
+
+    ghost begins = { λ v. refl };
 
     ghost counts = { O.counts };
 }
@@ -68,6 +73,8 @@ impl<V: BitFieldMut + BitsWindow> BitField for Part<'_, V> {
     fn head_index(&self) -> u8 {
         index_of_first(self)
     }
+
+    ghost begins = { λ part. V.starts (part_view part) };
 
     ghost counts = { V.counts };
 }

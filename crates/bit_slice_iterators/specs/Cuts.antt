@@ -2,9 +2,11 @@
 --
 -- A way to cut: `Cut`, and `forward`, `forward_exact`, `backward`, `backward_exact`, `sliding`, `single`. Pieces of a
 -- list: `some_pieces`, `pieces_of`, and each kind by its name, `chunks`, `chunks_exact`, `rchunks`, `rchunks_exact`, `windows`.
--- What an iterator has left: `PiecesLeft`.
-use Rattle.std.specs.Prelude.{ℕ, ◌+◌, ◌-◌, ◌*◌, ◌/◌, Bool, List, length, map, min}
+-- Where they begin in their words: `some_heads`, `heads_of`. What an iterator has left: `PiecesLeft`. A call of it:
+-- `GivesFirst`, `GivesLast`.
+use Rattle.std.specs.Prelude.{ℕ, ◌≡◌, ◌+◌, ◌-◌, ◌*◌, ◌/◌, ◌%◌, Bool, List, length, map, min, Option}
 use Rattle.std.specs.Int.{div_ceil}
+use Rattle.std.specs.Iterator.{YieldsFirstBy, YieldsLastBy}
 use Rattle.std.specs.List.{range_with_len}
 use Rattle.bit_addressing_memory.specs.Memory.{piece}
 
@@ -47,6 +49,15 @@ some_pieces cut bits k j m =
 abbrev pub pieces_of : Cut → List Bool → ℕ → List (List Bool)
 pieces_of cut bits k = some_pieces cut bits k 0 (cut.count (length bits) k)
 
+-- where m of the pieces of n bits begin, from piece j on, each as the index of its first bit in a word of b bits: the
+-- first of the n bits has the index h
+abbrev pub some_heads : Cut → ℕ → ℕ → ℕ → ℕ → ℕ → ℕ → List ℕ
+some_heads cut b h n k j m = map (λ i. (h + cut.start n k i) % b) (range_with_len j m)
+
+-- where all of them do
+abbrev pub heads_of : Cut → ℕ → ℕ → ℕ → ℕ → List ℕ
+heads_of cut b h n k = some_heads cut b h n k 0 (cut.count n k)
+
 -- all pieces of a list by a size, of each kind
 abbrev pub chunks : List Bool → ℕ → List (List Bool)
 chunks bits k = pieces_of forward bits k
@@ -63,8 +74,27 @@ rchunks_exact bits k = pieces_of backward_exact bits k
 abbrev pub windows : List Bool → ℕ → List (List Bool)
 windows bits k = pieces_of sliding bits k
 
--- an iterator over pieces: the list that is cut, by what size, and the pieces that are left
+-- an iterator over pieces: the list that is cut, the index of its first bit in that bit's word, by what size it is cut,
+-- the pieces that are left, and the index of the first bit of each
 pub record PiecesLeft : Type 0 where
   pub bits : List Bool
+  pub head : ℕ
   pub size : ℕ
   pub left : List (List Bool)
+  pub heads : List ℕ
+
+-- what is cut stays, and how
+abbrev pub KeepsCut : PiecesLeft → PiecesLeft → Type 0
+KeepsCut before after = (after.bits ≡ before.bits) × (after.head ≡ before.head) × (after.size ≡ before.size)
+
+-- a call gives the first piece that is left, from where it lies, or nothing where none is, and what is cut stays
+abbrev pub GivesFirst : {A : Type 0} → (A → List Bool) → (A → ℕ) → PiecesLeft → Option A → PiecesLeft → Type 0
+GivesFirst bits head before r after =
+    YieldsFirstBy bits (λ pieces. pieces.left) before r after
+    × YieldsFirstBy head (λ pieces. pieces.heads) before r after × KeepsCut before after
+
+-- the same of the last one
+abbrev pub GivesLast : {A : Type 0} → (A → List Bool) → (A → ℕ) → PiecesLeft → Option A → PiecesLeft → Type 0
+GivesLast bits head before r after =
+    YieldsLastBy bits (λ pieces. pieces.left) before r after
+    × YieldsLastBy head (λ pieces. pieces.heads) before r after × KeepsCut before after

@@ -1,3 +1,4 @@
+pub mod BitsLeft
 pub mod Indices
 pub mod Cuts
 pub mod Lending

@@ -12,14 +12,16 @@ use bit_slice_views::Bits;
 pub trait BitsIter: Bits {
     /// The bits, in order.
     final fn iter(&self) -> Iter<'_, Self::Store, Self::Order>
-        ensures { result ≡ Self.bits self.now }
+        ensures bits { result.bits ≡ Self.bits self.now }
+        ensures head { result.head ≡ Self.start self.now }
     {
         Iter::new(self.as_bitslice())
     }
 
     /// What `iter` does.
     final fn into_iter(&self) -> Iter<'_, Self::Store, Self::Order>
-        ensures { result ≡ Self.bits self.now }
+        ensures bits { result.bits ≡ Self.bits self.now }
+        ensures head { result.head ≡ Self.start self.now }
     {
         self.iter()
     }

@@ -1,7 +1,8 @@
 //! The pieces of whatever shows bits.
 
-ghost use Rattle.std.specs.Prelude.{◌≡◌, ◌<◌};
+ghost use Rattle.std.specs.Prelude.{◌≡◌, ◌<◌, length};
 ghost use Rattle.bit_slice_iterators.specs.Cuts.{chunks, chunks_exact, rchunks, rchunks_exact, windows};
+ghost use Rattle.bit_slice_iterators.specs.Cuts.{heads_of, forward, forward_exact, backward, backward_exact, sliding};
 
 use crate::pieces::{Chunks, ChunksExact, RChunks, RChunksExact, Windows};
 use bit_slice_views::Bits;
@@ -14,6 +15,9 @@ pub trait BitsPieces: Bits {
         ensures bits { result.bits ≡ Self.bits self.now }
         ensures size { result.size ≡ size }
         ensures left { result.left ≡ chunks (Self.bits self.now) size }
+        ensures head { result.head ≡ Self.start self.now }
+        ensures heads { result.heads
+            ≡ heads_of forward Self.Store.BITS (Self.start self.now) (length (Self.bits self.now)) size }
     {
         Chunks::new(self.as_bitslice(), size)
     }
@@ -24,6 +28,9 @@ pub trait BitsPieces: Bits {
         ensures bits { result.bits ≡ Self.bits self.now }
         ensures size { result.size ≡ size }
         ensures left { result.left ≡ chunks_exact (Self.bits self.now) size }
+        ensures head { result.head ≡ Self.start self.now }
+        ensures heads { result.heads
+            ≡ heads_of forward_exact Self.Store.BITS (Self.start self.now) (length (Self.bits self.now)) size }
     {
         ChunksExact::new(self.as_bitslice(), size)
     }
@@ -35,6 +42,9 @@ pub trait BitsPieces: Bits {
         ensures bits { result.bits ≡ Self.bits self.now }
         ensures size { result.size ≡ size }
         ensures left { result.left ≡ rchunks (Self.bits self.now) size }
+        ensures head { result.head ≡ Self.start self.now }
+        ensures heads { result.heads
+            ≡ heads_of backward Self.Store.BITS (Self.start self.now) (length (Self.bits self.now)) size }
     {
         RChunks::new(self.as_bitslice(), size)
     }
@@ -45,6 +55,9 @@ pub trait BitsPieces: Bits {
         ensures bits { result.bits ≡ Self.bits self.now }
         ensures size { result.size ≡ size }
         ensures left { result.left ≡ rchunks_exact (Self.bits self.now) size }
+        ensures head { result.head ≡ Self.start self.now }
+        ensures heads { result.heads
+            ≡ heads_of backward_exact Self.Store.BITS (Self.start self.now) (length (Self.bits self.now)) size }
     {
         RChunksExact::new(self.as_bitslice(), size)
     }
@@ -55,6 +68,9 @@ pub trait BitsPieces: Bits {
         ensures bits { result.bits ≡ Self.bits self.now }
         ensures size { result.size ≡ size }
         ensures left { result.left ≡ windows (Self.bits self.now) size }
+        ensures head { result.head ≡ Self.start self.now }
+        ensures heads { result.heads
+            ≡ heads_of sliding Self.Store.BITS (Self.start self.now) (length (Self.bits self.now)) size }
     {
         Windows::new(self.as_bitslice(), size)
     }

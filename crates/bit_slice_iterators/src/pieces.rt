@@ -4,8 +4,8 @@ ghost use Rattle.std.specs.Prelude.{◌≡◌, ℕ, ◌+◌, ◌-◌, ◌%◌, �
 ghost use Rattle.std.specs.Iterator.{MakesProgress, YieldsFirstBy, YieldsLastBy, item_count, UpTo};
 ghost use Rattle.std.specs.Iterator.SizeHint.{IsWithinCount};
 ghost use Rattle.bit_addressing_memory.specs.Memory.{piece, read_by};
-ghost use Rattle.bit_slice_views.specs.View.{view_bits};
-ghost use Rattle.bit_slice_iterators.specs.Cuts.{pieces_of, some_pieces};
+ghost use Rattle.bit_slice_views.specs.View.{view_bits, view_head};
+ghost use Rattle.bit_slice_iterators.specs.Cuts.{heads_of, pieces_of, some_heads, some_pieces, GivesFirst, GivesLast};
 
 use crate::cuts::{Backward, BackwardExact, Cuts, ExactCuts, Forward, ForwardExact, Sliding};
 use bit_addressing_memory::{BitOrder, BitRegister};
@@ -14,8 +14,8 @@ use std::alloc::AllocError;
 use std::iter::FusedIterator;
 use std::marker::{Model, PhantomData};
 
-/// The pieces of a window that are left; a contract sees the window's list, the size by which it is cut, and the list of
-/// the pieces that are left.
+/// The pieces of a window that are left; a contract sees the window's list, the size by which it is cut, the list of
+/// the pieces that are left, and where each lies: the index of its first bit in that bit's word.
 ///
 /// It is exact in length, gives each piece once from either end, and then `None` for good.
 #[derive(Drop)]
@@ -45,15 +45,19 @@ pub type Windows<'a, T, O> = Pieces<'a, T, O, Sliding>;
 impl<'a, T: BitRegister, O: BitOrder<T>, C: Cuts> Model for Pieces<'a, T, O, C> {
     ghost use Rattle.std.specs.Prelude.{◌-◌, ◌<◌, ◌≤◌, length};
     ghost use Rattle.bit_addressing_memory.specs.Memory.{read_by};
-    ghost use Rattle.bit_slice_views.specs.View.{view_bits};
-    ghost use Rattle.bit_slice_iterators.specs.Cuts.{PiecesLeft, some_pieces};
+    ghost use Rattle.bit_slice_views.specs.View.{view_bits, view_head};
+    ghost use Rattle.bit_slice_iterators.specs.Cuts.{PiecesLeft, some_heads, some_pieces};
 
     ghost Value = { PiecesLeft };
 
     ghost view = { λ pieces. record {
       bits = view_bits (read_by T.BitRegister O.position) pieces.view;
+      head = view_head pieces.view;
       size = pieces.by;
       left = some_pieces C.cut (view_bits (read_by T.BitRegister O.position) pieces.view) pieces.by pieces.front
+          (pieces.back - pieces.front);
+      heads = some_heads C.cut T.BITS (view_head pieces.view)
+          (length (view_bits (read_by T.BitRegister O.position) pieces.view)) pieces.by pieces.front
           (pieces.back - pieces.front);
     } };
 
@@ -70,6 +74,9 @@ impl<'a, T: BitRegister, O: BitOrder<T>, C: Cuts> Pieces<'a, T, O, C> {
         ensures bits { result.bits ≡ view_bits (read_by T.BitRegister O.position) view.entry }
         ensures size { result.size ≡ by }
         ensures left { result.left ≡ pieces_of C.cut (view_bits (read_by T.BitRegister O.position) view.entry) by }
+        ensures head { result.head ≡ view_head view.entry }
+        ensures heads { result.heads ≡ heads_of C.cut T.BITS (view_head view.entry)
+            (length (view_bits (read_by T.BitRegister O.position) view.entry)) by }
     {
         Pieces {
             view,
@@ -89,10 +96,12 @@ fn piece_of<'a, T: BitRegister, O: BitOrder<T>, C: Cuts>(
 ) -> BitSlice<'a, T, O>
     requires some { 0 < by }
     requires inside { j < C.cut.count (length (view_bits (read_by T.BitRegister O.position) view)) by }
-    ensures { view_bits (read_by T.BitRegister O.position) result
+    ensures bits { view_bits (read_by T.BitRegister O.position) result
         ≡ piece (view_bits (read_by T.BitRegister O.position) view.entry)
         (C.cut.start (length (view_bits (read_by T.BitRegister O.position) view.entry)) by j)
         (C.cut.size (length (view_bits (read_by T.BitRegister O.position) view.entry)) by j) }
+    ensures head { view_head result ≡ (view_head view.entry
+        + C.cut.start (length (view_bits (read_by T.BitRegister O.position) view.entry)) by j) % T.BITS }
 {
     let (start, size) = C::piece(view.len(), by, j);
     view.part(start, size)
@@ -103,8 +112,10 @@ impl<'a, T: BitRegister, O: BitOrder<T>, C: ExactCuts> Pieces<'a, T, O, C> {
 
     /// The bits that are in no piece: fewer than the size, whatever pieces are left.
     pub fn remainder(&self) -> BitSlice<'a, T, O>
-        ensures { view_bits (read_by T.BitRegister O.position) result
+        ensures bits { view_bits (read_by T.BitRegister O.position) result
             ≡ piece self.now.bits (C.rest (length self.now.bits) self.now.size) (length self.now.bits % self.now.size) }
+        ensures head { view_head result
+            ≡ (self.now.head + C.rest (length self.now.bits) self.now.size) % T.BITS }
     {
         let len = self.view.len();
         let start = C::rest_start(len, self.by);
@@ -132,7 +143,7 @@ impl<'a, T: BitRegister, O: BitOrder<T>, C: Cuts> Clone for Pieces<'a, T, O, C> 
 impl<'a, T: BitRegister + 'a, O: BitOrder<T>, C: Cuts> Iterator for Pieces<'a, T, O, C> {
     type Item = BitSlice<'a, T, O>;
 
-    ghost next_gives = { YieldsFirstBy (view_bits (read_by T.BitRegister O.position)) (λ pieces. pieces.left) };
+    ghost next_gives = { GivesFirst (view_bits (read_by T.BitRegister O.position)) view_head };
 
     ghost remaining = { item_count (λ pieces. pieces.left) };
 
@@ -140,6 +151,9 @@ impl<'a, T: BitRegister + 'a, O: BitOrder<T>, C: Cuts> Iterator for Pieces<'a, T
         ensures steps { YieldsFirstBy (view_bits (read_by T.BitRegister O.position)) (λ pieces. pieces.left)
             self.old result self.new }
         ensures goes { MakesProgress (λ _. ⊤) (item_count (λ pieces. pieces.left)) self.old result self.new }
+
+        // The same, and it lies where the cut says.
+        ensures gives { GivesFirst (view_bits (read_by T.BitRegister O.position)) view_head self.old result self.new }
 
         // What is cut stays, and so what is in no piece.
         ensures bits { self.new.bits ≡ self.old.bits }
@@ -165,12 +179,13 @@ impl<'a, T: BitRegister + 'a, O: BitOrder<T>, C: Cuts> Iterator for Pieces<'a, T
 
 #[tactic(auto, using(crate::proofs::PieceLemmas::ends_of_pieces))]
 impl<'a, T: BitRegister + 'a, O: BitOrder<T>, C: Cuts> DoubleEndedIterator for Pieces<'a, T, O, C> {
-    ghost next_back_gives = { YieldsLastBy (view_bits (read_by T.BitRegister O.position)) (λ pieces. pieces.left) };
+    ghost next_back_gives = { GivesLast (view_bits (read_by T.BitRegister O.position)) view_head };
 
     fn next_back(&mut self) -> Option<BitSlice<'a, T, O>>
         ensures steps { YieldsLastBy (view_bits (read_by T.BitRegister O.position)) (λ pieces. pieces.left)
             self.old result self.new }
         ensures goes { MakesProgress (λ _. ⊤) (item_count (λ pieces. pieces.left)) self.old result self.new }
+        ensures gives { GivesLast (view_bits (read_by T.BitRegister O.position)) view_head self.old result self.new }
         ensures bits { self.new.bits ≡ self.old.bits }
         ensures size { self.new.size ≡ self.old.size }
     {

@@ -4,7 +4,7 @@
 -- `parts_place`, `parts_len`; its bits and its frame as they are then: `parts_whole`, `parts_around`. What is left to
 -- be split: `parts_left`; how many parts may still come: `parts_most`. The part that was found:
 -- `parts_found_start`, `parts_found_len`, `parts_found`. Freshly made: `SplitsAll`. Calls: `KeepsWindow`.
-use Rattle.std.specs.Prelude.{ℕ, ◌≡◌, ◌+◌, ◌*◌, ◌<◌, ◌≤◌, ◌^◌, List, Bool, length, Option, Some, None}
+use Rattle.std.specs.Prelude.{ℕ, ◌≡◌, ◌+◌, ◌*◌, ◌%◌, ◌<◌, ◌≤◌, ◌^◌, List, Bool, length, Option, Some, None}
 use Rattle.std.proofs.Common.{cond}
 use Rattle.bit_addressing_memory.specs.Memory.{Reading, memory, piece}
 use Rattle.bit_addressing_span.specs.declared.span.TheConstants.{MAX_BITS}
@@ -60,6 +60,7 @@ parts_around reading lender words parts =
 abbrev pub parts_left : {V F A B S O : Type 0} → Reading S → (V → List S) → SplitsMut V F A B S O → SplitLeft F
 parts_left reading words parts = record {
   bits = piece (piece (memory reading (words parts.of.now)) parts.head parts.len) parts.from parts.count;
+  head = (parts.head + parts.from) % reading.bits;
   callee = parts.f;
   done = parts.done;
 }

@@ -2,7 +2,7 @@
 --
 -- Where the parts stand: `PartsState`, `state_left`. One part, in a way: `TakesPart`; all that is left: `TakesRest`; of
 -- so many at most: `TakesUpTo`.
-use Rattle.std.specs.Prelude.{ℕ, ◌≡◌, ◌+◌, List, Bool, true, Option}
+use Rattle.std.specs.Prelude.{ℕ, ◌≡◌, ◌+◌, ◌%◌, List, Bool, true, Option}
 use Rattle.std.specs.Borrow.{Bor}
 use Rattle.std.specs.Fn.{Mut}
 use Rattle.std.specs.Option.{MatchOption}
@@ -41,6 +41,7 @@ parts_state parts = record {
 abbrev pub state_left : {F S : Type 0} → Reading S → List S → PartsState F → SplitLeft F
 state_left reading words s = record {
   bits = piece (piece (memory reading words) s.place s.len) s.from s.count;
+  head = (s.place + s.from) % reading.bits;
   callee = s.callee;
   done = s.done;
 }

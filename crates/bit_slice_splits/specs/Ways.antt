@@ -2,9 +2,9 @@
 --
 -- Which indices are tried, and what comes off: `SplitWay`, and `from_front`, `from_back`, `inclusive_front`,
 -- `inclusive_back`. What the predicate is handed and answers: `Asked`, `Asks`, `AnswersBit`. A part that comes off:
--- `Parts`, `Ends`, `GivesPart`, and of so many at most `CountsDown`, `PartsUpTo`. What an iterator has left:
--- `SplitLeft`, `SplitNLeft`.
-use Rattle.std.proofs.Common.{◌≡◌, ℕ, ◌+◌, ◌-◌, ◌≤◌, Bool, true, false, cond, List, length, get_or, nat_eq}
+-- `Parts`, `Ends`, and where it lies, `PartsFrom`, `EndsFrom`; `GivesPart`, and of so many at most `CountsDown`,
+-- `PartsUpTo`. What an iterator has left: `SplitLeft`, `SplitNLeft`.
+use Rattle.std.proofs.Common.{◌≡◌, ℕ, ◌+◌, ◌-◌, ◌%◌, ◌≤◌, Bool, true, false, cond, List, length, get_or, nat_eq}
 use Rattle.std.proofs.Common.{nat_lt, Bor, Option, None, ◌<◌}
 use Rattle.std.specs.Fn.{Called, Mut}
 use Rattle.std.specs.Bool.{MatchBool}
@@ -90,9 +90,11 @@ pub record Asks {F : Type 0} (way : SplitWay) (g : Mut F (ℕ × (Bor Bool × Un
   pub there : MatchBool (nat_lt m (way.tries (length bits)))
       (Asked g mid (way.index (length bits) m) (get_or bits (way.index (length bits) m) false) true f') (f' ≡ mid)
 
--- an iterator over the parts: the bits not yet split, the predicate, and whether no part is left
+-- an iterator over the parts: the bits not yet split, the index of the first of them in its word, the predicate, and
+-- whether no part is left
 pub record SplitLeft (F : Type 0) : Type 0 where
   pub bits : List Bool
+  pub head : ℕ
   pub callee : F
   pub done : Bool
 
@@ -117,11 +119,25 @@ pub record Ends {F : Type 0} (before : SplitLeft F) (part : List Bool) (after : 
   pub callee_is : after.callee ≡ before.callee
   pub done_is : after.done ≡ true
 
+-- a part comes off one end of what is left, and it and what is left then lie where the way says: `head` is the index
+-- of the part's first bit in its word, of b bits
+pub record PartsFrom {F : Type 0} (b : ℕ) (way : SplitWay) (g : Mut F (ℕ × (Bor Bool × Unit {0})) Bool)
+    (before : SplitLeft F) (part : List Bool) (head : ℕ) (after : SplitLeft F) : Type 0 where
+  pub parts : Parts way g before part after
+  pub head_is : head ≡ (before.head + way.start (length before.bits) parts.asked) % b
+  pub rest_head_is : after.head ≡ (before.head + way.rest (length before.bits) parts.asked) % b
+
+-- all bits that are left come as the last part, from where they lie
+pub record EndsFrom {F : Type 0} (before : SplitLeft F) (part : List Bool) (head : ℕ) (after : SplitLeft F) : Type 0 where
+  pub ends : Ends before part after
+  pub head_is : head ≡ before.head
+  pub rest_head_is : after.head ≡ before.head
+
 -- what a call gives that gives a part so where one is left, and else nothing and stays
-abbrev pub GivesPart : {F A : Type 0} → (A → List Bool) → (SplitLeft F → List Bool → SplitLeft F → Type 0)
-    → SplitLeft F → Option A → SplitLeft F → Type 0
-GivesPart view how before r after =
-    MatchOption r ((before.done ≡ true) × (after ≡ before)) (λ part. how before (view part) after)
+abbrev pub GivesPart : {F A : Type 0} → (A → List Bool) → (A → ℕ)
+    → (SplitLeft F → List Bool → ℕ → SplitLeft F → Type 0) → SplitLeft F → Option A → SplitLeft F → Type 0
+GivesPart view head how before r after =
+    MatchOption r ((before.done ≡ true) × (after ≡ before)) (λ part. how before (view part) (head part) after)
 
 -- an iterator over so many parts at most: the parts, and how many may come
 pub record SplitNLeft (F : Type 0) : Type 0 where
@@ -136,8 +152,9 @@ pub record CountsDown {S R : Type 0} (count : S → ℕ) (next rest : S → Opti
   pub more : 1 < count before → (count after + 1 ≡ count before) × next before r after
 
 -- while more than one part may come, the next one does; the last that may come has all bits that are left
-abbrev pub PartsUpTo : {F A : Type 0} → (A → List Bool) → SplitWay → Mut F (ℕ × (Bor Bool × Unit {0})) Bool
-    → SplitNLeft F → Option A → SplitNLeft F → Type 0
-PartsUpTo view way g =
-    CountsDown (λ left. left.count) (λ before r after. GivesPart view (Parts way g) before.parts r after.parts)
-    (λ before r after. GivesPart view Ends before.parts r after.parts)
+abbrev pub PartsUpTo : {F A : Type 0} → (A → List Bool) → (A → ℕ) → ℕ → SplitWay
+    → Mut F (ℕ × (Bor Bool × Unit {0})) Bool → SplitNLeft F → Option A → SplitNLeft F → Type 0
+PartsUpTo view head b way g =
+    CountsDown (λ left. left.count)
+    (λ before r after. GivesPart view head (PartsFrom b way g) before.parts r after.parts)
+    (λ before r after. GivesPart view head EndsFrom before.parts r after.parts)

@@ -17,6 +17,7 @@ pub trait BitsSplits: Bits {
         f: F,
     ) -> Split<'_, Self::Store, Self::Order, F>
         ensures bits { result.bits ≡ Self.bits self.now }
+        ensures head { result.head ≡ Self.start self.now }
         ensures callee { result.callee ≡ f }
         ensures done { result.done ≡ false }
     {
@@ -29,6 +30,7 @@ pub trait BitsSplits: Bits {
         f: F,
     ) -> SplitInclusive<'_, Self::Store, Self::Order, F>
         ensures bits { result.bits ≡ Self.bits self.now }
+        ensures head { result.head ≡ Self.start self.now }
         ensures callee { result.callee ≡ f }
         ensures done { IsTrue result.done ↔ (length (Self.bits self.now) ≡ 0) }
     {
@@ -41,6 +43,7 @@ pub trait BitsSplits: Bits {
         f: F,
     ) -> RSplit<'_, Self::Store, Self::Order, F>
         ensures bits { result.bits ≡ Self.bits self.now }
+        ensures head { result.head ≡ Self.start self.now }
         ensures callee { result.callee ≡ f }
         ensures done { result.done ≡ false }
     {
@@ -54,6 +57,7 @@ pub trait BitsSplits: Bits {
         f: F,
     ) -> SplitN<'_, Self::Store, Self::Order, F>
         ensures bits { result.parts.bits ≡ Self.bits self.now }
+        ensures head { result.parts.head ≡ Self.start self.now }
         ensures callee { result.parts.callee ≡ f }
         ensures done { result.parts.done ≡ false }
         ensures count { result.count ≡ count }
@@ -68,6 +72,7 @@ pub trait BitsSplits: Bits {
         f: F,
     ) -> RSplitN<'_, Self::Store, Self::Order, F>
         ensures bits { result.parts.bits ≡ Self.bits self.now }
+        ensures head { result.parts.head ≡ Self.start self.now }
         ensures callee { result.parts.callee ≡ f }
         ensures done { result.parts.done ≡ false }
         ensures count { result.count ≡ count }

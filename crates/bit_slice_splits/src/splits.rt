@@ -1,11 +1,11 @@
 //! The parts of a window between the places where a predicate answers true, one after another, from both ends.
 
-ghost use Rattle.std.specs.Prelude.{◌≡◌, ◌+◌, ◌-◌, ◌<◌, ◌≤◌, true, false, length, if◌then◌else◌, IfSome, None};
+ghost use Rattle.std.specs.Prelude.{◌≡◌, ◌+◌, ◌-◌, ◌<◌, ◌≤◌, true, false, length, if◌then◌else◌, IfSome, Some};
 ghost use Rattle.std.specs.Iterator.{at_most, UpTo};
 ghost use Rattle.std.specs.Iterator.SizeHint.{IsWithinCount};
 ghost use Rattle.bit_addressing_memory.specs.Memory.{piece, read_by};
-ghost use Rattle.bit_slice_views.specs.View.{view_bits};
-ghost use Rattle.bit_slice_splits.specs.Ways.{Ends, GivesPart, Parts};
+ghost use Rattle.bit_slice_views.specs.View.{view_bits, view_head};
+ghost use Rattle.bit_slice_splits.specs.Ways.{EndsFrom, GivesPart, PartsFrom};
 
 use crate::search::asked_in;
 use crate::ways::{FromBack, FromFront, InclusiveBack, InclusiveFront, SplitEnd};
@@ -13,8 +13,8 @@ use bit_addressing_memory::{BitOrder, BitRegister};
 use bit_slice_views::{BitSlice, Bits};
 use std::marker::{Model, PhantomData};
 
-/// The parts of a window that are left; a contract sees the bits not yet split, the predicate, and whether no part is
-/// left.
+/// The parts of a window that are left; a contract sees the bits not yet split, the index of the first of them in its
+/// word, the predicate, and whether no part is left.
 ///
 /// After the last part it gives `None` for good.
 #[derive(Drop)]
@@ -37,22 +37,24 @@ pub type SplitInclusive<'a, T, O, F> = Splits<'a, T, O, F, InclusiveFront, Inclu
 impl<'a, T: BitRegister, O: BitOrder<T>, F, A: SplitEnd, B: SplitEnd> Model
     for Splits<'a, T, O, F, A, B> {
     ghost use Rattle.bit_addressing_memory.specs.Memory.{read_by};
-    ghost use Rattle.bit_slice_views.specs.View.{view_bits};
+    ghost use Rattle.bit_slice_views.specs.View.{view_bits, view_head};
     ghost use Rattle.bit_slice_splits.specs.Ways.{SplitLeft};
 
     ghost Value = { SplitLeft F };
 
     ghost view = { λ splits. record {
       bits = view_bits (read_by T.BitRegister O.position) splits.view;
+      head = view_head splits.view;
       callee = splits.f;
       done = splits.done;
     } };
 }
 
 impl<'a, T: BitRegister, O: BitOrder<T>, F, A: SplitEnd, B: SplitEnd> Splits<'a, T, O, F, A, B> {
-    /// The parts of a window, none where `done` is true.
-    pub(crate) fn new(view: BitSlice<'a, T, O>, f: F, done: bool) -> Splits<'a, T, O, F, A, B>
+    /// The parts of a window, which live as long as its words; none where `done` is true.
+    pub fn new(view: BitSlice<'a, T, O>, f: F, done: bool) -> Splits<'a, T, O, F, A, B>
         ensures bits { result.bits ≡ view_bits (read_by T.BitRegister O.position) view.entry }
+        ensures head { result.head ≡ view_head view.entry }
         ensures callee { result.callee ≡ f }
         ensures done { result.done ≡ done }
     {
@@ -66,7 +68,8 @@ impl<'a, T: BitRegister, O: BitOrder<T>, F, A: SplitEnd, B: SplitEnd> Splits<'a,
 
     // All bits that are left, as the last part.
     pub(crate) fn finish(&mut self) -> Option<BitSlice<'a, T, O>>
-        ensures { GivesPart (view_bits (read_by T.BitRegister O.position)) Ends self.old result self.new }
+        ensures { GivesPart (view_bits (read_by T.BitRegister O.position)) view_head EndsFrom self.old result
+            self.new }
     {
         if self.done {
             return None;
@@ -88,7 +91,8 @@ impl<
 
     ghost can_next = { λ splits. F.IsAlwaysCallable splits.callee };
 
-    ghost next_gives = { GivesPart (view_bits (read_by T.BitRegister O.position)) (Parts A.way F.FnMut) };
+    ghost next_gives = { GivesPart (view_bits (read_by T.BitRegister O.position)) view_head
+        (PartsFrom T.BITS A.way F.FnMut) };
 
     ghost remaining = { λ s. at_most (if s.done then 0 else length s.bits + 1) };
 
@@ -107,9 +111,13 @@ impl<
     fn size_hint(&self) -> (usize, Option<usize>)
         ensures lower { IsWithinCount result.0 (at_most (if self.now.done then 0 else length self.now.bits + 1)) }
         ensures upper { IfSome result.1 (UpTo (at_most (if self.now.done then 0 else length self.now.bits + 1))) }
-        ensures exact { result ≡ (0, None) }
+        ensures exact { result ≡ (0, Some (if self.now.done then 0 else length self.now.bits + 1)) }
     {
-        (0, None)
+        if self.done {
+            return (0, Some(0));
+        }
+        let (_, _, left) = self.view.parts();
+        (0, Some(left + 1))
     }
 }
 
@@ -123,7 +131,8 @@ impl<
 > DoubleEndedIterator for Splits<'a, T, O, F, A, B> {
     ghost can_next_back = { λ splits. F.IsAlwaysCallable splits.callee };
 
-    ghost next_back_gives = { GivesPart (view_bits (read_by T.BitRegister O.position)) (Parts B.way F.FnMut) };
+    ghost next_back_gives = { GivesPart (view_bits (read_by T.BitRegister O.position)) view_head
+        (PartsFrom T.BITS B.way F.FnMut) };
 
     fn next_back(&mut self) -> Option<BitSlice<'a, T, O>> {
         if self.done {

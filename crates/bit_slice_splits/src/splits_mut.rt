@@ -7,7 +7,7 @@ ghost use Rattle.bit_addressing_span.specs.declared.span.TheConstants.{MAX_BITS}
 ghost use Rattle.bit_slice_splits.specs.Lending.{LendsNext, LendsPart};
 ghost use Rattle.bit_slice_splits.specs.SplitsMut.{parts_around, parts_found_len, parts_found_start};
 ghost use Rattle.bit_slice_splits.specs.SplitsMut.{parts_callee, parts_count, parts_done, parts_found, parts_most};
-ghost use Rattle.bit_slice_splits.specs.SplitsMut.{parts_loan, parts_place, parts_view, parts_whole};
+ghost use Rattle.bit_slice_splits.specs.SplitsMut.{parts_len, parts_loan, parts_place, parts_view, parts_whole};
 ghost use Rattle.bit_slice_splits.specs.SplitsMut.{KeepsWindow, LiesIn, PartsBy, SplitsAll};
 ghost use Rattle.bit_slice_splits.specs.Takes.{parts_state, TakesPart, TakesRest};
 
@@ -15,7 +15,7 @@ use crate::search::asked_in;
 use crate::ways::{FromBack, FromFront, InclusiveBack, InclusiveFront, Parting, SplitEnd};
 use bit_addressing_memory::BitRegister;
 use bit_slice_views::Bits;
-use bit_slice_views_mut::{BitsMut, BitsWindow};
+use bit_slice_views_mut::{BitsMut, BitsShown, BitsWindow};
 use std::marker::PhantomData;
 
 /// The parts of a writable window that were not lent yet, of which one is lent at a time.
@@ -47,9 +47,9 @@ pub type SplitInclusiveMut<'s, V, F> = SplitsMut<'s, V, F, InclusiveFront, Inclu
 #[tactic(auto, using(bit_slice_access::proofs::PartLemmas::shows_all, bit_slice_access::proofs::PartLemmas::framed_all))]
 impl<V: BitsWindow, F: Drop, A, B> Drop for SplitsMut<'_, V, F, A, B> {
     fn drop(self)
-        requires fits { self.head + self.len ≤ length (V.words self.of.now) * V.Store.BITS }
-        requires short { self.len ≤ MAX_BITS }
-        requires small { self.head + self.len < 2 ^ 63 }
+        requires fits { parts_place self + parts_len self ≤ length (V.words (parts_view self)) * V.Store.BITS }
+        requires short { parts_len self ≤ MAX_BITS }
+        requires small { parts_place self + parts_len self < 2 ^ 63 }
         ensures bits { V.bits self.exit.0.now
             ≡ parts_whole (read_by V.Store.BitRegister V.Order.position) V.words self.entry }
         ensures frame { V.frame self.exit.0.now

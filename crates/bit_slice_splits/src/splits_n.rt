@@ -4,7 +4,7 @@ ghost use Rattle.std.specs.Prelude.{◌≡◌, false, IfSome, Some};
 ghost use Rattle.std.specs.Iterator.{at_most, UpTo};
 ghost use Rattle.std.specs.Iterator.SizeHint.{IsWithinCount};
 ghost use Rattle.bit_addressing_memory.specs.Memory.{read_by};
-ghost use Rattle.bit_slice_views.specs.View.{view_bits};
+ghost use Rattle.bit_slice_views.specs.View.{view_bits, view_head};
 ghost use Rattle.bit_slice_splits.specs.Ways.{PartsUpTo};
 
 use crate::splits::Splits;
@@ -41,6 +41,7 @@ impl<'a, T: BitRegister, O: BitOrder<T>, F, A: SplitEnd> SplitsN<'a, T, O, F, A>
     /// At most `count` parts of a window.
     pub fn new(view: BitSlice<'a, T, O>, count: usize, f: F) -> SplitsN<'a, T, O, F, A>
         ensures bits { result.parts.bits ≡ view_bits (read_by T.BitRegister O.position) view.entry }
+        ensures head { result.parts.head ≡ view_head view.entry }
         ensures callee { result.parts.callee ≡ f }
         ensures done { result.parts.done ≡ false }
         ensures count { result.count ≡ count }
@@ -63,7 +64,7 @@ impl<
 
     ghost can_next = { λ splits. F.IsAlwaysCallable splits.parts.callee };
 
-    ghost next_gives = { PartsUpTo (view_bits (read_by T.BitRegister O.position)) A.way F.FnMut };
+    ghost next_gives = { PartsUpTo (view_bits (read_by T.BitRegister O.position)) view_head T.BITS A.way F.FnMut };
 
     ghost remaining = { λ splits. at_most splits.count };
 

@@ -1,16 +1,16 @@
 //! Callers of pieces of windows, each with a contract that follows from those of its calls.
 
-ghost use Rattle.std.specs.Prelude.{◌≡◌, ◌+◌, ◌*◌, ◌<◌, ◌≤◌, length, slice_get, slice_set, true};
+ghost use Rattle.std.specs.Prelude.{◌≡◌, ◌+◌, ◌-◌, ◌*◌, ◌%◌, ◌<◌, ◌≤◌, length, slice_get, slice_set, true};
 ghost use Rattle.std.specs.Option.{option_map};
-ghost use Rattle.bit_addressing_memory.specs.Memory.{memory, read_by};
-ghost use Rattle.bit_slice_views.specs.View.{view_bits};
-ghost use Rattle.bit_slice_iterators.specs.Cuts.{chunks};
+ghost use Rattle.bit_addressing_memory.specs.Memory.{memory, piece, read_by};
+ghost use Rattle.bit_slice_views.specs.View.{view_bits, view_head};
+ghost use Rattle.bit_slice_iterators.specs.Cuts.{chunks, forward, heads_of};
 ghost use Rattle.bit_slice_tests.specs.Marked.{marked};
 ghost use Rattle.std.specs.Int.{div_ceil};
 
 use bit_addressing_memory::{BitOrder, BitRegister};
 use bit_addressing_span::MAX_BITS;
-use bit_slice_iterators::{BitsPiecesMut, Chunks};
+use bit_slice_iterators::{BitsPiecesMut, Chunks, ChunksExact};
 use bit_slice_views::{BitSlice, Bits};
 use bit_slice_views_mut::{BitSliceMut, BitsMut, BitsWindow};
 
@@ -18,11 +18,31 @@ use bit_slice_views_mut::{BitSliceMut, BitsMut, BitsWindow};
 pub fn third_chunk<'a, T: BitRegister + 'a, O: BitOrder<T>>(
     view: BitSlice<'a, T, O>,
 ) -> Option<BitSlice<'a, T, O>>
-    ensures { option_map (view_bits (read_by T.BitRegister O.position)) result
+    ensures bits { option_map (view_bits (read_by T.BitRegister O.position)) result
         ≡ slice_get (chunks (view_bits (read_by T.BitRegister O.position) view.entry) 5) 2 }
+    ensures head { option_map view_head result ≡ slice_get (heads_of forward T.BITS (view_head view.entry)
+        (length (view_bits (read_by T.BitRegister O.position) view.entry)) 5) 2 }
 {
     let mut pieces = Chunks::<T, O>::new(view, 5);
     pieces.nth(2)
+}
+
+/// The bits in no whole chunk of four, asked for after the second chunk.
+pub fn rest_after_second<'a, T: BitRegister + 'a, O: BitOrder<T>>(
+    view: BitSlice<'a, T, O>,
+) -> BitSlice<'a, T, O>
+    ensures bits { view_bits (read_by T.BitRegister O.position) result
+        ≡ piece (view_bits (read_by T.BitRegister O.position) view.entry)
+        (length (view_bits (read_by T.BitRegister O.position) view.entry)
+        - length (view_bits (read_by T.BitRegister O.position) view.entry) % 4)
+        (length (view_bits (read_by T.BitRegister O.position) view.entry) % 4) }
+    ensures head { view_head result ≡ (view_head view.entry
+        + (length (view_bits (read_by T.BitRegister O.position) view.entry)
+        - length (view_bits (read_by T.BitRegister O.position) view.entry) % 4)) % T.BITS }
+{
+    let mut pieces = ChunksExact::<T, O>::new(view, 4);
+    pieces.nth(1);
+    pieces.remainder()
 }
 
 /// The first bit of each chunk set, whatever the window.

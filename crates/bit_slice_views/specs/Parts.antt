@@ -1,5 +1,5 @@
 -- What a window cut at the borders of its words shows: its parts' bits, in order, and how it is cut.
-use Rattle.std.specs.Prelude.{◌≡◌, ◌+◌, ◌<◌, Bool, List, [], ◌++◌, length, Option, Some, None, IfSome}
+use Rattle.std.specs.Prelude.{ℕ, ◌≡◌, ◌+◌, ◌<◌, Bool, List, [], ◌++◌, length, Option, Some, None, IfSome}
 use Rattle.std.specs.Borrow.{Bor}
 use Rattle.bit_addressing_memory.specs.Memory.{Reading, memory}
 use Rattle.bit_slice_views.specs.View.{view_bits, view_head}
@@ -59,3 +59,13 @@ IsBitCut reading (Region head body tail) = IfSome head (IsHeadPart reading) × I
 abbrev pub IsOnePart : {T O : Type 0} {g : _} → BitDomain T O g → Type 0
 IsOnePart (Enclave view) = Unit {0}
 IsOnePart (Region head body tail) = ⊥
+
+-- the index in its word at which a part begins, and 0 where there is none
+abbrev pub option_start : {T O : Type 0} {g : _} → Option (BitSlice T O g) → ℕ
+option_start None = 0
+option_start (Some view) = view_head view
+
+-- the index in its first word at which the parts begin
+abbrev pub parts_start : {T O : Type 0} {g : _} → BitDomain T O g → ℕ
+parts_start (Enclave view) = view_head view
+parts_start (Region head body tail) = option_start head

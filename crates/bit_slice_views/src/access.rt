@@ -1,6 +1,6 @@
 //! One bit or a part of a window, by its index or at an end.
 
-ghost use Rattle.std.specs.Prelude.{◌≡◌, ◌-◌, ◌<◌, ◌≤◌, ◌↔◌, false, length, take, drop, slice_index_or, IfSome, IsSome};
+ghost use Rattle.std.specs.Prelude.{◌≡◌, ◌+◌, ◌-◌, ◌%◌, ◌<◌, ◌≤◌, ◌↔◌, false, length, take, drop, slice_index_or, IfSome, IsSome};
 ghost use Rattle.bit_addressing_memory.specs.Memory.{read_by};
 ghost use Rattle.bit_slice_views.specs.BitRef.{bit_value};
 ghost use Rattle.bit_slice_views.specs.View.{view_bits, view_head};
@@ -64,6 +64,7 @@ impl<'a, T: BitRegister, O: BitOrder<T>> BitSlice<'a, T, O> {
             ≡ slice_index_or (view_bits (read_by T.BitRegister O.position) self.entry) 0 false) }
         ensures rest { IfSome result (λ parts. view_bits (read_by T.BitRegister O.position) parts.1
             ≡ drop 1 (view_bits (read_by T.BitRegister O.position) self.entry)) }
+        ensures head { IfSome result (λ parts. view_head parts.1 ≡ (view_head self.entry + 1) % T.BITS) }
     {
         if self.is_empty() {
             return None;
@@ -81,6 +82,7 @@ impl<'a, T: BitRegister, O: BitOrder<T>> BitSlice<'a, T, O> {
         ensures rest { IfSome result (λ parts. view_bits (read_by T.BitRegister O.position) parts.1
             ≡ take (length (view_bits (read_by T.BitRegister O.position) self.entry) - 1)
             (view_bits (read_by T.BitRegister O.position) self.entry)) }
+        ensures head { IfSome result (λ parts. view_head parts.1 ≡ view_head self.entry) }
     {
         if self.is_empty() {
             return None;
@@ -97,6 +99,8 @@ impl<'a, T: BitRegister, O: BitOrder<T>> BitSlice<'a, T, O> {
             ≡ take i (view_bits (read_by T.BitRegister O.position) self.entry) }
         ensures right { view_bits (read_by T.BitRegister O.position) result.1
             ≡ drop i (view_bits (read_by T.BitRegister O.position) self.entry) }
+        ensures left_head { view_head result.0 ≡ view_head self.entry }
+        ensures right_head { view_head result.1 ≡ (view_head self.entry + i) % T.BITS }
     {
         self.split_at(i)
     }

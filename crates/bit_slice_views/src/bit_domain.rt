@@ -2,10 +2,10 @@
 
 ghost use Rattle.std.specs.Prelude.{◌≡◌, ◌-◌, ◌<◌, ◌↔◌, length, IfSome, ⊤};
 ghost use Rattle.bit_addressing_memory.specs.Memory.{read_by};
-ghost use Rattle.bit_addressing_span.specs.Domain.{domain_bits, option_bits, IsCut, IsEnclave, IsHead, IsTail};
+ghost use Rattle.bit_addressing_span.specs.Domain.{domain_bits, domain_start, option_bits, IsCut, IsEnclave, IsHead, IsTail};
 ghost use Rattle.bit_addressing_span.specs.PartialElement.{partial_bits, partial_head, partial_tail};
 ghost use Rattle.bit_slice_views.specs.Parts.{option_view_bits, parts_bits, IsBitCut, IsHeadPart, IsOnePart};
-ghost use Rattle.bit_slice_views.specs.Parts.{IsTailPart};
+ghost use Rattle.bit_slice_views.specs.Parts.{IsTailPart, option_start, parts_start};
 ghost use Rattle.bit_slice_views.specs.View.{view_bits, view_head};
 
 use crate::view::BitSlice;
@@ -95,6 +95,7 @@ pub fn into_bit_domain<'a, T: BitRegister, O: BitOrder<T>>(
         ≡ domain_bits (read_by T.BitRegister O.position) domain.entry }
     ensures enclave { IsOnePart result ↔ IsEnclave domain.entry }
     ensures cut { IsCut T.BITS domain.entry → IsBitCut (read_by T.BitRegister O.position) result }
+    ensures start { parts_start result ≡ domain_start domain.entry }
 {
     match domain {
         Domain::Enclave(part) => BitDomain::Enclave(view_of(part)),
@@ -124,6 +125,7 @@ fn view_of_option<'a, T: BitRegister, O: BitOrder<T>>(
 ) -> Option<BitSlice<'a, T, O>>
     ensures bits { option_view_bits (read_by T.BitRegister O.position) result
         ≡ option_bits (read_by T.BitRegister O.position) part.entry }
+    ensures start { (body : _) → (tail : _) → option_start result ≡ domain_start (Domain.Region part.entry body tail) }
     ensures head { IfSome part.entry (IsHead T.BITS)
         → IfSome result (IsHeadPart (read_by T.BitRegister O.position)) }
     ensures tail { IfSome part.entry (IsTail T.BITS)
@@ -138,7 +140,6 @@ fn view_of_option<'a, T: BitRegister, O: BitOrder<T>>(
 // Cut at the borders of words.
 #[tactic(auto, using(crate::proofs::ViewLemmas::views))]
 impl<'a, T: BitRegister, O: BitOrder<T>> BitSlice<'a, T, O> {
-    ghost use Rattle.bit_addressing_span.specs.Domain.{domain_start};
     ghost use Rattle.bit_addressing_span.specs.Span.{extent, LiesInside};
 
     /// The words that the bits stand in, cut at their borders: each bit once, in order, and no other.
@@ -163,6 +164,8 @@ impl<'a, T: BitRegister, O: BitOrder<T>> BitSlice<'a, T, O> {
         ensures enclave { IsOnePart result ↔ LiesInside T.BITS
             (extent 0 (view_head self.entry) (length (view_bits (read_by T.BitRegister O.position) self.entry))) }
         ensures cut { IsBitCut (read_by T.BitRegister O.position) result }
+        ensures start { 0 < length (view_bits (read_by T.BitRegister O.position) self.entry)
+            → parts_start result ≡ view_head self.entry }
     {
         into_bit_domain(self.domain())
     }

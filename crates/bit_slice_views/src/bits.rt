@@ -13,7 +13,7 @@ ghost use Rattle.bit_slice_words.specs.Holds.{Holds};
 ghost use Rattle.bit_slice_views.specs.Ends.{leading, trailing};
 ghost use Rattle.bit_addressing_memory.specs.Memory.{read_by};
 ghost use Rattle.bit_slice_views.specs.BitRef.{bit_value};
-ghost use Rattle.bit_slice_views.specs.View.{view_bits};
+ghost use Rattle.bit_slice_views.specs.View.{view_bits, view_head};
 
 use crate::compare::{compare_views, equal_views, view_contains, view_ends, view_starts};
 use crate::index::BitRef;
@@ -25,7 +25,8 @@ use std::hash::{Hash, Hasher};
 
 /// What shows a list of bits: a window, shared or writable, and each container.
 ///
-/// A contract sees it as `bits`, and each call that reads stands here once.
+/// A contract sees its list as `bits`, and the index of the first one in the word where it lies as `start`; each call
+/// that reads stands here once.
 pub trait Bits {
     type Store: BitRegister;
 
@@ -33,9 +34,13 @@ pub trait Bits {
 
     ghost bits: { Self → List Bool };
 
+    // The index of its first bit in the word where it lies.
+    ghost start: { Self → ℕ };
+
     /// All bits, as a shared window.
     fn as_bitslice(&self) -> BitSlice<'_, Self::Store, Self::Order>
-        ensures { view_bits (read_by Self.Store.BitRegister Self.Order.position) result ≡ bits self.now };
+        ensures bits { view_bits (read_by Self.Store.BitRegister Self.Order.position) result ≡ bits self.now }
+        ensures head { view_head result ≡ start self.now };
 
     /// How many bits there are.
     final fn len(&self) -> usize

@@ -1,13 +1,13 @@
 //! Windows compared as lists of bits, whatever their words and orders are.
 
-ghost use Rattle.std.specs.Prelude.{◌≡◌, ◌+◌, ◌-◌, ◌*◌, ◌^◌, ◌<◌, ◌≤◌, ◌↔◌, length, take, drop, IfSome, IsSome, IsTrue};
+ghost use Rattle.std.specs.Prelude.{◌≡◌, ◌+◌, ◌-◌, ◌*◌, ◌%◌, ◌^◌, ◌<◌, ◌≤◌, ◌↔◌, length, take, drop, IfSome, IsSome, IsTrue};
 ghost use Rattle.std.specs.Cmp.Lexicographic.{slice_cmp};
 ghost use Rattle.std.specs.Ordering.{bool_cmp, as_partial_cmp};
 ghost use Rattle.bit_addressing_memory.specs.Memory.{memory, piece, read_by, reading_in};
 ghost use Rattle.bit_slice_words.specs.Holds.{Holds};
 ghost use Rattle.bit_slice_views.specs.Compare.{bits_eq, bits_cmp, bits_fed, bits_equiv, bits_per, bits_total};
 ghost use Rattle.bit_slice_views.specs.Compare.{bits_ties, bits_po, bits_alike};
-ghost use Rattle.bit_slice_views.specs.View.{view_bits};
+ghost use Rattle.bit_slice_views.specs.View.{view_bits, view_head};
 
 use crate::bits::Bits;
 use crate::view::BitSlice;
@@ -78,6 +78,8 @@ impl<'a, T: BitRegister, O: BitOrder<T>> BitSlice<'a, T, O> {
             ≡ V.bits prefix.now) }
         ensures rest { IfSome result (λ rest. view_bits (read_by T.BitRegister O.position) rest
             ≡ drop (length (V.bits prefix.now)) (view_bits (read_by T.BitRegister O.position) self.entry)) }
+        ensures head { IfSome result
+            (λ rest. view_head rest ≡ (view_head self.entry + length (V.bits prefix.now)) % T.BITS) }
     {
         if !self.starts_with(prefix) {
             return None;
@@ -94,6 +96,7 @@ impl<'a, T: BitRegister, O: BitOrder<T>> BitSlice<'a, T, O> {
         ensures rest { IfSome result (λ rest. view_bits (read_by T.BitRegister O.position) rest
             ≡ take (length (view_bits (read_by T.BitRegister O.position) self.entry) - length (V.bits suffix.now))
             (view_bits (read_by T.BitRegister O.position) self.entry)) }
+        ensures head { IfSome result (λ rest. view_head rest ≡ view_head self.entry) }
     {
         if !self.ends_with(suffix) {
             return None;

@@ -91,7 +91,9 @@ impl<'a, T: BitRegister, O: BitOrder<T>> TryFrom<&'a [T]> for BitSlice<'a, T, O>
     ghost try_from_gives = { λ words made. (IsOk made ↔ (length words.now * T.BITS ≤ MAX_BITS))
         × IfOk made (λ view. view_bits (read_by T.BitRegister O.position) view
         ≡ memory (read_by T.BitRegister O.position) words.now)
-        × IfErr made (λ error. error ≡ TooLong (min (length words.now * T.BITS) (2 ^ 64 - 1))) };
+        × IfErr made (λ error. error ≡ TooLong (min (length words.now * T.BITS) (2 ^ 64 - 1)))
+        × IfOk made (λ view. view_words view ≡ words.now)
+        × IfOk made (λ view. view_head view ≡ 0) };
 
     fn try_from(words: &'a [T]) -> Result<BitSlice<'a, T, O>, BitSpanError> {
         BitSlice::try_from_slice(words)

@@ -35,13 +35,15 @@ impl<'a, T: BitRegister, O> Clone for BitSlice<'a, T, O> {
 }
 
 impl<T: BitRegister, O: BitOrder<T>> Bits for BitSlice<'_, T, O> {
-    ghost use Rattle.bit_slice_views.specs.View.{view_bits};
+    ghost use Rattle.bit_slice_views.specs.View.{view_bits, view_head};
 
     type Store = T;
 
     type Order = O;
 
     ghost bits = { view_bits (read_by T.BitRegister O.position) };
+
+    ghost start = { view_head };
 
     fn as_bitslice(&self) -> BitSlice<'_, T, O> {
         *self

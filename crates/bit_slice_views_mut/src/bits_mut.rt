@@ -1,6 +1,6 @@
 //! What is written of a list of bits, whatever lends it.
 
-ghost use Rattle.std.specs.Prelude.{◌≡◌, ℕ, ◌+◌, ◌-◌, ◌*◌, ◌<◌, ◌≤◌, ◌^◌, ◌++◌, ◌&&◌, ◌||◌, List, Bool, false, not};
+ghost use Rattle.std.specs.Prelude.{◌≡◌, ℕ, ◌+◌, ◌-◌, ◌*◌, ◌%◌, ◌<◌, ◌≤◌, ◌^◌, ◌++◌, ◌&&◌, ◌||◌, List, Bool, false, not};
 ghost use Rattle.std.specs.Prelude.{length, map, min};
 ghost use Rattle.std.specs.Prelude.{drop, replicate, reverse, slice_index_or, slice_set, take};
 ghost use Rattle.std.specs.Bool.{xor};
@@ -62,6 +62,8 @@ pub trait BitsMut: Bits {
     ghost framed: { (v : Self) → frame v
         ≡ frame_of (read_by Self.Store.BitRegister Self.Order.position)
         (lender v) (words v) (place v) (length (Self.bits v)) };
+
+    ghost starts: { (v : Self) → Self.start v ≡ place v % Self.Store.BITS };
 
     /// Lends the words to a function that keeps each bit outside the window.
     final fn write<A, F: FnOnce(&mut [Self::Store]) -> A>(&mut self, f: F) -> A

@@ -7,7 +7,7 @@ ghost use Rattle.bit_addressing_span.specs.declared.span.TheConstants.{MAX_BITS}
 ghost use Rattle.bit_addressing_span.specs.declared.span_error.BitSpanError.TheVariants.{TooLong};
 
 use crate::bits_mut::BitsMut;
-use crate::bits_window::BitsWindow;
+use crate::bits_window::{BitsShown, BitsWindow};
 use bit_addressing_memory::{BitIdx, BitOrder, BitRegister, mem};
 use bit_addressing_span::{BitSpanError, MAX_BITS};
 use bit_slice_views::{BitSlice, Bits};
@@ -111,13 +111,16 @@ impl<'a, T: BitRegister, O: BitOrder<T>> BitSliceMut<'a, T, O> {
 
 #[tactic(auto, using(bit_slice_views::proofs::ViewLemmas::views))]
 impl<T: BitRegister, O: BitOrder<T>> Bits for BitSliceMut<'_, T, O> {
-    ghost use Rattle.bit_slice_views_mut.specs.ViewMut.{lent_bits};
+    ghost use Rattle.std.specs.Prelude.{◌%◌};
+    ghost use Rattle.bit_slice_views_mut.specs.ViewMut.{lent_bits, lent_place};
 
     type Store = T;
 
     type Order = O;
 
     ghost bits = { lent_bits (read_by T.BitRegister O.position) };
+
+    ghost start = { λ v. lent_place v % T.BITS };
 
     fn as_bitslice(&self) -> BitSlice<'_, T, O> {
         BitSlice::<T, O>::from_place(&*self.words, self.head, self.len)
@@ -154,15 +157,19 @@ impl<T: BitRegister, O: BitOrder<T>> BitsMut for BitSliceMut<'_, T, O> {
     ghost fits = { λ v. shown_fits (reading_in T.BITS T.number O.position) v.words.now v.head v.len v.fits };
 
     ghost framed = { λ v. refl };
+
+    ghost starts = { λ v. refl };
 }
 
 #[tactic(auto, using(crate::proofs::FrameLemmas::frames))]
-impl<T: BitRegister, O: BitOrder<T>> BitsWindow for BitSliceMut<'_, T, O> {
+impl<T: BitRegister, O: BitOrder<T>> BitsShown for BitSliceMut<'_, T, O> {
     fn show(&mut self, from: usize, count: usize) {
         self.head = from;
         self.len = count;
     }
 }
+
+impl<T: BitRegister, O: BitOrder<T>> BitsWindow for BitSliceMut<'_, T, O> {}
 
 // A function's work on words, which keeps how many there are.
 fn apply<T: BitRegister, A, F: FnOnce(&mut [T]) -> A>(words: &mut [T], f: F) -> A

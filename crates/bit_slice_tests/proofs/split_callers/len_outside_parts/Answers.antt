@@ -22,7 +22,7 @@ loop-part-init g c =
 pub overflow_sub-outside : goal.overflow_sub-outside
 overflow_sub-outside g c =
     let p = c.loop-part.parts in
-    let took = c.in-Some.ensures.steps in
+    let took = c.in-Some.ensures.steps.parts in
     let m = took.asked in
     let zeros = run_off p.bits c.next.new.self.bits m took.within
     (zeros_before from_front g.F.FnMut p.bits p.callee m c.next.new.self.callee c.requires.answers took.asks)
@@ -35,7 +35,7 @@ overflow_sub-outside g c =
 pub loop-part-preserved : goal.loop-part-preserved
 loop-part-preserved g c =
     let p = c.loop-part.parts in
-    let took = c.in-Some.ensures.steps in
+    let took = c.in-Some.ensures.steps.parts in
     let m = took.asked in
     let zeros = run_off p.bits c.next.new.self.bits m took.within
     (zeros_before from_front g.F.FnMut p.bits p.callee m c.next.new.self.callee c.requires.answers took.asks)

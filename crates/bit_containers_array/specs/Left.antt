@@ -1,5 +1,5 @@
 -- What is left of an array's bits.
-use Rattle.std.specs.Prelude.{Bool, List}
+use Rattle.std.specs.Prelude.{ℕ, Bool, List, length, min}
 use Rattle.bit_addressing_memory.specs.Memory.{Reading, piece}
 use Rattle.bit_containers_array.specs.Array.{array_bits, array_with, array_words}
 use Rattle.bit_containers_array.specs.declared.iter.IntoIter.{IntoIter}
@@ -7,6 +7,10 @@ use Rattle.bit_containers_array.specs.declared.iter.IntoIter.{IntoIter}
 -- the bits that an iterator has not given yet, at words that are read so
 abbrev pub left_bits : {A O S R : Type 0} → Reading R → (A → List R) → IntoIter A O S → List Bool
 left_bits reading words iter = piece (array_bits reading words iter.array) iter.from iter.count
+
+-- the place of the first of them in those words, or the end where none is left behind it
+abbrev pub left_place : {A O S R : Type 0} → Reading R → (A → List R) → IntoIter A O S → ℕ
+left_place reading words iter = min iter.from (length (array_bits reading words iter.array))
 
 -- the words of its array, and it with others in that
 abbrev pub left_words : {A O S R : Type 0} → (A → List R) → IntoIter A O S → List R

@@ -6,7 +6,7 @@ ghost use Rattle.std.specs.Iterator.{YieldsFirst, YieldsLast, item_count, UpTo};
 ghost use Rattle.std.specs.Iterator.SizeHint.{IsWithinCount};
 ghost use Rattle.bit_addressing_memory.specs.Memory.{piece, read_by};
 ghost use Rattle.bit_slice_views.specs.View.{view_bits};
-ghost use Rattle.bit_slice_views_mut.specs.ViewMut.{lent_bits, lent_lender, lent_words};
+ghost use Rattle.bit_slice_views_mut.specs.ViewMut.{lent_bits, lent_lender, lent_place, lent_words};
 
 use crate::array::BitArray;
 use crate::owned::BitsOwned;
@@ -30,7 +30,7 @@ pub struct IntoIter<A: BitViewSized, O: BitOrder<A::Store>> {
 #[tactic(auto, using(crate::proofs::LeftLemmas::left))]
 impl<A: BitViewSized, O: BitOrder<A::Store>> IntoIter<A, O> {
     ghost use Rattle.bit_containers_array.specs.Array.{array_bits};
-    ghost use Rattle.bit_containers_array.specs.Left.{left_bits, left_words, left_with};
+    ghost use Rattle.bit_containers_array.specs.Left.{left_bits, left_place, left_words, left_with};
     ghost use Rattle.bit_containers_array.specs.contracts.iter.IntoIter.{the_row};
 
     /// The bits of an array.
@@ -61,6 +61,7 @@ impl<A: BitViewSized, O: BitOrder<A::Store>> IntoIter<A, O> {
         ensures bits { lent_bits (read_by A.Store.BitRegister O.position) result
             ≡ left_bits (read_by A.Store.BitRegister O.position) A.words self.old }
         ensures words { lent_words result ≡ left_words A.words self.old }
+        ensures place { lent_place result ≡ left_place (read_by A.Store.BitRegister O.position) A.words self.old }
         ensures* lends { sem 𝓛 (follows (the_row A.row O.row A.Store.row) (Array A.Store.row 0)
             self.entry.ghost_name (lent_lender result) (left_with A.with_words self.old)) }
     {
@@ -84,6 +85,7 @@ impl<A: BitViewSized, O: BitOrder<A::Store>> IntoIter<A, O> {
         ensures bits { lent_bits (read_by A.Store.BitRegister O.position) result
             ≡ left_bits (read_by A.Store.BitRegister O.position) A.words self.old }
         ensures words { lent_words result ≡ left_words A.words self.old }
+        ensures place { lent_place result ≡ left_place (read_by A.Store.BitRegister O.position) A.words self.old }
         ensures* lends { sem 𝓛 (follows (the_row A.row O.row A.Store.row) (Array A.Store.row 0)
             self.entry.ghost_name (lent_lender result) (left_with A.with_words self.old)) }
     {

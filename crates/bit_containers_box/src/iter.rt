@@ -8,7 +8,7 @@ ghost use Rattle.bit_addressing_memory.specs.Memory.{read_by};
 ghost use Rattle.bit_addressing_span.specs.declared.span.TheConstants.{MAX_BITS};
 ghost use Rattle.bit_containers_box.specs.Box.{box_bits, box_words};
 ghost use Rattle.bit_slice_views.specs.View.{view_bits};
-ghost use Rattle.bit_slice_views_mut.specs.ViewMut.{lent_bits, lent_lender, lent_words};
+ghost use Rattle.bit_slice_views_mut.specs.ViewMut.{lent_bits, lent_lender, lent_place, lent_words};
 
 use crate::boxed::BitBox;
 use bit_addressing_memory::{BitOrder, BitRegister};
@@ -34,7 +34,7 @@ pub struct IntoIter<T: BitStore, O> {
 }
 
 impl<T: BitStore, O: BitOrder<T>> IntoIter<T, O> {
-    ghost use Rattle.bit_containers_box.specs.Left.{left_bits, left_words};
+    ghost use Rattle.bit_containers_box.specs.Left.{left_bits, left_place, left_words};
     ghost use Rattle.bit_containers_box.specs.Lending.{left_with};
     ghost use Rattle.bit_containers_box.specs.contracts.iter.IntoIter.{the_row};
 
@@ -53,6 +53,7 @@ impl<T: BitStore, O: BitOrder<T>> IntoIter<T, O> {
         ensures bits { lent_bits (read_by T.BitRegister O.position) result
             ≡ left_bits (read_by T.BitRegister O.position) self.old }
         ensures words { lent_words result ≡ left_words self.old }
+        ensures place { lent_place result ≡ left_place self.old }
         ensures* lends { sem 𝓛 (follows (the_row T.row O.row T.BitRegister) (Array T.row 0) self.entry.ghost_name
             (lent_lender result) (left_with self.old)) }
     {
@@ -75,6 +76,7 @@ impl<T: BitStore, O: BitOrder<T>> IntoIter<T, O> {
         ensures bits { lent_bits (read_by T.BitRegister O.position) result
             ≡ left_bits (read_by T.BitRegister O.position) self.old }
         ensures words { lent_words result ≡ left_words self.old }
+        ensures place { lent_place result ≡ left_place self.old }
         ensures* lends { sem 𝓛 (follows (the_row T.row O.row T.BitRegister) (Array T.row 0) self.entry.ghost_name
             (lent_lender result) (left_with self.old)) }
     {

@@ -59,8 +59,7 @@ impl<T: BitStore, O: BitOrder<T>> BitBox<T, O> {
     {
         let head = vector.first_place();
         let len = vector.len();
-        let mut words = vector.into_vec();
-        words.shrink_to_fit();
+        let words = vector.into_vec();
         BitBox {
             words,
             head,

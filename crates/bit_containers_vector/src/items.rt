@@ -30,6 +30,10 @@ impl<T: BitStore, O: BitOrder<T>> BitVec<T, O> {
         ensures err { OnErr result ((xs : List Bool) × (rest : I) × Yields I.next_gives items xs rest
             × (vec_bits (read_by T.BitRegister O.position) self.new
             ≡ vec_bits (read_by T.BitRegister O.position) self.old ++ xs)) }
+
+        // Items that are as few as there is room for bits are not refused.
+        ensures succeeds { HasRoomFor (read_by T.BitRegister O.position) self.old (size (I.remaining items))
+            → IsOk result }
         ensures head { vec_head self.new ≡ vec_head self.old }
         ensures words { (xs : List Bool) × Extends (read_by T.BitRegister O.position) self.old self.new xs }
         ensures room { room (read_by T.BitRegister O.position) self.old
@@ -74,6 +78,10 @@ impl<T: BitStore, O: BitOrder<T>> BitVec<T, O> {
         ensures err { OnErr result ((xs : List T) × (rest : I) × Yields I.next_gives items xs rest
             × (vec_bits (read_by T.BitRegister O.position) self.new
             ≡ vec_bits (read_by T.BitRegister O.position) self.old ++ memory (read_by T.BitRegister O.position) xs)) }
+
+        // Words that are as few as there is room for their bits are not refused.
+        ensures succeeds { HasRoomFor (read_by T.BitRegister O.position) self.old (size (I.remaining items) * T.BITS)
+            → IsOk result }
         ensures head { vec_head self.new ≡ vec_head self.old }
         ensures words { (xs : List Bool) × Extends (read_by T.BitRegister O.position) self.old self.new xs }
         ensures room { room (read_by T.BitRegister O.position) self.old
@@ -170,6 +178,8 @@ impl<T: BitStore, O: BitOrder<T>> BitVec<T, O> {
             × (vec_bits (read_by T.BitRegister O.position) self.new
             ≡ take index (vec_bits (read_by T.BitRegister O.position) self.old) ++ xs
             ++ drop index (vec_bits (read_by T.BitRegister O.position) self.old))) }
+        ensures succeeds { HasRoomFor (read_by T.BitRegister O.position) self.old (size (I.remaining items))
+            → IsOk result }
         ensures head { vec_head self.new ≡ vec_head self.old }
         ensures room { room (read_by T.BitRegister O.position) self.old
             ≤ room (read_by T.BitRegister O.position) self.new }

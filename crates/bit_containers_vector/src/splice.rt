@@ -1,6 +1,6 @@
 //! Bits of a vector that others take the place of.
 
-ghost use Rattle.std.specs.Prelude.{◌≡◌, ℕ, ◌+◌, ◌-◌, ◌*◌, ◌<◌, ◌≤◌, ◌++◌, List, Bool, length, take, drop, IfSome, Some, OnErr, OnOk};
+ghost use Rattle.std.specs.Prelude.{◌≡◌, ℕ, ◌+◌, ◌-◌, ◌*◌, ◌<◌, ◌≤◌, ◌++◌, List, Bool, length, take, drop, IfSome, Some, IsOk, OnErr, OnOk};
 ghost use Rattle.std.specs.Iterator.{Drains, Yields, IsFinite, UpTo, at_most, size};
 ghost use Rattle.std.specs.Iterator.SizeHint.{IsWithinCount};
 ghost use Rattle.bit_addressing_memory.specs.Memory.{entry, piece, read_by};
@@ -8,7 +8,7 @@ ghost use Rattle.bit_addressing_span.specs.declared.span.TheConstants.{MAX_BITS}
 ghost use Rattle.bit_containers_vector.specs.Drained.{IsCut};
 ghost use Rattle.bit_containers_vector.specs.Spliced.{gone_bits, CanStep, Steps, StepsBack};
 ghost use Rattle.bit_containers_vector.specs.Spliced.{splice_items, splice_left, splice_place, splice_vector, splice_loan};
-ghost use Rattle.bit_containers_vector.specs.Vector.{vec_bits, vec_head, vec_words, room};
+ghost use Rattle.bit_containers_vector.specs.Vector.{vec_bits, vec_head, vec_words, room, HasRoomFor};
 
 use crate::vector::BitVec;
 use bit_addressing_memory::{BitOrder, BitRegister, read_entry};
@@ -53,6 +53,10 @@ impl<'a, T: BitStore, O: BitOrder<T>, I: Iterator<Item = bool>> Splice<'a, T, O,
             ++ xs
             ++ drop (splice_place self.entry)
             (vec_bits (read_by T.BitRegister O.position) (splice_vector self.entry)))) }
+
+        // Items that are as few as there is room for bits are not refused.
+        ensures succeeds { HasRoomFor (read_by T.BitRegister O.position) (splice_vector self.entry)
+            (size (I.remaining (splice_items self.entry))) → IsOk result }
         ensures head { vec_head self.exit.0.now ≡ vec_head (splice_vector self.entry) }
         ensures room { room (read_by T.BitRegister O.position) (splice_vector self.entry)
             ≤ room (read_by T.BitRegister O.position) self.exit.0.now }

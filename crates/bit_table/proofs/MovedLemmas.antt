@@ -1,5 +1,6 @@
 -- The word writes of a table's moves.
-use Rattle.std.proofs.Common.{◌≡◌, ℕ, ◌+◌, ◌-◌, ◌*◌, ◌≤◌, true, false, List, Option, ◌∷◌, length, arith, refl, ap, ap₂, ◌∙◌, subst}
+use Rattle.std.proofs.Common.{◌≡◌, ℕ, ◌+◌, ◌-◌, ◌*◌, ◌≤◌, arith, refl, ap, ap₂, ◌∙◌, subst}
+use Rattle.std.proofs.Common.{true, false, List, Option, ◌∷◌, length}
 use Rattle.std.specs.List.{All}
 use Rattle.std.specs.Prelude.{IfSome, slice_index}
 use Rattle.bit_addressing_memory.specs.Memory.{touched}

@@ -13,7 +13,7 @@ ghost use Rattle.bit_table.specs.Told.{ones_from, told};
 use bit_addressing_memory::{BitOrder, BitRegister};
 use bit_containers_vector::BitVec;
 use bit_slice_views::{BitSlice, BitStore, Bits};
-use bit_slice_words::WordPaths;
+use bit_slice_words::{Steps, WordPaths};
 use bit_table_commands::Test;
 use bit_table_fields::{Digits, bits_before, load_number};
 use bit_table_layout::Layout;
@@ -47,7 +47,8 @@ pub(crate) fn mark_rows<T: BitStore, O: WordPaths<T> + Digits<T>>(
     // As many bits as a `usize` counts, and so each row's place is one.
     let _bits = bits.len();
     for row in 0..letters.rows() {
-        let number = load_number(bits, row * width + first, rule, digits, signed);
+        let mut steps = Steps::new();
+        let number = load_number(bits, row * width + first, rule, digits, signed, &mut steps);
         letters.put(letter, row, test.passes(number, value));
     }
 }

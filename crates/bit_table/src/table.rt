@@ -405,7 +405,14 @@ impl<A: BitViewSized, O: WordPaths<A::Store> + Digits<A::Store>> Table<A, O> {
     {
         let at = row as usize * self.layout.row_bits() + bits_before(&self.layout, field);
         let width = self.layout.fields()[field].width();
-        store_number(&mut self.bits, at, self.layout.rule(), width, value);
+        store_number(
+            &mut self.bits,
+            at,
+            self.layout.rule(),
+            width,
+            value,
+            &mut Steps::new(),
+        );
         Reply::Done
     }
 
@@ -414,7 +421,7 @@ impl<A: BitViewSized, O: WordPaths<A::Store> + Digits<A::Store>> Table<A, O> {
         ensures { IfOk result (λ reply. reply ≡ reply_to self.now.shape (Command.Get row)) }
     {
         let at = row as usize * self.layout.row_bits();
-        let numbers = load_row(self.alloc, &self.bits, at, &self.layout)?;
+        let numbers = load_row(self.alloc, &self.bits, at, &self.layout, &mut Steps::new())?;
         Ok(Reply::Numbers(Numbers::new(numbers)))
     }
 
@@ -527,7 +534,7 @@ fn row_of<A: BitViewSized, O: WordPaths<A::Store> + Digits<A::Store>>(
     let mut row = BitArray::<A, O>::new(A::ZERO);
     // As many bits as the buffer has, and so room for each row.
     let _bits = BitArray::len(&row);
-    store_row(&mut row, 0, layout, values);
+    store_row(&mut row, 0, layout, values, &mut Steps::new());
     row
 }
 

@@ -138,8 +138,9 @@ fn stored_row<R: BitRegister, O: Digits<R>>(
     requires count { length values.now ≡ length layout.now.fields }
 {
     let mut view = BitSliceMut::<R, O>::from_place_mut(words, place, 150);
-    store_row(&mut view, at, layout, values);
-    load_row(alloc, &view, at, layout)
+    let mut steps = Steps::new();
+    store_row(&mut view, at, layout, values, &mut steps);
+    load_row(alloc, &view, at, layout, &mut steps)
 }
 
 /// The bytes that are written for the bits that image bytes are read as, and these bits; or why the bytes are refused.

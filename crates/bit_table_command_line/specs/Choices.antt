@@ -1,27 +1,22 @@
 -- What is answered to a command line.
-use Rattle.std.specs.Prelude.{◌≡◌, ◌≢◌, ⊤, false, List, [], ◌∷◌, codes}
+use Rattle.std.specs.Prelude.{◌≡◌, ◌≢◌, ⊤, false, List, [], codes}
 use Rattle.std.specs.Borrow.{Bor}
 use Rattle.clap.specs.Walk.{Text, first_of, texts}
 use Rattle.clap.specs.Simple.{App, matches_of}
 use Rattle.clap.specs.Takes.{takes}
+use Rattle.clap.specs.Faults.{fault_of}
 use Rattle.clap.specs.declared.error.kind.ErrorKind.{ErrorKind}
 use Rattle.clap.specs.declared.error.kind.ErrorKind.TheVariants.{DisplayHelp, OutOfMemory}
 use Rattle.bit_table_command_line.specs.declared.choice.Choice.{Choice}
 use Rattle.bit_table_command_line.specs.declared.choice.Choice.TheVariants.{Run, Help, Bad, NoMemory}
-use Rattle.bit_table_command_line.specs.Storages.{word_of, order_of}
+use Rattle.bit_table_command_line.specs.Storages.{word_names, order_names, word_of, order_of}
 use Rattle.bit_table_command_line.specs.Options.{program}
 
--- the names of the storage words, in the order of their widths
-abbrev pub word_names : List Text
-word_names = codes "u8" ∷ codes "u16" ∷ codes "u32" ∷ codes "u64" ∷ []
-
--- the names of the orders
-abbrev pub order_names : List Text
-order_names = codes "lsb0" ∷ codes "msb0" ∷ codes "hilo" ∷ []
-
--- a run is over the storage that the matches of the words hold, and words that clap takes are no other answer's
+-- a run is of words in which clap finds no fault, over the storage that their matches hold, and words that clap takes are
+-- no other answer's
 abbrev pub Answers : App → List Text → Choice → Type 0
-Answers a words (Run word order) = (word ≡ word_of (first_of (codes "word") (matches_of a words)))
+Answers a words (Run word order) = (fault_of a words ≡ [])
+    × (word ≡ word_of (first_of (codes "word") (matches_of a words)))
     × (order ≡ order_of (first_of (codes "order") (matches_of a words)))
 Answers a words (Help text) = takes a words ≡ false
 Answers a words (Bad text) = takes a words ≡ false

@@ -2,10 +2,12 @@
 
 ghost use Rattle.std.specs.Prelude.{◌≡◌, map};
 ghost use Rattle.clap.specs.Words.{kind_of};
+ghost use Rattle.clap.specs.Walk.{texts};
 ghost use Rattle.bit_table_command_line.specs.Choices.{ChoosesFor, Refuses};
+ghost use Rattle.bit_table_command_line.specs.Storages.{order_names, word_names};
 
 use crate::command::command;
-use crate::storage::{Order, Word, order_named, word_named};
+use crate::storage::{Order, Word, order_named, order_names, word_named, word_names};
 use clap::Error;
 use clap::error::ErrorKind;
 use std::alloc::Global;
@@ -24,19 +26,35 @@ pub enum Choice {
     NoMemory,
 }
 
-// The names of the storage words and of the orders.
-static WORD_NAMES: [&str; 4] = ["u8", "u16", "u32", "u64"];
-
-static ORDER_NAMES: [&str; 3] = ["lsb0", "msb0", "hilo"];
-
 /// What the words of a command line ask for, without the program's name.
 ///
-/// `--word` and `--order` name the storage; it is `u64` and `lsb0` where they are not given. Where clap takes the words
-/// the answer is `Run` or `NoMemory`.
+/// `--word` and `--order` name the storage, by `WORDS` and `ORDERS`; it is `u64` and `lsb0` where they are not given.
+/// Where clap takes the words the answer is `Run` or `NoMemory`, and where it finds a fault in them it is no `Run`.
+#[tactic(auto, using(crate::proofs::ChoiceLemmas::out_of_memory))]
 pub fn choose<'a, S: AsStr>(alloc: Global, words: &'a [S]) -> Choice
     ensures { ChoosesFor (map S.text words.entry.now) result }
 {
-    let command = match command(alloc, WORD_NAMES.as_slice(), ORDER_NAMES.as_slice()) {
+    let Ok(named) = word_names(alloc) else {
+        return Choice::NoMemory;
+    };
+    let Ok(ordered) = order_names(alloc) else {
+        return Choice::NoMemory;
+    };
+    choose_by(alloc, words, named.as_slice(), ordered.as_slice())
+}
+
+// The same, by the names of the storage words and of the orders.
+fn choose_by<'a, S: AsStr>(
+    alloc: Global,
+    words: &'a [S],
+    named: &'a [&'a str],
+    ordered: &'a [&'a str],
+) -> Choice
+    requires words { texts named.now ≡ word_names }
+    requires orders { texts ordered.now ≡ order_names }
+    ensures { ChoosesFor (map S.text words.entry.now) result }
+{
+    let command = match command(alloc, named, ordered) {
         Ok(command) => command,
         Err(_) => return Choice::NoMemory,
     };

@@ -6,4 +6,4 @@ mod command;
 mod storage;
 
 pub use choice::{Choice, choose};
-pub use storage::{Order, Word};
+pub use storage::{ORDERS, Order, WORDS, Word};

@@ -2,3 +2,4 @@ pub mod WindowLemmas
 pub mod CallerLemmas
 mod KnownNumbers
 pub mod FieldLemmas
+mod CountLemmas

@@ -3,7 +3,8 @@
 -- What stands at a place: `filled_inside`, `filled_before`, `filled_behind`, `filled_more`.
 -- One bit: `word_begun`, `word_made`, `filled_within`, `filled_put`. Several: `fills_none`, `fills_more`.
 -- All of them: `rest_none`, `rest_put`.
-use Rattle.std.proofs.Common.{◌≡◌, ◌≢◌, ◌⊎◌, ℕ, suc, ◌+◌, ◌-◌, ◌*◌, ◌/◌, ◌%◌, ◌<◌, ◌≤◌, ◌++◌, Bool, false, List, []}
+use Rattle.std.proofs.Common.{◌≡◌, ◌≢◌, ◌⊎◌, ℕ, suc, ◌+◌, ◌-◌, ◌*◌, ◌/◌, ◌%◌, ◌<◌, ◌≤◌}
+use Rattle.std.proofs.Common.{◌++◌, Bool, false, List, []}
 use Rattle.std.proofs.Common.{◌∷◌, Option, length, get_or, set, refl, sym, ap, ◌∙◌, inl, inr, arith, length-append}
 use Rattle.std.proofs.Common.{mul-le-mul_right}
 use Rattle.std.proofs.lemmas.Bool.{cases_eq, cases_lt}

@@ -190,6 +190,8 @@ pub fn edit_rows<T: BitStore, O: BitOrder<T>, V: Bits>(
     ensures head { vec_head vector.new ≡ vec_head vector.old }
     ensures err { OnErr result (IsAsBefore (read_by T.BitRegister O.position) vector.old vector.new) }
     ensures succeeds { HasRoomFor (read_by T.BitRegister O.position) vector.old (added edit * w) → IsOk result }
+    ensures room { room (read_by T.BitRegister O.position) vector.old
+        ≤ room (read_by T.BitRegister O.position) vector.new }
 
     // At most the words that the rows touch at their new places.
     ensures writes { IfOk result (λ writes. writes ≤ most_moved T.BITS w n edit) }

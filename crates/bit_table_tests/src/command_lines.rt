@@ -43,6 +43,7 @@ fn options_name_the_storage(rt: HostRuntime) {
         )
     );
     assert!(rt; runs(alloc, &["--word=u32"], Word::U32, Order::Lsb0));
+    assert!(rt; runs(alloc, &["--word=u128"], Word::U128, Order::Lsb0));
     assert!(rt; runs(alloc, &["--order=lsb0"], Word::U64, Order::Lsb0));
     assert!(rt;
         runs(
@@ -57,7 +58,7 @@ fn options_name_the_storage(rt: HostRuntime) {
 #[test]
 fn other_words_are_bad(rt: HostRuntime) {
     let alloc = rt.alloc();
-    assert!(rt; is_bad(alloc, &["--word", "u128"], "u128"));
+    assert!(rt; is_bad(alloc, &["--word", "u256"], "u256"));
     assert!(rt; is_bad(alloc, &["--word", "usize"], "usize"));
     assert!(rt; is_bad(alloc, &["--word", ""], "--word"));
     assert!(rt; is_bad(alloc, &["--order", "up"], "up"));
@@ -74,8 +75,8 @@ fn a_bad_word_is_told_the_right_ones(rt: HostRuntime) {
     assert!(rt;
         is_bad(
             alloc,
-            &["--word", "u128"],
-            "[possible values: u8, u16, u32, u64]"
+            &["--word", "usize"],
+            "[possible values: u8, u16, u32, u64, u128]"
         )
     );
     assert!(rt;
@@ -93,7 +94,7 @@ fn a_bad_word_is_told_the_right_ones(rt: HostRuntime) {
 const HELP: [&str; 24] = [
     "Usage: bit-table [OPTIONS]",
     "--word <WORD>",
-    "[default: u64] [possible values: u8, u16, u32, u64]",
+    "[default: u64] [possible values: u8, u16, u32, u64, u128]",
     "--order <ORDER>",
     "[default: lsb0] [possible values: lsb0, msb0, hilo]",
     "low a:u3 b:i4\n",

@@ -12,6 +12,7 @@ ghost use Rattle.bit_table_layout.specs.Rows.{new_row};
 
 use bit_containers_vector::BitVec;
 use bit_slice_views::BitStore;
+use bit_slice_words::Steps;
 use bit_table_fields::{Digits, bits_before, load_row, store_number};
 use bit_table_layout::Layout;
 use std::alloc::{AllocError, Global};
@@ -37,7 +38,14 @@ pub fn set_number<T: BitStore, O: Digits<T>>(
 {
     let at = p * layout.row_bits() + bits_before(layout, field);
     let width = layout.fields()[field].width();
-    store_number(rows, at, layout.rule(), width, value);
+    store_number(
+        rows,
+        at,
+        layout.rule(),
+        width,
+        value,
+        &mut Steps::new(),
+    );
 }
 
 /// The numbers of row `p` of `n` rows.
@@ -55,5 +63,11 @@ pub fn row_numbers<T: BitStore, O: Digits<T>>(
         slice_get (rows_from layout.now n (vec_bits (read_by T.BitRegister O.position) rows.now)) p
         ≡ Some (new_row numbers.items)) }
 {
-    load_row(alloc, rows, p * layout.row_bits(), layout)
+    load_row(
+        alloc,
+        rows,
+        p * layout.row_bits(),
+        layout,
+        &mut Steps::new(),
+    )
 }

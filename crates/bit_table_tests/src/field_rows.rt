@@ -4,7 +4,8 @@ use crate::field_callers::{row_numbers, set_number};
 use bit_addressing_memory::Msb0;
 use bit_containers_vector::BitVec;
 use bit_slice_views::Bits;
-use bit_table_fields::{bits_before, load_number};
+use bit_slice_words::Steps;
+use bit_table_fields::{bits_before, load_number, store_number};
 use bit_table_layout::{Layout, Rule};
 use std::alloc::AllocError;
 
@@ -27,7 +28,12 @@ fn one_number_of_a_vector_is_written_over(rt: HostRuntime) -> Result<(), AllocEr
     assert!(rt; first.as_slice() == [5i128, -1].as_slice());
     assert!(rt; second.as_slice() == [7i128, 3].as_slice());
     assert!(rt; rows.len() == 14);
-    assert!(rt; load_number(&rows, 3, Rule::High, 4, true) == -1);
-    assert!(rt; load_number(&rows, 3, Rule::High, 4, false) == 15);
+    let mut steps = Steps::new();
+    assert!(rt; load_number(&rows, 3, Rule::High, 4, true, &mut steps) == -1);
+    assert!(rt; load_number(&rows, 3, Rule::High, 4, false, &mut steps) == 15);
+    assert!(rt; steps.taken() == 8);
+    store_number(&mut rows, 3, Rule::Low, 2, 1, &mut steps);
+    assert!(rt; load_number(&rows, 3, Rule::High, 4, false, &mut steps) == 11);
+    assert!(rt; steps.taken() == 14);
     Ok(())
 }

@@ -62,7 +62,7 @@ loop-row-preserved g c =
       c.bits_before-first.ensures,
       c.width-digits.ensures.width,
       c.signed-signed.ensures,
-    ) at c.load_number-number.ensures in
+    ) at c.load_number-number.ensures.value in
     let number = found ∙ number_at l n bits c.requires.bits i c.args.field shape (new_row []) low is in
     let sized = to_z-of_z w128 c.load_number-number.result (record { sfits = c.load_number-number.type_inv }) in
     let told_so = c.passes.ensures ∙ ap (λ m. passes c.args.test m asked) (sized ∙ number) in

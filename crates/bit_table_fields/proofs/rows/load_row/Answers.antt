@@ -1,9 +1,10 @@
-use Rattle.std.proofs.Common.{ap, ◌∙◌, arith}
+use Rattle.std.proofs.Common.{◌-◌, ap, take, ◌∙◌, arith}
 use mir.Syntax.{w128}
 use Rattle.std.proofs.lemmas.Int.{to_z-of_z}
 use Rattle.std.proofs.lemmas.List.Sums.{sum_by_more, sum_by_more_le}
 use Rattle.bit_table_layout.specs.Fields.{FieldShape}
 use Rattle.bit_table_layout.specs.Layouts.{row_width}
+use Rattle.bit_table_fields.proofs.CountLemmas.{takes_field}
 use Rattle.bit_table_fields.proofs.FieldLemmas.{loaded_more}
 use Rattle.bit_table_fields.proofs.rows.load_row.Goals as goal
 
@@ -28,9 +29,14 @@ loop-index-preserved g c =
     let value = to_z-of_z w128 c.load_number.result (record { sfits = c.load_number.type_inv }) in
     record {
       place = omega (arith, c.loop-index.invariant.place);
+      steps =
+          takes_field c.args.steps.now c.loop-index.steps _ i (row_width (take i fs)) _
+          g.V.Store.BitRegister.BITS (g.V.Store.BitRegister.BITS - 1) c.width-width.result _
+          (omega (arith, g.met.V.Store.BitRegister.least_bits)) (omega (arith, more, width, shape))
+          c.loop-index.invariant.steps c.load_number.ensures.steps;
       loaded =
-          loaded_more c.rule-rule.result fs i c.args.at c.loop-index.place c.width-width.result c.signed.result f
+          loaded_more c.rule-rule.result fs i c.args.at c.loop-index.place c.width-width.result c.signed-signed.result f
           (g.V.Bits.bits c.args.view.now) _ _ _ c.loop-index-test.true c.index-fields-index.is width
-          c.signed.ensures c.loop-index.invariant.place (value ∙ c.load_number.ensures) c.loop-index.invariant.loaded
+          c.signed-signed.ensures c.loop-index.invariant.place (value ∙ c.load_number.ensures.value) c.loop-index.invariant.loaded
           c.in_ok-push.ensures.items;
     }

@@ -1,9 +1,11 @@
-use Rattle.std.proofs.Common.{length, get_or, pos, SFits, sym, ap, ◌∙◌, refl, arith, rules}
+use Rattle.std.proofs.Common.{length, get_or, pos, SFits, sym, take, ap, ◌∙◌, refl, arith, rules}
 use mir.Syntax.{w128}
 use Rattle.std.proofs.lemmas.Int.{to_z-of_z}
 use Rattle.std.proofs.lemmas.List.Sums.{sum_by_more, sum_by_more_le}
 use Rattle.bit_table_layout.specs.Fields.{FieldShape}
 use Rattle.bit_table_layout.specs.Layouts.{row_width}
+use Rattle.bit_slice_words.proofs.StepLemmas.{takes_none}
+use Rattle.bit_table_fields.proofs.CountLemmas.{takes_field}
 use Rattle.bit_table_fields.proofs.WindowLemmas.{none_written}
 use Rattle.bit_table_fields.proofs.FieldLemmas.{stored_more}
 use Rattle.bit_table_fields.proofs.rows.store_row.Goals as goal
@@ -14,6 +16,7 @@ loop-index-init g c = record {
   bits = sym (none_written (g.V.Bits.bits c.args.view.now) c.args.at (omega (arith, c.requires.within)));
   len = refl;
   frame = refl;
+  steps = takes_none c.args.steps.now;
 }
 
 pub store_number-requires-clause-within : goal.store_number-requires-clause-within
@@ -57,4 +60,8 @@ loop-index-preserved g c =
           (omega (arith, c.requires.within)) c.loop-index.invariant.bits c.store_number.ensures.bits;
       len = c.store_number.ensures.len ∙ c.loop-index.invariant.len;
       frame = c.store_number.ensures.frame ∙ c.loop-index.invariant.frame;
+      steps =
+          takes_field c.args.steps.now c.loop-index.steps _ i (row_width (take i fs)) _ g.V.Store.BitRegister.BITS _
+          c.width-width.result _ (omega (arith, g.met.V.Store.BitRegister.least_bits)) (omega (arith, more, width))
+          c.loop-index.invariant.steps c.store_number.ensures.steps;
     }

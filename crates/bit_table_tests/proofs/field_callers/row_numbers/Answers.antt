@@ -22,4 +22,4 @@ returns g c =
     row_read l c.args.n xs c.requires.rows c.args.p c.requires.row
     ∙ ap (λ ns. Some (new_row ns))
     (sym (is
-    ∙ ap (λ k. numbers_from l.rule l.fields (piece xs (c.args.p * k) w)) c.row_bits.ensures.bits))) c.load_row.ensures
+    ∙ ap (λ k. numbers_from l.rule l.fields (piece xs (c.args.p * k) w)) c.row_bits.ensures.bits))) c.load_row.ensures.value

@@ -1,4 +1,4 @@
-use Rattle.std.proofs.Common.{◌≡◌, sym, ap, ◌∙◌, refl}
+use Rattle.std.proofs.Common.{◌≡◌, min, sym, ap, ◌∙◌, refl}
 use Rattle.bit_addressing_memory.specs.Memory.{memory, piece, read_by}
 use Rattle.bit_slice_views_mut.specs.FrameLaws.{shown_window}
 use Rattle.bit_containers_array.proofs.LeftLemmas.{left_lent}
@@ -21,4 +21,6 @@ returns g c =
     ∙ ap (λ ws. piece (memory reading ws) start n) words
     ∙ left_lent reading own it.from it.count c.len-all.result start n c.len-all.ensures.value c.min-from.ensures
     c.min-len.ensures in
-    ((sym c.from_place_mut.ensures.lender, λ _. refl), record { bits = list; words = words; lends = tt })
+    let place =
+    c.from_place_mut.ensures.place ∙ c.min-from.ensures ∙ ap (λ m. min it.from m) c.len-all.ensures.value in
+    ((sym c.from_place_mut.ensures.lender, λ _. refl), record { bits = list; words = words; place = place; lends = tt })

@@ -1,4 +1,4 @@
-use Rattle.std.proofs.Common.{◌≡◌, ◌*◌, ◌<◌, length, arith, ap, ◌∙◌}
+use Rattle.std.proofs.Common.{◌≡◌, ◌*◌, ◌<◌, length, arith, ap}
 use Rattle.bit_addressing_memory.specs.Memory.{read_by}
 use Rattle.bit_containers_vector.specs.Vector.{visible}
 use Rattle.bit_containers_box.proofs.BoxLemmas.{boxed_whole, visible_fits}
@@ -9,9 +9,9 @@ invariant_of-result g c =
     let v = c.args.vector in
     let reading = read_by g.T.BitRegister g.O.Positions.position in
     let some : 0 < g.T.BitRegister.BITS = omega (arith, g.met.T.BitRegister.least_bits) in
-    let size : length c.shrink_to_fit.new.self.items * g.T.BitRegister.BITS
+    let size : length c.into_vec-words.result.items * g.T.BitRegister.BITS
     ≡ length (visible reading v) * g.T.BitRegister.BITS =
-    ap (λ ws. length ws * g.T.BitRegister.BITS) (c.shrink_to_fit.ensures.items ∙ c.into_vec-words.ensures) in
+    ap (λ ws. length ws * g.T.BitRegister.BITS) c.into_vec-words.ensures in
     record {
       inside = omega (arith, c.first_place-head.ensures.value, v.inside);
       short = omega (arith, c.len-len.ensures, c.first_place-head.ensures.short);
@@ -29,5 +29,5 @@ pub returns : goal.returns
 returns g c =
     let v = c.args.vector in
     boxed_whole (read_by g.T.BitRegister g.O.Positions.position) v (omega (arith, g.met.T.BitRegister.least_bits))
-    v.fits _ (c.shrink_to_fit.ensures.items ∙ c.into_vec-words.ensures) c.first_place-head.ensures.value
+    v.fits _ c.into_vec-words.ensures c.first_place-head.ensures.value
     c.len-len.ensures

@@ -23,5 +23,5 @@ returns g c =
     ∙ ap (λ p. piece (memory reading it.words.now) p iter.len) c.from_place_mut.ensures.place
     ∙ ap (λ ws. piece (memory reading ws) iter.place iter.len) words in (
       (sym c.from_place_mut.ensures.lender, λ ws. same_left (left_with iter ws) _ _ _),
-      record { bits = list; words = words; lends = tt },
+      record { bits = list; words = words; place = c.from_place_mut.ensures.place; lends = tt },
     )

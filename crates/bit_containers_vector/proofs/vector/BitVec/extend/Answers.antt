@@ -15,6 +15,7 @@ loop-item-init g c =
       finite = search (rules, same, c.requires.finite);
       bits = sym (append-nil (vec_bits reading c.args.self.now));
       most = search (rules, same, c.requires.most);
+      few = omega (arith, ap (λ i. size (g.I.Iterator.remaining i)) same);
       head = refl;
       words = extends_none reading c.args.self.now;
       room = omega arith;
@@ -42,6 +43,17 @@ loop-item-preserved g c =
             length-append (vec_bits reading c.loop-item.self) (c.in-Some.item ∷ []),
             less,
             was.most,
+          );
+      few =
+          let less : size (g.I.Iterator.remaining c.next.new.self) + 1
+          ≤ size (g.I.Iterator.remaining c.loop-item.item-iterator) =
+          search (rules, arith) in
+          omega (
+            arith,
+            ap length grown.bits,
+            length-append (vec_bits reading c.loop-item.self) (c.in-Some.item ∷ []),
+            less,
+            was.few,
           );
       head = all.head;
       words = all;

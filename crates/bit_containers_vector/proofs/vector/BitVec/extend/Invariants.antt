@@ -1,4 +1,5 @@
 use Rattle.std.proofs.Common.{◌≡◌, ◌≤◌, ◌+◌, ◌++◌, length}
+use Rattle.std.specs.Iterator.{size}
 use Rattle.bit_addressing_memory.specs.Memory.{read_by}
 use Rattle.bit_addressing_span.specs.declared.span.TheConstants.{MAX_BITS}
 use Rattle.bit_containers_vector.specs.Grown.{Extends}
@@ -13,6 +14,8 @@ invariant-loop-item g l =
       finite : (goal.iterator-loop-item g).is_finite l.item-iterator;
       bits : list l.self ≡ list l.initial.self ++ l.yielded;
       most : length (list l.self) + (goal.iterator-loop-item g).remaining l.item-iterator ≤ MAX_BITS;
+      few : length (list l.self) + (goal.iterator-loop-item g).remaining l.item-iterator
+          ≤ length (list l.initial.self) + size (g.I.Iterator.remaining l.fn.items);
       head : vec_head l.self ≡ vec_head l.initial.self;
       words : Extends reading l.initial.self l.self l.yielded;
       room : room reading l.initial.self ≤ room reading l.self;

@@ -1,4 +1,5 @@
-use Rattle.std.proofs.Common.{◌+◌, ◌<◌, ◌≤◌, ◌++◌, [], arith, rules, refl, ◌∙◌}
+use Rattle.std.proofs.Common.{◌≡◌, ◌+◌, ◌*◌, ◌<◌, ◌≤◌, ◌++◌, [], true, false, length, arith, rules, ap, refl, ◌∙◌}
+use Rattle.std.proofs.Math.Nat.{mul-le-mul_right}
 use Rattle.std.specs.Iterator.{size}
 use Rattle.bit_addressing_memory.specs.Memory.{memory, read_by}
 use Rattle.bit_addressing_span.specs.declared.span.TheConstants.{MAX_BITS}
@@ -16,6 +17,7 @@ loop-word-init g c =
       finite = search (rules, same, c.requires.finite);
       bits = no_words reading (vec_bits reading c.args.self.now);
       most = search (rules, same, c.requires.most);
+      few = omega (arith, ap (λ i. size (g.I.Iterator.remaining i) * g.T.BitRegister.BITS) same);
       head = refl;
       words = ([], extends_none reading c.args.self.now);
       room = omega arith;
@@ -40,6 +42,13 @@ loop-word-preserved g c =
           one_less reading (vec_bits reading c.loop-word.self) (vec_bits reading c.extend_from_raw_slice.new.self)
           c.from_ref.result.now c.in-Some.word (size (g.I.Iterator.remaining c.loop-word.word-iterator))
           (size (g.I.Iterator.remaining c.next.new.self)) MAX_BITS grown.bits c.from_ref.ensures.value less was.most;
+      few =
+          let less : size (g.I.Iterator.remaining c.next.new.self) + 1
+          ≤ size (g.I.Iterator.remaining c.loop-word.word-iterator) =
+          search (rules, arith) in
+          one_less reading (vec_bits reading c.loop-word.self) (vec_bits reading c.extend_from_raw_slice.new.self)
+          c.from_ref.result.now c.in-Some.word (size (g.I.Iterator.remaining c.loop-word.word-iterator))
+          (size (g.I.Iterator.remaining c.next.new.self)) _ grown.bits c.from_ref.ensures.value less was.few;
       head = grown.head ∙ was.head;
       words =
           let some : 0 < g.T.BitRegister.BITS = omega (arith, g.met.T.BitRegister.least_bits) in (
@@ -49,3 +58,18 @@ loop-word-preserved g c =
           );
       room = omega (arith, was.room, c.extend_from_raw_slice.ensures.room);
     }
+
+-- there was room for the bits of a word that is left
+pub returns-in_err-extend_from_raw_slice-clause-succeeds : goal.returns-in_err-extend_from_raw_slice-clause-succeeds
+returns-in_err-extend_from_raw_slice-clause-succeeds g c = λ enough.
+    let b = g.T.BitRegister.BITS in
+    let was = c.loop-word.invariant in
+    let less : size (g.I.Iterator.remaining c.next.new.self) + 1
+    ≤ size (g.I.Iterator.remaining c.loop-word.word-iterator) =
+    search (rules, arith) in
+    let product : 1 * b ≤ size (g.I.Iterator.remaining c.loop-word.word-iterator) * b =
+    mul-le-mul_right b (omega (arith, less)) in
+    let one : length c.from_ref.result.now * b ≡ 1 * b = ap (λ ws. length ws * b) c.from_ref.ensures.value in
+    let never : false ≡ true =
+    (c.in_err-extend_from_raw_slice.ensures).succeeds (omega (arith, was.few, was.room, enough, product, one)) in
+    cc

@@ -1,4 +1,5 @@
 use Rattle.std.proofs.Common.{◌≡◌, ◌≤◌, ◌+◌, ◌*◌, ◌++◌, Bool, List, length}
+use Rattle.std.specs.Iterator.{size}
 use Rattle.bit_addressing_memory.specs.Memory.{memory, read_by}
 use Rattle.bit_addressing_span.specs.declared.span.TheConstants.{MAX_BITS}
 use Rattle.bit_containers_vector.specs.Grown.{Extends}
@@ -13,6 +14,8 @@ invariant-loop-word g l =
       finite : (goal.iterator-loop-word g).is_finite l.word-iterator;
       bits : list l.self ≡ list l.initial.self ++ memory reading l.yielded;
       most : length (list l.self) + (goal.iterator-loop-word g).remaining l.word-iterator * g.T.BitRegister.BITS ≤ MAX_BITS;
+      few : length (list l.self) + (goal.iterator-loop-word g).remaining l.word-iterator * g.T.BitRegister.BITS
+          ≤ length (list l.initial.self) + size (g.I.Iterator.remaining l.fn.items) * g.T.BitRegister.BITS;
       head : vec_head l.self ≡ vec_head l.initial.self;
       words : (xs : List Bool) × Extends reading l.initial.self l.self xs;
       room : room reading l.initial.self ≤ room reading l.self;

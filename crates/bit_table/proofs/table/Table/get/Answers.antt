@@ -24,8 +24,8 @@ returns g c =
     let t = c.self.inside in
     let h = c.self.invariant in
     let low = in_range _ t.layout _ _ _ c.self.view_is h.0 h.1 h.2 (Get c.args.row) c.requires in
-    let made = rw c.row_bits.ensures.bits at c.in_ok-numbers.ensures in
-    ap Numbers (c.new.ensures ∙ made
+    let made = rw c.row_bits.ensures.bits at c.in_ok-numbers.ensures.value in
+    ap Numbers (c.new-2.ensures ∙ made
     ∙ ap (λ row. option_map_or (λ (row : Row). row.numbers) row [])
     (sym (row_read t.layout t.rows _ h.1.fits c.args.row low))
     ∙ sym (numbers_at-lettered c.args.row (rows_from t.layout t.rows _) t.letters)

@@ -130,7 +130,7 @@ def inside(rng):
         for source in range(0, 25, 1 if word == "u8" else 4):
             own = memory(rng, word, order, count)
             yield own, entry(own, first + source, source % 2)
-            for target in range(25):
+            for target in range(0, 25, 1 if word == "u8" else 2):
                 own = memory(rng, word, order, count)
                 if (source + target) % 5 == 0:
                     yield own, swap(own, first + source, first + target)

@@ -1,12 +1,15 @@
 //! The words of a writable window, each read and written in the part of it that lies in the window.
 
 ghost use Rattle.std.specs.Prelude.{◌≡◌, ◌+◌, ◌%◌, ◌<◌, ◌↔◌, IsTrue, length, not, true, false};
+ghost use Rattle.bit_addressing_span.specs.Domain.{domain_bits, domain_start, IsCut, IsEnclave};
 ghost use Rattle.bit_addressing_memory.specs.Memory.{entry, indexed, read_by, touched};
 ghost use Rattle.bit_addressing_span.specs.Parts.{part_from, part_place, part_upto};
-ghost use Rattle.bit_addressing_span.specs.Span.{LiesInside};
+ghost use Rattle.bit_addressing_span.specs.Span.{extent, LiesInside};
 
-use crate::words::{invert_in, load_in, make_in, span_of, store_in};
-use bit_addressing_memory::{BitEnd, BitIdx, BitRegister};
+use crate::parts::BitsParts;
+use crate::words::{bounds_in, invert_in, load_in, make_in, span_of, store_in};
+use bit_addressing_memory::{BitEnd, BitIdx, BitRegister, mem};
+use bit_addressing_span::Domain;
 use bit_slice_views::Bits;
 use bit_slice_views_mut::BitsMut;
 
@@ -45,6 +48,49 @@ impl<'s, V: BitsMut> WindowDomainMut<'s, V> {
             (length (V.bits (domain_view self.now))) ≡ 0) }
     {
         self.len() == 0
+    }
+
+    /// Whether the window has bits, and lies in one word, touching neither edge of it.
+    pub fn is_enclave(&self) -> bool
+        ensures { IsTrue result ↔ LiesInside V.Store.BITS
+            (window_span V.Store.BITS (V.place (domain_view self.now)) (length (V.bits (domain_view self.now)))) }
+    {
+        let bits = mem::bits_of::<V::Store>();
+        let head = self.of.first_place() % bits;
+        let len = self.of.len();
+        len > 0 && head > 0 && head + len < bits
+    }
+
+    /// The same words to read alone, cut at the borders of words.
+    pub fn as_domain(&self) -> Domain<'_, V::Store, V::Order>
+        ensures bits { domain_bits (read_by V.Store.BitRegister V.Order.position) result
+            ≡ V.bits (domain_view self.now) }
+        ensures start { 0 < length (V.bits (domain_view self.now))
+            → domain_start result ≡ V.start (domain_view self.now) }
+        ensures enclave { IsEnclave result ↔ LiesInside V.Store.BITS
+            (extent 0 (V.start (domain_view self.now)) (length (V.bits (domain_view self.now)))) }
+        ensures cut { IsCut V.Store.BITS result }
+    {
+        self.of.domain()
+    }
+
+    /// The indices of word `k` that are in the window: from the first of them up to before an end.
+    pub fn bounds(&mut self, k: usize) -> (BitIdx<V::Store>, BitEnd<V::Store>)
+        requires { k < touched V.Store.BITS (V.place (domain_view self.old) % V.Store.BITS)
+            (length (V.bits (domain_view self.old))) }
+        ensures head { result.0 ≡ part_from V.Store.BITS
+            (window_span V.Store.BITS (V.place (domain_view self.old)) (length (V.bits (domain_view self.old)))) k }
+        ensures tail { result.1 ≡ part_upto V.Store.BITS
+            (window_span V.Store.BITS (V.place (domain_view self.old)) (length (V.bits (domain_view self.old)))) k }
+        ensures order { result.0 < result.1 }
+        ensures same_reference { domain_loan self.new ≡ domain_loan self.old }
+        ensures words { V.words (domain_view self.new) ≡ V.words (domain_view self.old) }
+        ensures len { length (V.bits (domain_view self.new)) ≡ length (V.bits (domain_view self.old)) }
+        ensures frame { V.frame (domain_view self.new) ≡ V.frame (domain_view self.old) }
+    {
+        let place = self.of.first_place();
+        let len = self.of.len();
+        self.of.write(|words| bounds_in::<V::Store, V::Order>(words, place, len, k))
     }
 
     /// Word `k` of the window, with each digit outside the window read as zero.

@@ -2,13 +2,13 @@
 
 ghost use Rattle.std.specs.Prelude.{◌≡◌, ◌+◌, ◌*◌, ◌/◌, ◌%◌, ◌^◌, ◌<◌, ◌≤◌, length, not, true, false};
 ghost use Rattle.bit_addressing_memory.specs.Memory.{entry, indexed, read_by, touched};
-ghost use Rattle.bit_addressing_span.specs.Parts.{part_from, part_place};
+ghost use Rattle.bit_addressing_span.specs.Parts.{part_from, part_place, part_upto};
 ghost use Rattle.bit_addressing_span.specs.Span.{extent};
 ghost use Rattle.bit_addressing_span.specs.declared.span.TheConstants.{MAX_BITS};
 ghost use Rattle.bit_slice_access.specs.Domain.{ReadsWord, WritesWord, window_span};
 ghost use Rattle.bit_slice_views_mut.specs.Frame.{KeepsBeside};
 
-use bit_addressing_memory::{BitIdx, BitOrder, BitRegister, mem};
+use bit_addressing_memory::{BitEnd, BitIdx, BitOrder, BitRegister, mem};
 use bit_addressing_span::BitSpan;
 
 // The span of some bits of words.
@@ -21,6 +21,27 @@ pub(crate) fn span_of<T: BitRegister, O: BitOrder<T>>(place: usize, len: usize) 
     let bits = mem::bits_of::<T>();
     let head = BitIdx::new_unchecked((place % bits) as u8);
     BitSpan::<T, O>::new(place / bits, head, len).unwrap()
+}
+
+// The indices of word `k` that are in the window: from the first of them up to before an end.
+#[tactic(auto, using(crate::proofs::SpanLemmas::spans))]
+pub(crate) fn bounds_in<T: BitRegister, O: BitOrder<T>>(
+    words: &mut [T],
+    place: usize,
+    len: usize,
+    k: usize,
+) -> (BitIdx<T>, BitEnd<T>)
+    requires within { place + len ≤ length words.old * T.BITS }
+    requires ends { place + len < 2 ^ 63 }
+    requires short { len ≤ MAX_BITS }
+    requires some { k < touched T.BITS (place % T.BITS) len }
+    ensures head { result.0 ≡ part_from T.BITS (window_span T.BITS place len) k }
+    ensures tail { result.1 ≡ part_upto T.BITS (window_span T.BITS place len) k }
+    ensures order { result.0 < result.1 }
+    ensures same { words.new ≡ words.old }
+{
+    let domain = span_of::<T, O>(place, len).domain_mut(words);
+    domain.bounds(k)
 }
 
 // Reads word `k`.

@@ -1,26 +1,29 @@
 //! Windows made in other ways: of one word, of no bits, of words that may be too many.
 
 ghost use Rattle.std.specs.Prelude.{◌≡◌, ◌-◌, ◌*◌, ◌≤◌, ◌↔◌, ◌^◌, [], ◌∷◌, length, min, IsOk, IfOk, IfErr};
+ghost use Rattle.std.specs.Prelude.{slice_index_or};
+ghost use Rattle.std.specs.Borrow.{Array, follows, sem};
 ghost use Rattle.bit_addressing_memory.specs.Memory.{read_by};
 ghost use Rattle.bit_addressing_span.specs.declared.span.TheConstants.{MAX_BITS};
 ghost use Rattle.bit_addressing_span.specs.declared.span_error.BitSpanError.TheVariants.{TooLong};
 ghost use Rattle.bit_slice_views_mut.specs.ViewMut.{lent_words, lent_lender, lent_place, lent_bits};
 
+use crate::bit_view::BitView;
 use crate::view_mut::BitSliceMut;
 use bit_addressing_memory::{BitOrder, BitRegister};
 use bit_addressing_span::BitSpanError;
 use bit_slice_views::BitStore;
 
 impl<'a, T: BitStore, O: BitOrder<T>> BitSliceMut<'a, T, O> {
-    /// The bits of one word.
-    ///
-    /// Whoever wants to know the word afterwards takes `from_slice_mut` of a slice of the one word.
+    /// The bits of one word, which ends as the window leaves it.
     pub fn from_element_mut(word: &'a mut T) -> BitSliceMut<'a, T, O>
         ensures words { lent_words result ≡ word.old ∷ [] }
         ensures place { lent_place result ≡ 0 }
         ensures len { length (lent_bits (read_by T.BitRegister O.position) result) ≡ T.BITS }
+        ensures* lends { sem 𝓛 (follows T.row (Array T.row 0) word.entry.ghost_name (lent_lender result)
+            (λ words. slice_index_or words 0 word.old)) }
     {
-        BitSliceMut::from_slice_mut(std::slice::from_mut(word))
+        word.view_bits_mut::<O>()
     }
 }
 
@@ -29,6 +32,8 @@ pub fn from_mut<'a, T: BitStore, O: BitOrder<T>>(word: &'a mut T) -> BitSliceMut
     ensures words { lent_words result ≡ word.old ∷ [] }
     ensures place { lent_place result ≡ 0 }
     ensures len { length (lent_bits (read_by T.BitRegister O.position) result) ≡ T.BITS }
+    ensures* lends { sem 𝓛 (follows T.row (Array T.row 0) word.entry.ghost_name (lent_lender result)
+        (λ words. slice_index_or words 0 word.old)) }
 {
     BitSliceMut::from_element_mut(word)
 }

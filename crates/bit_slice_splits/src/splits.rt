@@ -1,6 +1,6 @@
 //! The parts of a window between the places where a predicate answers true, one after another, from both ends.
 
-ghost use Rattle.std.specs.Prelude.{◌≡◌, ◌+◌, ◌-◌, ◌<◌, ◌≤◌, true, false, length, if◌then◌else◌, IfSome, None};
+ghost use Rattle.std.specs.Prelude.{◌≡◌, ◌+◌, ◌-◌, ◌<◌, ◌≤◌, true, false, length, if◌then◌else◌, IfSome, Some};
 ghost use Rattle.std.specs.Iterator.{at_most, UpTo};
 ghost use Rattle.std.specs.Iterator.SizeHint.{IsWithinCount};
 ghost use Rattle.bit_addressing_memory.specs.Memory.{piece, read_by};
@@ -51,8 +51,8 @@ impl<'a, T: BitRegister, O: BitOrder<T>, F, A: SplitEnd, B: SplitEnd> Model
 }
 
 impl<'a, T: BitRegister, O: BitOrder<T>, F, A: SplitEnd, B: SplitEnd> Splits<'a, T, O, F, A, B> {
-    /// The parts of a window, none where `done` is true.
-    pub(crate) fn new(view: BitSlice<'a, T, O>, f: F, done: bool) -> Splits<'a, T, O, F, A, B>
+    /// The parts of a window, which live as long as its words; none where `done` is true.
+    pub fn new(view: BitSlice<'a, T, O>, f: F, done: bool) -> Splits<'a, T, O, F, A, B>
         ensures bits { result.bits ≡ view_bits (read_by T.BitRegister O.position) view.entry }
         ensures head { result.head ≡ view_head view.entry }
         ensures callee { result.callee ≡ f }
@@ -111,9 +111,13 @@ impl<
     fn size_hint(&self) -> (usize, Option<usize>)
         ensures lower { IsWithinCount result.0 (at_most (if self.now.done then 0 else length self.now.bits + 1)) }
         ensures upper { IfSome result.1 (UpTo (at_most (if self.now.done then 0 else length self.now.bits + 1))) }
-        ensures exact { result ≡ (0, None) }
+        ensures exact { result ≡ (0, Some (if self.now.done then 0 else length self.now.bits + 1)) }
     {
-        (0, None)
+        if self.done {
+            return (0, Some(0));
+        }
+        let (_, _, left) = self.view.parts();
+        (0, Some(left + 1))
     }
 }
 

@@ -1,8 +1,8 @@
 //! Splits by predicates, to read: what a predicate is asked, and parts by their numbers.
 
 use crate::list::is_one;
-use bit_addressing_memory::Lsb0;
-use bit_slice_splits::BitsSplits;
+use bit_addressing_memory::{BitOrder, BitRegister, Lsb0};
+use bit_slice_splits::{BitsSplits, Split};
 use bit_slice_views::{BitSlice, Bits};
 
 // A part as a number, its first bit in front, behind a one that tells its length; 0 of none.
@@ -43,6 +43,27 @@ fn a_predicate_is_asked(rt: HostRuntime) {
     }
     // 0 and 1 from the front, 0 and 1 from the back, the two between
     assert!(rt; calls == 6);
+}
+
+// The first part: it lives as long as the words, and not as the window's value.
+fn first_part<'a, T: BitRegister + 'a, O: BitOrder<T>>(
+    view: BitSlice<'a, T, O>,
+) -> Option<BitSlice<'a, T, O>> {
+    let mut parts = Split::new(view, is_one, false);
+    parts.next()
+}
+
+#[test]
+fn a_part_outlives_the_window(rt: HostRuntime) {
+    // the bits 0, 1, 0, 0, 1, 0
+    let words = [0xd2u8];
+    let first = first_part(BitSlice::<u8, Lsb0>::from_place(&words, 0, 6));
+    assert!(rt; row(first) == 0b10);
+    let view = BitSlice::<u8, Lsb0>::from_place(&words, 0, 6);
+    let mut parts = view.split(is_one);
+    assert!(rt; parts.size_hint() == (0, Some(7)) && row(parts.next()) == 0b10);
+    assert!(rt; parts.size_hint() == (0, Some(5)) && row(parts.nth(1)) == 0b10);
+    assert!(rt; parts.size_hint() == (0, Some(0)));
 }
 
 #[test]

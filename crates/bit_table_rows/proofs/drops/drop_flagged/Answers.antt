@@ -16,7 +16,7 @@ returns-clause-bits g c =
     record {
       bits =
           c.keep_rows_of-left.ensures.bits
-          ∙ ap (λ flags. kept 1 flags xs) c.as_bitslice.ensures
+          ∙ ap (λ flags. kept 1 flags xs) c.as_bitslice.ensures.bits
           ∙ rows_that_stay 1 (λ n bits. bits) bits_as_rows c.args.n off xs c.requires.flags all;
       head = c.keep_rows_of-left.ensures.head;
     }

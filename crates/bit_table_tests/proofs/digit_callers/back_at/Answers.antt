@@ -14,7 +14,7 @@ returns-clause-same g c =
     let size = length-field_bits Low n _ in
     let held =
     c.part.ensures.bits
-    ∙ ap (λ l. piece l c.args.at n) (c.as_bitslice.ensures ∙ c.store_low_at.ensures.bits)
+    ∙ ap (λ l. piece l c.args.at n) (c.as_bitslice.ensures.bits ∙ c.store_low_at.ensures.bits)
     ∙ part_stored xs _ c.args.at n size c.requires.within in
     to_z-of_z w128 c.load_low.result (record { sfits = c.load_low.type_inv })
     ∙ c.load_low.ensures.value

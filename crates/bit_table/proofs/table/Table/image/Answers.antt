@@ -9,7 +9,7 @@ pub returns : goal.returns
 returns g c =
     let t = c.self.inside in
     let h = c.self.invariant in
-    let made = c.new.ensures ∙ c.in_ok-bytes.ensures ∙ ap (bytes_of t.layout.rule) c.as_bitslice.ensures in
+    let made = c.new.ensures ∙ c.in_ok-bytes.ensures ∙ ap (bytes_of t.layout.rule) c.as_bitslice.ensures.bits in
     ap₂ Image (count_is _ t.layout _ _ _ c.self.view_is h.0 h.1 h.2)
     (made ∙ ap₂ (λ (l : LayoutShape) bits. bytes_of l.rule bits) (layout_is _ t.layout _ _ _
     c.self.view_is h.0 h.1 h.2) (bits_are _ t.layout _ _ _ c.self.view_is h.0 h.1 h.2))

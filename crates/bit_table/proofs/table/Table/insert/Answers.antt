@@ -33,7 +33,7 @@ returns-clause-ok g c =
     let buffer = array_bits reading g.A.BitViewSized.words c.row_of-buffer.result in
     let row : view_bits reading c.part.result ≡ numbers_bits t.layout.rule t.layout.fields vs =
     c.part.ensures.bits
-    ∙ ap (λ xs. piece xs 0 c.row_bits-width.result) c.as_bitslice.ensures
+    ∙ ap (λ xs. piece xs 0 c.row_bits-width.result) c.as_bitslice.ensures.bits
     ∙ front_is buffer c.row_bits-width.result
     ∙ ap (λ k. take k buffer) c.row_bits-width.ensures.bits
     ∙ c.row_of-buffer.ensures.bits in

@@ -5,4 +5,4 @@ use Rattle.bit_table.proofs.table.Table.row_bits.Goals as goal
 pub returns : goal.returns
 returns g c =
     let h = c.self.invariant in
-    c.as_bitslice.ensures ∙ bits_are _ c.self.inside.layout _ _ _ c.self.view_is h.0 h.1 h.2
+    c.as_bitslice.ensures.bits ∙ bits_are _ c.self.inside.layout _ _ _ c.self.view_is h.0 h.1 h.2

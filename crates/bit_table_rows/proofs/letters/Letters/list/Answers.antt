@@ -13,7 +13,7 @@ returns g c =
     let n = c.self.inside.rows in
     let x = c.args.letter in
     let d = c.index-self-letter.result in
-    c.as_bitslice.ensures
+    c.as_bitslice.ensures.bits
     ∙ sym (column_is reading n lists c.self.invariant x d c.requires)
     ∙ sym (column_marked (map (vec_bits reading) lists) n x c.requires
     (column_size reading n lists c.self.invariant x c.requires))

@@ -1,5 +1,6 @@
 -- A writable window cut at the borders of its words, as contracts see it.
-use Rattle.std.specs.Prelude.{ℕ, ◌≡◌, ◌+◌, ◌-◌, ◌*◌, ◌/◌, ◌%◌, ◌≤◌, min}
+use Rattle.std.specs.Prelude.{ℕ, ◌≡◌, ◌+◌, ◌-◌, ◌*◌, ◌/◌, ◌%◌, ◌^◌, ◌<◌, ◌≤◌, List, length, min}
+use Rattle.bit_addressing_span.specs.declared.span.TheConstants.{MAX_BITS}
 use Rattle.bit_slice_access.specs.declared.bit_domain_mut.BitDomainMut.{BitDomainMut}
 
 -- how many of the n bits from a place on stand before the first border of words of b bits
@@ -38,3 +39,10 @@ pub record IsCutAt {V S O : Type 0} (b place n : ℕ) (domain : BitDomainMut V S
   pub first : cut_first domain ≡ head_bits b place n
   pub body : cut_body domain ≡ body_bits b place n
   pub inside : cut_first domain + cut_body domain ≤ n
+
+-- the parts lie in the window's words, of b bits: what a function that is handed a cut asks of it to lend its parts
+pub record CutLies {V S O : Type 0} (b : ℕ) (words : V → List S) (domain : BitDomainMut V S O) : Type 0 where
+  pub ordered : cut_first domain + cut_body domain ≤ cut_len domain
+  pub fits : cut_place domain + cut_len domain ≤ length (words (cut_view domain)) * b
+  pub short : cut_len domain ≤ MAX_BITS
+  pub small : cut_place domain + cut_len domain < 2 ^ 63

@@ -23,14 +23,16 @@ pub struct BitDomainMut<'s, V: BitsWindow> {
 }
 
 impl<V: BitsWindow> Drop for BitDomainMut<'_, V> {
+    ghost use Rattle.bit_slice_access.specs.Cut.{cut_len, cut_place, cut_view};
+
     fn drop(self)
-        requires fits { self.head + self.len ≤ length (V.words self.of.now) * V.Store.BITS }
-        requires short { self.len ≤ MAX_BITS }
-        requires small { self.head + self.len < 2 ^ 63 }
-        ensures words { V.words self.exit.0.now ≡ V.words self.entry.of.now }
-        ensures lender { V.lender self.exit.0.now ≡ V.lender self.entry.of.now }
-        ensures place { V.place self.exit.0.now ≡ self.entry.head }
-        ensures len { length (V.bits self.exit.0.now) ≡ self.entry.len }
+        requires fits { cut_place self + cut_len self ≤ length (V.words (cut_view self)) * V.Store.BITS }
+        requires short { cut_len self ≤ MAX_BITS }
+        requires small { cut_place self + cut_len self < 2 ^ 63 }
+        ensures words { V.words self.exit.0.now ≡ V.words (cut_view self.entry) }
+        ensures lender { V.lender self.exit.0.now ≡ V.lender (cut_view self.entry) }
+        ensures place { V.place self.exit.0.now ≡ cut_place self.entry }
+        ensures len { length (V.bits self.exit.0.now) ≡ cut_len self.entry }
     {
         let BitDomainMut {
             of,

@@ -3,7 +3,7 @@
 ghost use Rattle.std.specs.Prelude.{◌≡◌, ◌+◌, ◌/◌, ◌%◌, ◌^◌, ◌<◌, ◌≤◌, length};
 ghost use Rattle.std.specs.Fn.{FnOnceReturnsAtMut};
 ghost use Rattle.bit_addressing_span.specs.declared.span.TheConstants.{MAX_BITS};
-ghost use Rattle.bit_slice_access.specs.Cut.{cut_loan, cut_view, IsCutAt};
+ghost use Rattle.bit_slice_access.specs.Cut.{cut_loan, cut_view, CutLies, IsCutAt};
 ghost use Rattle.bit_slice_access.specs.Domain.{domain_loan, domain_view};
 ghost use Rattle.bit_slice_access.specs.Halves.{IsSplit, KeepsHalves, halves_words};
 
@@ -33,6 +33,9 @@ pub trait BitsDomains: BitsWindow {
         // What the window's type says.
         ensures short { length (Self.bits self.old) ≤ MAX_BITS }
         ensures small { Self.place self.old + length (Self.bits self.old) < 2 ^ 63 }
+
+        // What its calls ask.
+        ensures lies { CutLies Self.Store.BITS Self.words result }
     {
         let place = self.first_place();
         let len = self.len();

@@ -3,8 +3,8 @@
 -- The window, as its last borrower left it: `pieces_view`, `pieces_loan`; where it lies when it shows all its bits:
 -- `pieces_place`, `pieces_len`; its bits and its frame as they are then: `pieces_whole`, `pieces_around`. How it is cut:
 -- `pieces_size`; which pieces were not lent yet: those from `pieces_front` up to before `pieces_back`; whether the bits
--- that are in none were taken: `pieces_taken`, `rest_left`. Freshly made: `CutsAll`.
-use Rattle.std.specs.Prelude.{ℕ, ◌≡◌, ◌+◌, ◌<◌, ◌≤◌, ◌^◌, Bool, true, false, List, length}
+-- that are in none were taken: `pieces_taken`, `rest_left`. Freshly made: `CutsAll`. What their calls ask: `PiecesLie`.
+use Rattle.std.specs.Prelude.{ℕ, ◌≡◌, ◌+◌, ◌*◌, ◌<◌, ◌≤◌, ◌^◌, Bool, true, false, List, length}
 use Rattle.bit_addressing_memory.specs.Memory.{Reading, memory, piece}
 use Rattle.bit_addressing_span.specs.declared.span.TheConstants.{MAX_BITS}
 use Rattle.bit_slice_iterators.specs.Cuts.{Cut}
@@ -69,5 +69,16 @@ pub record CutsAll {V C S O X : Type 0} (reading : Reading S) (lender : V → X)
   pub back : pieces_back pieces ≡ cut.count (length (bits v)) size
   pub taken : pieces_taken pieces ≡ false
   -- what the window's type says
+  pub short : pieces_len pieces ≤ MAX_BITS
+  pub small : pieces_place pieces + pieces_len pieces < 2 ^ 63
+
+-- the pieces lie in the window, and this in its words, of b bits: what a function that is handed pieces asks of them to
+-- lend some
+pub record PiecesLie {V C S O : Type 0} (b : ℕ) (words : V → List S) (cut : Cut) (pieces : PiecesMut V C S O)
+    : Type 0 where
+  pub some : 0 < pieces_size pieces
+  pub ordered : pieces_front pieces ≤ pieces_back pieces
+  pub within : pieces_back pieces ≤ cut.count (pieces_len pieces) (pieces_size pieces)
+  pub fits : pieces_place pieces + pieces_len pieces ≤ length (words (pieces_view pieces)) * b
   pub short : pieces_len pieces ≤ MAX_BITS
   pub small : pieces_place pieces + pieces_len pieces < 2 ^ 63

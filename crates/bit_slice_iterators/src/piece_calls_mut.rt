@@ -3,7 +3,7 @@
 ghost use Rattle.std.specs.Prelude.{◌≡◌, ◌<◌};
 ghost use Rattle.bit_addressing_memory.specs.Memory.{read_by};
 ghost use Rattle.bit_slice_iterators.specs.Cuts.{forward, forward_exact, backward, backward_exact, single};
-ghost use Rattle.bit_slice_iterators.specs.PiecesMut.{pieces_loan, CutsAll};
+ghost use Rattle.bit_slice_iterators.specs.PiecesMut.{pieces_loan, CutsAll, PiecesLie};
 
 use crate::iter_mut::IterMut;
 use crate::pieces_mut::{ChunksExactMut, ChunksMut, RChunksExactMut, RChunksMut};
@@ -21,6 +21,7 @@ pub trait BitsPiecesMut: BitsWindow {
         ensures same_reference { pieces_loan result ≡ self.entry.ghost_name }
         ensures cuts { CutsAll (read_by Self.Store.BitRegister Self.Order.position) Self.lender Self.words Self.place
             Self.bits Self.frame forward self.old size result }
+        ensures lies { PiecesLie Self.Store.BITS Self.words forward result }
     {
         ChunksMut::new(self, size)
     }
@@ -31,6 +32,7 @@ pub trait BitsPiecesMut: BitsWindow {
         ensures same_reference { pieces_loan result ≡ self.entry.ghost_name }
         ensures cuts { CutsAll (read_by Self.Store.BitRegister Self.Order.position) Self.lender Self.words Self.place
             Self.bits Self.frame forward_exact self.old size result }
+        ensures lies { PiecesLie Self.Store.BITS Self.words forward_exact result }
     {
         ChunksExactMut::new(self, size)
     }
@@ -42,6 +44,7 @@ pub trait BitsPiecesMut: BitsWindow {
         ensures same_reference { pieces_loan result ≡ self.entry.ghost_name }
         ensures cuts { CutsAll (read_by Self.Store.BitRegister Self.Order.position) Self.lender Self.words Self.place
             Self.bits Self.frame backward self.old size result }
+        ensures lies { PiecesLie Self.Store.BITS Self.words backward result }
     {
         RChunksMut::new(self, size)
     }
@@ -52,6 +55,7 @@ pub trait BitsPiecesMut: BitsWindow {
         ensures same_reference { pieces_loan result ≡ self.entry.ghost_name }
         ensures cuts { CutsAll (read_by Self.Store.BitRegister Self.Order.position) Self.lender Self.words Self.place
             Self.bits Self.frame backward_exact self.old size result }
+        ensures lies { PiecesLie Self.Store.BITS Self.words backward_exact result }
     {
         RChunksExactMut::new(self, size)
     }
@@ -61,6 +65,7 @@ pub trait BitsPiecesMut: BitsWindow {
         ensures same_reference { pieces_loan result ≡ self.entry.ghost_name }
         ensures cuts { CutsAll (read_by Self.Store.BitRegister Self.Order.position) Self.lender Self.words Self.place
             Self.bits Self.frame single self.old 1 result }
+        ensures lies { PiecesLie Self.Store.BITS Self.words single result }
     {
         IterMut::new(self, 1)
     }

@@ -7,7 +7,7 @@ ghost use Rattle.bit_addressing_span.specs.declared.span.TheConstants.{MAX_BITS}
 ghost use Rattle.bit_slice_iterators.specs.Lending.{LendsFirst, LendsLast, LendsRest};
 ghost use Rattle.bit_slice_iterators.specs.PiecesMut.{pieces_around, pieces_back, pieces_front, pieces_len, pieces_loan};
 ghost use Rattle.bit_slice_iterators.specs.PiecesMut.{pieces_place, pieces_size, pieces_taken, pieces_view, pieces_whole};
-ghost use Rattle.bit_slice_iterators.specs.PiecesMut.{rest_left, CutsAll};
+ghost use Rattle.bit_slice_iterators.specs.PiecesMut.{rest_left, CutsAll, PiecesLie};
 ghost use Rattle.bit_slice_access.specs.Part.{part_loan};
 ghost use Rattle.bit_slice_iterators.specs.Remainder.{IsRest};
 
@@ -47,9 +47,9 @@ pub type RChunksExactMut<'s, V> = PiecesMut<'s, V, BackwardExact>;
 #[tactic(auto, using(bit_slice_access::proofs::PartLemmas::shows_all, bit_slice_access::proofs::PartLemmas::framed_all))]
 impl<V: BitsWindow, C: Cuts> Drop for PiecesMut<'_, V, C> {
     fn drop(self)
-        requires fits { self.head + self.len ≤ length (V.words self.of.now) * V.Store.BITS }
-        requires short { self.len ≤ MAX_BITS }
-        requires small { self.head + self.len < 2 ^ 63 }
+        requires fits { pieces_place self + pieces_len self ≤ length (V.words (pieces_view self)) * V.Store.BITS }
+        requires short { pieces_len self ≤ MAX_BITS }
+        requires small { pieces_place self + pieces_len self < 2 ^ 63 }
         ensures bits { V.bits self.exit.0.now
             ≡ pieces_whole (read_by V.Store.BitRegister V.Order.position) V.words self.entry }
         ensures frame { V.frame self.exit.0.now
@@ -78,6 +78,7 @@ impl<'s, V: BitsWindow, C: Cuts> PiecesMut<'s, V, C> {
         ensures same_reference { pieces_loan result ≡ of.entry.ghost_name }
         ensures cuts { CutsAll (read_by V.Store.BitRegister V.Order.position) V.lender V.words V.place V.bits V.frame
             C.cut of.old by result }
+        ensures lies { PiecesLie V.Store.BITS V.words C.cut result }
     {
         let head = of.first_place();
         let len = of.len();

@@ -47,9 +47,9 @@ pub type SplitInclusiveMut<'s, V, F> = SplitsMut<'s, V, F, InclusiveFront, Inclu
 #[tactic(auto, using(bit_slice_access::proofs::PartLemmas::shows_all, bit_slice_access::proofs::PartLemmas::framed_all))]
 impl<V: BitsWindow, F: Drop, A, B> Drop for SplitsMut<'_, V, F, A, B> {
     fn drop(self)
-        requires fits { self.head + self.len ≤ length (V.words self.of.now) * V.Store.BITS }
-        requires short { self.len ≤ MAX_BITS }
-        requires small { self.head + self.len < 2 ^ 63 }
+        requires fits { parts_place self + parts_len self ≤ length (V.words (parts_view self)) * V.Store.BITS }
+        requires short { parts_len self ≤ MAX_BITS }
+        requires small { parts_place self + parts_len self < 2 ^ 63 }
         ensures bits { V.bits self.exit.0.now
             ≡ parts_whole (read_by V.Store.BitRegister V.Order.position) V.words self.entry }
         ensures frame { V.frame self.exit.0.now

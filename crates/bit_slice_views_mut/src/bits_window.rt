@@ -2,7 +2,7 @@
 
 ghost use Rattle.std.specs.Prelude.{◌≡◌, ◌+◌, ◌*◌, ◌<◌, ◌≤◌, ◌^◌, length};
 ghost use Rattle.bit_addressing_span.specs.declared.span.TheConstants.{MAX_BITS};
-ghost use Rattle.bit_slice_views_mut.specs.Pair.{pair_len, pair_loan, pair_mid, pair_place, pair_view};
+ghost use Rattle.bit_slice_views_mut.specs.Pair.{pair_len, pair_loan, pair_mid, pair_place, pair_view, PairLies};
 
 use crate::bits_mut::BitsMut;
 use crate::pair::Pair;
@@ -34,6 +34,9 @@ pub trait BitsWindow: BitsMut {
         // What the window's type says.
         ensures short { pair_len result ≤ MAX_BITS }
         ensures small { pair_place result + pair_len result < 2 ^ 63 }
+
+        // What its calls ask.
+        ensures lies { PairLies Self.Store.BITS Self.words result }
     {
         let head = self.first_place();
         let len = self.len();

@@ -19,14 +19,16 @@ pub struct Pair<'s, V: BitsWindow> {
 }
 
 impl<V: BitsWindow> Drop for Pair<'_, V> {
+    ghost use Rattle.bit_slice_views_mut.specs.Pair.{pair_len, pair_place, pair_view};
+
     fn drop(self)
-        requires fits { self.head + self.len ≤ length (V.words self.of.now) * V.Store.BITS }
-        requires short { self.len ≤ MAX_BITS }
-        requires small { self.head + self.len < 2 ^ 63 }
-        ensures words { V.words self.exit.0.now ≡ V.words self.entry.of.now }
-        ensures lender { V.lender self.exit.0.now ≡ V.lender self.entry.of.now }
-        ensures place { V.place self.exit.0.now ≡ self.entry.head }
-        ensures len { length (V.bits self.exit.0.now) ≡ self.entry.len }
+        requires fits { pair_place self + pair_len self ≤ length (V.words (pair_view self)) * V.Store.BITS }
+        requires short { pair_len self ≤ MAX_BITS }
+        requires small { pair_place self + pair_len self < 2 ^ 63 }
+        ensures words { V.words self.exit.0.now ≡ V.words (pair_view self.entry) }
+        ensures lender { V.lender self.exit.0.now ≡ V.lender (pair_view self.entry) }
+        ensures place { V.place self.exit.0.now ≡ pair_place self.entry }
+        ensures len { length (V.bits self.exit.0.now) ≡ pair_len self.entry }
     {
         let Pair {
             of,

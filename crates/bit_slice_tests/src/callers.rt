@@ -4,11 +4,12 @@ ghost use Rattle.std.specs.Prelude.{◌≡◌, ◌+◌, ◌*◌, ◌^◌, ◌<�
 ghost use Rattle.std.specs.Prelude.{IsTrue};
 ghost use Rattle.bit_addressing_memory.specs.Memory.{memory, piece, read_by, touched, with_piece};
 ghost use Rattle.bit_slice_views_mut.specs.Frame.{KeepsBeside};
+ghost use Rattle.bit_slice_views_mut.specs.Pair.{PairLies};
 
 use bit_addressing_memory::{BitOrder, BitRegister, Lsb0, Msb0};
 use bit_addressing_span::MAX_BITS;
 use bit_slice_views::{BitSlice, Bits};
-use bit_slice_views_mut::{BitSliceMut, BitsMut, BitsWindow};
+use bit_slice_views_mut::{BitSliceMut, BitsMut, BitsWindow, Pair};
 
 /// A window of one's own words filled: its list is known, and every bit beside it is as it was, in a shared word too.
 #[tactic(auto, using(bit_slice_views_mut::proofs::FrameLemmas::frames))]
@@ -35,6 +36,13 @@ pub fn set_both<V: BitsWindow>(view: &mut V, mid: usize, left: usize, right: usi
     let mut pair = view.split_at_mut(mid);
     pair.left_mut().set(left, true);
     pair.right_mut().set(right, true);
+}
+
+/// The first part of a pair that was handed in, filled: what its calls ask is asked in one line.
+pub fn fill_left<V: BitsWindow>(pair: &mut Pair<'_, V>)
+    requires { PairLies V.Store.BITS V.words pair.old }
+{
+    pair.left_mut().fill(true);
 }
 
 /// Both parts of all bits of one's own words.

@@ -22,6 +22,8 @@ mod parts;
 mod piece_rows;
 pub mod pieces;
 #[cfg(test)]
+mod refused;
+#[cfg(test)]
 mod rows;
 #[cfg(test)]
 mod shared;

@@ -1,0 +1,19 @@
+//! Accesses to write that are refused: no contract says that they write nothing.
+
+use bit_addressing_memory::Lsb0;
+use bit_slice_access::{BitsAccess, BitsCut};
+use bit_slice_views_mut::BitSliceMut;
+
+#[test]
+fn what_is_refused_writes_nothing(rt: HostRuntime) {
+    let mut words = [0xa5u8, 0x5a];
+    let mut view = BitSliceMut::<u8, Lsb0>::from_place_mut(&mut words, 3, 10);
+    assert!(rt; view.get_mut(10).is_none());
+    assert!(rt; view.get_mut(4..11).is_none());
+    assert!(rt; words == [0xa5, 0x5a]);
+    let mut none = BitSliceMut::<u8, Lsb0>::from_place_mut(&mut words, 3, 0);
+    assert!(rt; none.first_mut().is_none() && none.last_mut().is_none());
+    assert!(rt; none.split_first_mut().is_none());
+    assert!(rt; none.split_last_mut().is_none());
+    assert!(rt; words == [0xa5, 0x5a]);
+}

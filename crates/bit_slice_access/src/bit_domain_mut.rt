@@ -7,7 +7,7 @@ ghost use Rattle.bit_slice_access.specs.Lending.{LendsPart};
 
 use bit_addressing_memory::{BitRegister, mem};
 use bit_slice_views::Bits;
-use bit_slice_views_mut::{BitsMut, BitsWindow};
+use bit_slice_views_mut::{BitsMut, BitsShown, BitsWindow};
 
 /// A window cut at the borders of its words: the bits before the first border, the whole words behind it, and the bits
 /// behind the last border. A part may have no bits. One part is lent at a time.

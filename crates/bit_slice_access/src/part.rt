@@ -8,7 +8,7 @@ ghost use Rattle.bit_slice_views_mut.specs.Frame.{frame_of};
 
 use bit_addressing_memory::BitRegister;
 use bit_slice_views::{BitSlice, Bits};
-use bit_slice_views_mut::{BitsMut, BitsWindow};
+use bit_slice_views_mut::{BitsMut, BitsShown, BitsWindow};
 
 /// Some bits of a window, as a window of its own: what a range lends.
 ///
@@ -87,11 +87,13 @@ impl<V: BitsWindow> BitsMut for Part<'_, V> {
     ghost starts = { λ part. V.starts (part_view part) };
 }
 
-impl<V: BitsWindow> BitsWindow for Part<'_, V> {
+impl<V: BitsWindow> BitsShown for Part<'_, V> {
     fn show(&mut self, from: usize, count: usize) {
         self.of.show(from, count);
     }
 }
+
+impl<V: BitsWindow> BitsWindow for Part<'_, V> {}
 
 impl<'s, V: BitsWindow> Part<'s, V> {
     ghost use Rattle.bit_slice_access.specs.Part.{part_loan};

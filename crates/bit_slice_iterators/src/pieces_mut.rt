@@ -15,7 +15,7 @@ use crate::cuts::{Backward, BackwardExact, Cuts, ExactCuts, Forward, ForwardExac
 use bit_addressing_memory::BitRegister;
 use bit_slice_access::Part;
 use bit_slice_views::Bits;
-use bit_slice_views_mut::{BitsMut, BitsWindow};
+use bit_slice_views_mut::{BitsMut, BitsShown, BitsWindow};
 use std::marker::PhantomData;
 
 /// The pieces of a writable window that were not lent yet, of which one is lent at a time.

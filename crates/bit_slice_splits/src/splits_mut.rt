@@ -15,7 +15,7 @@ use crate::search::asked_in;
 use crate::ways::{FromBack, FromFront, InclusiveBack, InclusiveFront, Parting, SplitEnd};
 use bit_addressing_memory::BitRegister;
 use bit_slice_views::Bits;
-use bit_slice_views_mut::{BitsMut, BitsWindow};
+use bit_slice_views_mut::{BitsMut, BitsShown, BitsWindow};
 use std::marker::PhantomData;
 
 /// The parts of a writable window that were not lent yet, of which one is lent at a time.

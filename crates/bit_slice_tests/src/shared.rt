@@ -3,7 +3,7 @@
 use bit_addressing_memory::{Lsb0, Msb0};
 use bit_slice_access::BitsParts;
 use bit_slice_views::{BitSlice, Bits};
-use bit_slice_views_mut::{BitSliceMut, BitsMut, BitsWindow};
+use bit_slice_views_mut::{BitSliceMut, BitsMut, BitsShown};
 use bit_slice_words::WordPaths;
 use std::cmp::Ordering;
 use std::hash::{DefaultHasher, Hash, Hasher};

@@ -9,9 +9,11 @@ use crate::pair::Pair;
 use bit_addressing_memory::BitRegister;
 use bit_slice_views::Bits;
 
-/// A writable window that can show any bits of its words, and so be cut into parts. A container is none, as its list
-/// begins in its first word.
-pub trait BitsWindow: BitsMut {
+/// What can show any bits of its words.
+///
+/// It is for the crates that lend parts of windows, and `bit_slice` does not show it: `show` leaves a window at other
+/// bits than those that were lent, and what is written then is beside the window.
+pub trait BitsShown: BitsMut {
     /// Shows another window of the same words.
     fn show(&mut self, from: usize, count: usize)
         requires fits { from + count ≤ length (Self.words self.old) * Self.Store.BITS }
@@ -21,7 +23,10 @@ pub trait BitsWindow: BitsMut {
         ensures lender { Self.lender self.new ≡ Self.lender self.old }
         ensures place { Self.place self.new ≡ from }
         ensures len { length (Self.bits self.new) ≡ count };
+}
 
+/// A writable window, which can be cut into parts. A container is none, as its list begins in its first word.
+pub trait BitsWindow: BitsShown {
     /// Two parts, the first `mid` bits and the others, of which one is lent at a time.
     final fn split_at_mut(&mut self, mid: usize) -> Pair<'_, Self>
         requires { mid ≤ length (Self.bits self.old) }

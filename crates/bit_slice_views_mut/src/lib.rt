@@ -16,7 +16,7 @@ mod windows;
 
 pub use bit_view::BitView;
 pub use bits_mut::BitsMut;
-pub use bits_window::BitsWindow;
+pub use bits_window::{BitsShown, BitsWindow};
 pub use make::from_mut;
 pub use operators::{and_view, or_view, xor_view};
 pub use pair::Pair;

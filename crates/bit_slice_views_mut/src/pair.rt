@@ -6,7 +6,7 @@ ghost use Rattle.bit_addressing_span.specs.declared.span.TheConstants.{MAX_BITS}
 ghost use Rattle.bit_slice_views_mut.specs.Lending.{LendsHalf};
 
 use crate::bits_mut::BitsMut;
-use crate::bits_window::BitsWindow;
+use crate::bits_window::{BitsShown, BitsWindow};
 use bit_addressing_memory::BitRegister;
 use bit_slice_views::Bits;
 

@@ -7,7 +7,7 @@ ghost use Rattle.bit_addressing_span.specs.declared.span.TheConstants.{MAX_BITS}
 ghost use Rattle.bit_addressing_span.specs.declared.span_error.BitSpanError.TheVariants.{TooLong};
 
 use crate::bits_mut::BitsMut;
-use crate::bits_window::BitsWindow;
+use crate::bits_window::{BitsShown, BitsWindow};
 use bit_addressing_memory::{BitIdx, BitOrder, BitRegister, mem};
 use bit_addressing_span::{BitSpanError, MAX_BITS};
 use bit_slice_views::{BitSlice, Bits};
@@ -162,12 +162,14 @@ impl<T: BitRegister, O: BitOrder<T>> BitsMut for BitSliceMut<'_, T, O> {
 }
 
 #[tactic(auto, using(crate::proofs::FrameLemmas::frames))]
-impl<T: BitRegister, O: BitOrder<T>> BitsWindow for BitSliceMut<'_, T, O> {
+impl<T: BitRegister, O: BitOrder<T>> BitsShown for BitSliceMut<'_, T, O> {
     fn show(&mut self, from: usize, count: usize) {
         self.head = from;
         self.len = count;
     }
 }
+
+impl<T: BitRegister, O: BitOrder<T>> BitsWindow for BitSliceMut<'_, T, O> {}
 
 // A function's work on words, which keeps how many there are.
 fn apply<T: BitRegister, A, F: FnOnce(&mut [T]) -> A>(words: &mut [T], f: F) -> A

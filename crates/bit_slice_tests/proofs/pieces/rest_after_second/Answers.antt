@@ -17,5 +17,12 @@ returns-clause-head g c =
     let shown = view_bits (read_by g.T.BitRegister g.O.Positions.position) in
     let kept = kept_by_nth (GivesFirst shown view_head) (λ s r t step. step.2) c.new-pieces.result 1 c.nth.result
     c.nth.new.self c.nth.ensures.ran in
-    cc (c.remainder.ensures.head, kept.0, kept.1, kept.2, c.new-pieces.ensures.bits, c.new-pieces.ensures.head,
-    c.new-pieces.ensures.size)
+    cc (
+      c.remainder.ensures.head,
+      kept.0,
+      kept.1,
+      kept.2,
+      c.new-pieces.ensures.bits,
+      c.new-pieces.ensures.head,
+      c.new-pieces.ensures.size,
+    )

@@ -1,12 +1,9 @@
 -- The words of a writable window, as contracts see them.
-use Rattle.std.specs.Prelude.{ℕ, ◌≡◌, ◌+◌, ◌/◌, ◌%◌, ◌<◌, Bool, List, Option, length}
+use Rattle.std.specs.Prelude.{ℕ, ◌≡◌, ◌+◌, ◌/◌, ◌%◌, Bool, List}
 use Rattle.bit_addressing_memory.specs.Memory.{Overwrites, Reading}
 use Rattle.bit_addressing_span.specs.Parts.{part_count, part_from, part_place, part_upto}
 use Rattle.bit_addressing_memory.specs.Partial.{ReadsPart}
-use Rattle.bit_addressing_span.specs.Domain.{domain_bits, domain_numbers, domain_start, IsCut}
 use Rattle.bit_addressing_span.specs.Span.{Extent, extent}
-use Rattle.bit_addressing_span.specs.Texts.{numbers_text}
-use Rattle.bit_addressing_span.specs.declared.domain.Domain.{Domain}
 use Rattle.bit_slice_access.specs.declared.domain_mut.WindowDomainMut.{WindowDomainMut}
 
 -- the span of the n bits from a place on, at words of b bits
@@ -29,13 +26,3 @@ ReadsWord reading words span k word =
 abbrev pub WritesWord : {R : Type 0} → Reading R → List R → List R → Extent → ℕ → (ℕ → Bool) → Type 0
 WritesWord reading before after span k now =
     Overwrites reading before after (part_place reading.bits span k) (part_count reading.bits span k) now
-
--- the text is that of the masked words of these bits, which begin at index `head` of a word: of a domain that has the
--- bits from there on, cut at the borders of words, its numbers each written by `form`
-pub record IsWindowText {R O : Type 0} {g : _} (reading : Reading R) (number : R → ℕ) (mask : Option ℕ → Option ℕ → ℕ)
-    (form : ℕ → List ℕ) (bits : List Bool) (head : ℕ) (text : List ℕ) : Type 0 where
-  pub shown : Domain R O g
-  pub bits_are : domain_bits reading shown ≡ bits
-  pub starts : 0 < length bits → domain_start shown ≡ head
-  pub cut : IsCut reading.bits shown
-  pub is : text ≡ numbers_text form (domain_numbers number mask shown)

@@ -16,7 +16,7 @@ use bit_slice_views_mut::BitsMut;
 /// The words of a writable window, each read and written in the part of it that lies in the window.
 ///
 /// It has the calls of `bit_addressing`'s `DomainMut`, which has words of its own; this one holds the window. No write
-/// changes a bit outside the window.
+/// changes a bit outside the window. Its texts are those of `as_domain`.
 #[derive(Drop)]
 pub struct WindowDomainMut<'s, V: BitsMut> {
     of: &'s mut V,

@@ -7,7 +7,6 @@ mod bit_mut;
 mod copies;
 mod cut;
 mod domain_mut;
-mod domain_mut_text;
 mod domains;
 mod edits;
 mod fills;

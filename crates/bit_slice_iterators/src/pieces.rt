@@ -152,12 +152,11 @@ impl<'a, T: BitRegister + 'a, O: BitOrder<T>, C: Cuts> Iterator for Pieces<'a, T
             self.old result self.new }
         ensures goes { MakesProgress (λ _. ⊤) (item_count (λ pieces. pieces.left)) self.old result self.new }
 
-        // It lies where the cut says.
-        ensures heads { YieldsFirstBy view_head (λ pieces. pieces.heads) self.old result self.new }
+        // The same, and it lies where the cut says.
+        ensures gives { GivesFirst (view_bits (read_by T.BitRegister O.position)) view_head self.old result self.new }
 
         // What is cut stays, and so what is in no piece.
         ensures bits { self.new.bits ≡ self.old.bits }
-        ensures head { self.new.head ≡ self.old.head }
         ensures size { self.new.size ≡ self.old.size }
     {
         let at = self.front;
@@ -186,9 +185,8 @@ impl<'a, T: BitRegister + 'a, O: BitOrder<T>, C: Cuts> DoubleEndedIterator for P
         ensures steps { YieldsLastBy (view_bits (read_by T.BitRegister O.position)) (λ pieces. pieces.left)
             self.old result self.new }
         ensures goes { MakesProgress (λ _. ⊤) (item_count (λ pieces. pieces.left)) self.old result self.new }
-        ensures heads { YieldsLastBy view_head (λ pieces. pieces.heads) self.old result self.new }
+        ensures gives { GivesLast (view_bits (read_by T.BitRegister O.position)) view_head self.old result self.new }
         ensures bits { self.new.bits ≡ self.old.bits }
-        ensures head { self.new.head ≡ self.old.head }
         ensures size { self.new.size ≡ self.old.size }
     {
         if self.front == self.back {

@@ -7,7 +7,7 @@ ghost use Rattle.bit_addressing_span.specs.declared.span.TheConstants.{MAX_BITS}
 ghost use Rattle.bit_slice_splits.specs.Lending.{LendsNext, LendsPart};
 ghost use Rattle.bit_slice_splits.specs.SplitsMut.{parts_around, parts_found_len, parts_found_start};
 ghost use Rattle.bit_slice_splits.specs.SplitsMut.{parts_callee, parts_count, parts_done, parts_found, parts_most};
-ghost use Rattle.bit_slice_splits.specs.SplitsMut.{parts_loan, parts_place, parts_view, parts_whole};
+ghost use Rattle.bit_slice_splits.specs.SplitsMut.{parts_len, parts_loan, parts_place, parts_view, parts_whole};
 ghost use Rattle.bit_slice_splits.specs.SplitsMut.{KeepsWindow, LiesIn, PartsBy, SplitsAll};
 ghost use Rattle.bit_slice_splits.specs.Takes.{parts_state, TakesPart, TakesRest};
 

@@ -16,14 +16,14 @@ import worked
 import worked_lines
 from plain import Layout, Table
 
-WORDS = {"u8": 8, "u16": 16, "u32": 32, "u64": 64, "usize": 64}
+WORDS = {"u8": 8, "u16": 16, "u32": 32, "u64": 64, "u128": 128, "usize": 64}
 ORDERS = {
     "lsb0": lambda bits, i: i,
     "msb0": lambda bits, i: bits - 1 - i,
     "hilo": lambda bits, i: i ^ 4,
     "third": lambda bits, i: (3 * i + 1) % bits,
 }
-STORAGES = [(word, order) for word in ("u8", "u16", "u32", "u64") for order in ORDERS]
+STORAGES = [(word, order) for word in ("u8", "u16", "u32", "u64", "u128") for order in ORDERS]
 MEMORIES = [(word, order) for word in WORDS for order in ORDERS]
 PIECES = (0, 1, 3, 13, 64, 4096)
 
@@ -94,7 +94,7 @@ def thrown_scripts():
     rng = random.Random(3)
     for number in range(320):
         script = thrown.script(rng, thrown.WIDTHS[number % 9], rng.choice((10, 16, 24)), rng.choice((0, 0, 3, 9)))
-        run(script, lines(script), [STORAGES[number % 16]])
+        run(script, lines(script), [STORAGES[number % len(STORAGES)]])
     for number, width in enumerate((1, 8, 63)):
         script = thrown.script(rng, width, 300)
         run(script, lines(script), [STORAGES[number * 5]])
@@ -151,7 +151,7 @@ def edits(rows):
 def edited_tables():
     """Rows of some widths, which bear letters, kept and edited in each way, and put back."""
     rng = random.Random(9)
-    storages = itertools.cycle(MEMORIES[:16])
+    storages = itertools.cycle(STORAGES)
     for width, rows, _ in itertools.product((1, 3, 7, 8, 9), range(5), range(2)):
         word, order = next(storages)
         thrower = thrown.Thrower(rng, 1)
@@ -175,7 +175,7 @@ def thrown_tables():
     """Tables thrown together, with steps, moves and other storages."""
     rng = random.Random(4)
     for number in range(96):
-        word, order = STORAGES[number % 16]
+        word, order = STORAGES[number % len(STORAGES)]
         thrower = thrown.Thrower(rng, thrown.WIDTHS[number % 4], WORDS[word], "abdmnz")
         thrower.load(rng.choice((1, 7, 8, 9, 15, 16, 17, 63, 64, 65, 70)))
         for letter in thrower.letters:

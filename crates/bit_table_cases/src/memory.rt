@@ -17,6 +17,7 @@ pub fn in_memory(alloc: Global, kind: &str, rest: &str) -> Result<String, AllocE
         "u16" => in_words::<u16>(alloc, kind, rest),
         "u32" => in_words::<u32>(alloc, kind, rest),
         "u64" => in_words::<u64>(alloc, kind, rest),
+        "u128" => in_words::<u128>(alloc, kind, rest),
         "usize" => in_words::<usize>(alloc, kind, rest),
         _ => "no such case".to_string(alloc),
     }

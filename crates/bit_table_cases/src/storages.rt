@@ -17,6 +17,7 @@ pub fn in_storage(alloc: Global, kind: &str, rest: &str) -> Result<String, Alloc
         "u16" => in_words::<[u16; 16]>(alloc, kind, rest),
         "u32" => in_words::<[u32; 8]>(alloc, kind, rest),
         "u64" => in_words::<[u64; 4]>(alloc, kind, rest),
+        "u128" => in_words::<[u128; 2]>(alloc, kind, rest),
         _ => "no such word".to_string(alloc),
     }
 }

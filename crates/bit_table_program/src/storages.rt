@@ -52,5 +52,8 @@ pub(crate) fn run_over<R: Read, W: Write>(
         (Word::U64, Order::Lsb0) => run::<[u64; 4], Lsb0, _, _>(alloc, input, output),
         (Word::U64, Order::Msb0) => run::<[u64; 4], Msb0, _, _>(alloc, input, output),
         (Word::U64, Order::HiLo) => run::<[u64; 4], HiLo, _, _>(alloc, input, output),
+        (Word::U128, Order::Lsb0) => run::<[u128; 2], Lsb0, _, _>(alloc, input, output),
+        (Word::U128, Order::Msb0) => run::<[u128; 2], Msb0, _, _>(alloc, input, output),
+        (Word::U128, Order::HiLo) => run::<[u128; 2], HiLo, _, _>(alloc, input, output),
     }
 }

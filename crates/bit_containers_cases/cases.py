@@ -60,6 +60,18 @@ ROWS = [
     # 1, 0, 0 are taken out of 0, 1, 0, 0, 1; and 0, 1, 1, 0 put in the place of three ones
     ("u8 msb0 48 0 5 drain 1 4", "[100]100--[01] 0 1"),
     ("u8 msb0 70 0 5 splice 0110 1 4", "11[001100] 0 1"),
+    # the same with each kind of range; and of five bits the second and the last but one are passed to
+    ("u8 msb0 48 0 5 drain_from 3", "[01]01--[010] 0 1"),
+    ("u8 msb0 48 0 5 drain_to 2", "[01]01--[001] 0 1"),
+    ("u8 msb0 48 0 5 drain_with 1 3", "[100]100--[01] 0 1"),
+    ("u8 msb0 48 0 5 drain_upto 1", "[01]01--[001] 0 1"),
+    ("u8 msb0 48 0 5 drain_all", "[01001]01100--[] 0 0"),
+    ("u8 msb0 48 0 5 drain_nth 1 1", "10[0][] 0 0"),
+    ("u8 msb0 70 0 5 splice_with 0110 1 3", "11[001100] 0 1"),
+    ("u8 msb0 70 0 5 splice_from 0110 4", "0-[01110110] 0 1"),
+    ("u8 msb0 70 0 5 splice_all 01", "00[01] 0 1"),
+    ("u8 msb0 70 0 5 splice_nth 01 1 0", "10[] 0 0"),
+    ("u8 msb0 48 0 5 within_with 1 2 ; within_to 1", "[01001100] 0 1"),
     # three zeros in the place of the first bit of the words 1, 2, 3, 4
     ("u8 lsb0 01020304 0 32 splice 000 0 1 ; dead 0 ; raw", "1-00080c1000 [0000000000010000001100000000100000] 0 5"),
     # 0, 1 by turns twelve times, as windows answer: ones, zeros, the last of pieces of five
@@ -383,10 +395,31 @@ def whole_words(plain, name, rng):
     return f"{name} {plain.hex(words) or '-'}"
 
 
-ENDS = "push pop insert remove swap_remove truncate clear resize resize_thirds within".split()
+KINDS = " from to with upto all".split(" ")
+
+
+def kinds(name):
+    """A call that takes a range, by the six kinds: `a..b`, `a..`, `..b`, `a..=b`, `..=b` and `..`."""
+    return [name + (kind and "_" + kind) for kind in KINDS]
+
+
+def range_words(name, n, rng):
+    """The words of such a call's range in a list of n, and the bits that it has; `None` where it has no such kind."""
+    a, b = sorted((rng.randint(0, n), rng.randint(0, n)))
+    return {
+        "": (f" {a} {b}", a, b),
+        "from": (f" {a}", a, n),
+        "to": (f" {b}", 0, b),
+        "with": (f" {a} {b}", a, b + 1) if b < n else None,
+        "upto": (f" {b}", 0, b + 1) if b < n else None,
+        "all": ("", 0, n),
+    }[name.partition("_")[2]]
+
+
+ENDS = "push pop insert remove swap_remove truncate clear resize resize_thirds".split() + kinds("within")
 MEMORY = "reserve reserve_exact shrink align dead set_len elements".split()
 GROWS = "extend extend_slice extend_items append collect extend_raw extend_elements".split()
-TAKES = "split_off drain splice leave keep copies".split()
+TAKES = "split_off leave keep copies drain_nth splice_nth".split() + kinds("drain") + kinds("splice")
 MAKES = (
     "new with_capacity repeat from_vec try_from_vec from_slice try_from_slice from_element from_array collect_elements from_place"
 ).split()
@@ -394,7 +427,7 @@ REMAKES = "not clone boxed iter given".split()
 EDITS = ENDS + MEMORY + GROWS + TAKES + MAKES + REMAKES
 
 # after these there is no list left to speak of
-EMPTIES = "clear new with_capacity iter left given words size".split()
+EMPTIES = "clear new with_capacity iter left own_nth given words size".split()
 
 # and after these it begins elsewhere
 MOVES = MAKES + "align collect from_boxed_slice try_from_boxed_slice".split()
@@ -422,10 +455,13 @@ def end(plain, name, rng):
         kept = rng.choice((a, n + b)) if name == "truncate" else 0
         plain.become(bits[:kept])
         return f"truncate {kept}" if name == "truncate" else name, ""
-    if name == "within":
-        a, b = min(a, b), max(a, b)
+    if name.startswith("within"):
+        found = range_words(name, n, rng)
+        if found is None:
+            return f"{name} {n} {n}", "refused "
+        words, a, b = found
         plain.become(bits + bits[a:b])
-        return f"within {a} {b}", ""
+        return name + words, ""
     size = rng.choice((a, n + rng.randint(0, 40)))
     new = [one] * (size - n) if name == "resize" else [int(i % 3 == 0) for i in range(n, size)]
     plain.become(bits[:size] + new, name == "resize")
@@ -474,18 +510,39 @@ def take(plain, name, rng):
         rest = alone(plain, bits[a:], (plain.head + a) % plain.size)
         plain.become(bits[:a])
         return f"split_off {a}", rest
-    if name == "drain":
+    if name in ("drain_nth", "splice_nth"):
+        return take_nth(plain, name, rng, others)
+    if name == "leave":
         plain.become(bits[:a] + bits[b:], False)
-        return f"drain {a} {b}", shown(bits[a:b]) + turns(bits[a:b])
-    if name in ("splice", "leave"):
-        plain.become(bits[:a] + (others if name == "splice" else []) + bits[b:], False)
-        ends = bit(bits[a:b], 0) + bit(bits[a + 1 : b], b - a - 2)
-        return f"splice {text(others) or '-'} {a} {b}" if name == "splice" else f"leave {a} {b}", ends
+        return f"leave {a} {b}", ends_of(bits[a:b])
+    if name.startswith(("drain", "splice")):
+        found = range_words(name, n, rng)
+        first = f" {text(others) or '-'}" if name.startswith("splice") else ""
+        if found is None:
+            return f"{name}{first} {n} {n}", "refused "
+        words, a, b = found
+        plain.become(bits[:a] + (others if first else []) + bits[b:], False)
+        return name + first + words, ends_of(bits[a:b]) if first else shown(bits[a:b]) + turns(bits[a:b])
     if name == "keep":
         return keep(plain, rng)
     times = rng.randint(0, 3)
     once = alone(plain, bits, plain.head) + f"{shown(bits)}{plain.head},{shown(bits * times)}0,"
     return f"copies {times}", once * 2 if n <= 100 else ""
+
+
+def ends_of(bits):
+    """What an iterator gives from its front and then from its back."""
+    return bit(bits, 0) + bit(bits[1:], len(bits) - 2)
+
+
+def take_nth(plain, name, rng, others):
+    """All bits taken out, some of them passed over from either end; where others were to come, these do not."""
+    bits, a, b = plain.bits, rng.randint(0, plain.n + 1), rng.randint(0, plain.n + 1)
+    rest = bits[a + 1 :]
+    plain.become([], False)
+    if name == "drain_nth":
+        return f"drain_nth {a} {b}", bit(bits, a) + bit(rest[::-1], b) + shown(rest[: max(len(rest) - b - 1, 0)])
+    return f"splice_nth {text(others) or '-'} {a} {b}", bit(bits, a) + (bit(rest[::-1], b) if a < len(bits) else "")
 
 
 def alone(plain, bits, head):
@@ -559,7 +616,7 @@ def vector_call(plain, name, rng):
     return next(carry_out(plain, name, rng) for names, carry_out in GROUPS if name in names)
 
 
-BOXES = "dead align from_element from_array from_boxed_slice try_from_boxed_slice not clone vector vec collect iter left words size".split()
+BOXES = "dead align from_element from_array from_boxed_slice try_from_boxed_slice not clone vector vec collect iter left own_nth words size".split()
 
 
 def box_call(plain, name, rng):
@@ -574,7 +631,12 @@ def box_call(plain, name, rng):
     answer = ""
     if name == "words" and not (plain.known() and plain.held == len(plain.words)):
         name = "size"
-    if name in ("iter", "left", "words", "size"):
+    if name == "own_nth":
+        a, b = rng.randint(0, plain.n + 1), rng.randint(0, plain.n + 1)
+        rest = bits[a + 1 :]
+        name, answer = f"own_nth {a} {b}", bit(bits, a) + bit(rest[::-1], b) + shown(rest[: max(len(rest) - b - 1, 0)])
+        plain.start([])
+    elif name in ("iter", "left", "words", "size"):
         inner = bits[1:-1]
         flipped = turns([1 - b for b in inner])
         ends = bit(bits, 0) + bit(bits[1:], len(bits) - 2)

@@ -144,6 +144,12 @@ fn remake<T: BitStore, O: BitOrder<T>>(
         "collect" if whole.len() <= 2000 => *boxed = BitBox::collect(alloc, whole.into_iter())?,
         "iter" => push_turns(text, whole.into_iter())?,
         "left" => push_left(text, whole.into_iter())?,
+        "own_nth" => {
+            let mut bits = whole.into_iter();
+            push_bit(text, bits.nth(number(call.first)))?;
+            push_bit(text, bits.nth_back(number(call.second)))?;
+            push_list(text, &bits.as_slice())?;
+        }
         "size" => push_number(alloc, text, Some(whole.into_boxed_slice().len()))?,
         "words" => push_words(text, BoxedSlice::from(whole).as_slice())?,
         _ => {

@@ -11,6 +11,7 @@ mod grown;
 mod looks;
 mod made;
 mod operators;
+mod ranges;
 mod shown;
 mod taken;
 mod vectors;

@@ -1,11 +1,10 @@
 //! Calls that take bits out of a vector, or copies of them.
 
 use crate::call::Call;
-use crate::shown::{push_bit, push_list, push_number, push_turns, push_words};
+use crate::ranges::{drain_by_kind, splice_by_kind};
+use crate::shown::{push_bit, push_list, push_number, push_words};
 use bit_addressing_sample_orders::texts::number;
-use bit_containers::{
-    BitBox, BitOrder, BitSlice, BitStore, BitVec, Bits, BitsMut, Msb0, Retain, ToBits,
-};
+use bit_containers::{BitOrder, BitSlice, BitStore, BitVec, Bits, BitsMut, Msb0, Retain, ToBits};
 use std::alloc::{AllocError, Global};
 
 /// Makes a call that takes bits out or copies them, and says whether it could be made.
@@ -16,17 +15,12 @@ pub fn take<T: BitStore, O: BitOrder<T>>(
     call: &Call<'_>,
     other: BitSlice<'_, u16, Msb0>,
 ) -> Result<bool, AllocError> {
-    let (a, b, c) = (number(call.first), number(call.second), number(call.third));
+    let (a, b) = (number(call.first), number(call.second));
     match call.name {
         "split_off" if a <= vector.len() => {
             let rest = vector.split_off(a)?;
             push_copy(alloc, text, &rest)?;
             push_words(text, rest.as_raw_slice())?;
-        }
-        "drain" => return drain(text, vector, a, b),
-        "splice" => {
-            let items = BitBox::<u16, Msb0>::from_bitslice(alloc, other)?;
-            return splice(text, vector, b, c, items);
         }
         "leave" => return leave(text, vector, a, b),
         "keep" => keep(vector, other),
@@ -34,43 +28,13 @@ pub fn take<T: BitStore, O: BitOrder<T>>(
             push_copies(alloc, text, &vector.as_bitslice(), a)?;
             push_copies(alloc, text, &vector.as_mut_bitslice(), a)?;
         }
-        _ => return Ok(false),
+        _ => {
+            return Ok(
+                drain_by_kind(text, vector, call)?
+                    || splice_by_kind(alloc, text, vector, call, other)?,
+            );
+        }
     }
-    Ok(true)
-}
-
-// Takes bits out, and writes them.
-fn drain<T: BitStore, O: BitOrder<T>>(
-    text: &mut String,
-    vector: &mut BitVec<T, O>,
-    from: usize,
-    upto: usize,
-) -> Result<bool, AllocError> {
-    if from > upto || upto > vector.len() {
-        return Ok(false);
-    }
-    let gone = vector.drain(from..upto);
-    push_list(text, &gone.as_slice())?;
-    push_turns(text, gone)?;
-    Ok(true)
-}
-
-// Puts bits in the place of some, and writes the first and the last of these.
-fn splice<T: BitStore, O: BitOrder<T>>(
-    text: &mut String,
-    vector: &mut BitVec<T, O>,
-    from: usize,
-    upto: usize,
-    items: BitBox<u16, Msb0>,
-) -> Result<bool, AllocError> {
-    let len = vector.len();
-    if from > upto || upto > len || len > 2000 || items.len() > 200 {
-        return Ok(false);
-    }
-    let mut gone = vector.splice(from..upto, items.into_iter());
-    push_bit(text, gone.next())?;
-    push_bit(text, gone.next_back())?;
-    gone.finish()?;
     Ok(true)
 }
 

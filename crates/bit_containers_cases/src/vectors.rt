@@ -4,6 +4,7 @@ use crate::call::{Call, put_bits, read_word};
 use crate::grown::{grow, grow_by_words};
 use crate::looks::look;
 use crate::made::{make, remake};
+use crate::ranges::repeat_by_kind;
 use crate::shown::{push_bit, push_list, push_ref, push_texts, push_words};
 use crate::taken::take;
 use crate::writes::{on_lent, put_swept, put_word, write};
@@ -100,8 +101,7 @@ fn edit<T: BitStore, O: BitOrder<T>>(
         "clear" => vector.clear(),
         "resize" if a <= 2000 => vector.resize(a, b == 1)?,
         "resize_thirds" if a <= 2000 => vector.resize_with(a, is_third)?,
-        "within" if a <= b && b <= len => vector.extend_from_within(a..b)?,
-        _ => return Ok(false),
+        _ => return repeat_by_kind(vector, call),
     }
     Ok(true)
 }

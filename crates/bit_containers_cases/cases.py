@@ -341,6 +341,9 @@ def write(plain, name, rng):
     """A call that writes the list in place, where the dead bits stay: its words and its answer."""
     bits, n = plain.bits, plain.n
     a, b, one = rng.randint(0, n), rng.randint(0, n), rng.getrandbits(1)
+    if name == "take" and n > 200:
+        # a case holds no more bits of another list
+        name = "invert"
     new, call, answer = bits[:], name, ""
     if name in ("put", "with", "swept"):
         k, word = rng.randint(0, len(plain.words) // plain.size), [rng.getrandbits(1) for _ in range(plain.size)]

@@ -1,10 +1,22 @@
 //! The number texts of domains, worked out by hand.
 
-use crate::plain_words::span_of;
 use bit_addressing::{BitIdx, BitOrder, BitRegister, BitSpan, Domain, DomainMut, Lsb0, Msb0};
 use std::alloc::{AllocError, Global};
 use std::fmt;
 use std::test::Fail;
+
+// The span of so many places from one on.
+fn span_of<R: BitRegister, O: BitOrder<R>>(
+    start: usize,
+    len: usize,
+) -> Result<BitSpan<R, O>, Fail> {
+    let bits = R::BITS as usize;
+    let head = BitIdx::<R>::new_unchecked((start % bits) as u8);
+    match BitSpan::<R, O>::new(start / bits, head, len) {
+        Ok(span) => Ok(span),
+        Err(_) => Err(Fail::from("span")),
+    }
+}
 
 // What a domain writes in one of its four forms: the holes of a format string take integers alone.
 #[derive(Drop)]
@@ -64,11 +76,10 @@ fn span_has_texts<R: BitRegister, O: BitOrder<R>>(
     len: usize,
     texts: [&str; 4],
 ) -> Result<bool, Fail> {
-    let bits = R::BITS as usize;
-    if !span_of::<R, O>(bits, start, len)?.fits(memory.len()) {
+    let span = span_of::<R, O>(start, len)?;
+    if !span.fits(memory.len()) {
         return Ok(false);
     }
-    let span = span_of::<R, O>(bits, start, len)?;
     Ok(has_texts(alloc, &span.domain(memory), texts)?)
 }
 

@@ -77,27 +77,6 @@ fn a_part_outlives_the_window(rt: HostRuntime) {
     assert!(rt; parts.size_hint() == (0, Some(0)));
 }
 
-// The first part: it lives as long as the words, and not as the window's value.
-fn first_part<'a, T: BitRegister + 'a, O: BitOrder<T>>(
-    view: BitSlice<'a, T, O>,
-) -> Option<BitSlice<'a, T, O>> {
-    let mut parts = Split::new(view, is_one, false);
-    parts.next()
-}
-
-#[test]
-fn a_part_outlives_the_window(rt: HostRuntime) {
-    // the bits 0, 1, 0, 0, 1, 0
-    let words = [0xd2u8];
-    let first = first_part(BitSlice::<u8, Lsb0>::from_place(&words, 0, 6));
-    assert!(rt; row(first) == 0b10);
-    let view = BitSlice::<u8, Lsb0>::from_place(&words, 0, 6);
-    let mut parts = view.split(is_one);
-    assert!(rt; parts.size_hint() == (0, Some(7)) && row(parts.next()) == 0b10);
-    assert!(rt; parts.size_hint() == (0, Some(5)) && row(parts.nth(1)) == 0b10);
-    assert!(rt; parts.size_hint() == (0, Some(0)));
-}
-
 #[test]
 fn a_part_is_found_by_its_number(rt: HostRuntime) {
     // the bits 0, 1, 0, 0, 1, 0

@@ -14,6 +14,8 @@ use thiserror::Error;
 /// The greatest number of bits that a table has.
 pub const MAX_BITS: usize = 2_305_843_009_213_693_951;
 
+const _: () = prove!(MAX_BITS == usize::MAX >> 3);
+
 /// The greatest number of bits that a row has.
 pub const MAX_ROW_BITS: usize = 256;
 

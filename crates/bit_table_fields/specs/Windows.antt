@@ -1,5 +1,5 @@
 -- Numbers in windows of bits by a digit rule: `number_held` reads what `field_bits` of the layouts writes.
-use Rattle.std.specs.Prelude.{ℕ, ◌-◌, ℤ, Bool, List, [], if◌then◌else◌}
+use Rattle.std.specs.Prelude.{ℕ, ℤ, Bool, List, [], if◌then◌else◌}
 use Rattle.bit_addressing_memory.specs.Memory.{touched}
 use Rattle.bit_table_layout.specs.declared.layout.Rule.{Rule}
 use Rattle.bit_table_layout.specs.declared.layout.Rule.TheVariants.{Low, High}
@@ -20,10 +20,6 @@ is_held signed n v = takes (record { name = []; width = n; signed = signed }) v
 -- the road goes by words, else one a bit
 abbrev pub most_for : Bool → ℕ → ℕ → ℕ → ℕ
 most_for by_words b place n = if by_words then touched b place n else n
-
--- the same of n bits wherever they begin: no more than where they begin with a word's last bit
-abbrev pub most_anywhere : Bool → ℕ → ℕ → ℕ
-most_anywhere by_words b n = most_for by_words b (b - 1) n
 
 -- what a rule has of two truth values, that for `low` and that for `high`
 abbrev pub by_rule : Rule → Bool → Bool → Bool

@@ -1,9 +1,9 @@
 //! One number in bits of whatever shows them, by a digit rule.
 
-ghost use Rattle.std.specs.Prelude.{◌≡◌, ◌+◌, ◌≤◌, length};
+ghost use Rattle.std.specs.Prelude.{◌≡◌, ◌+◌, ◌%◌, ◌≤◌, length};
 ghost use Rattle.bit_addressing_memory.specs.Memory.{piece, with_piece};
 ghost use Rattle.bit_slice_words.specs.Steps.{Takes};
-ghost use Rattle.bit_table_fields.specs.Windows.{by_rule, most_anywhere, most_for, number_held};
+ghost use Rattle.bit_table_fields.specs.Windows.{by_rule, most_for, number_held};
 ghost use Rattle.bit_table_layout.specs.Rows.{field_bits};
 
 use crate::digits::Digits;
@@ -62,9 +62,10 @@ where
     requires within { at + width ≤ length (V.bits view.now) }
     ensures value { result ≡ number_held rule signed width (piece (V.bits view.now) at width) }
 
-    // At most one a bit, or one for each word that so many bits can touch, as the order says of the rule.
+    // At most one a bit, or one for each word that they touch, as the order says of the rule.
     ensures steps { Takes steps.old steps.new 1
-        (most_anywhere (by_rule rule V.Order.LOW_WORDS V.Order.HIGH_WORDS) V.Store.BITS width) }
+        (most_for (by_rule rule V.Order.LOW_WORDS V.Order.HIGH_WORDS) V.Store.BITS
+        ((V.start view.now + at) % V.Store.BITS) width) }
 {
     let held = view.as_bitslice().part(at, width as usize);
     match rule {

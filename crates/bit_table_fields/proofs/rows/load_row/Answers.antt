@@ -1,4 +1,4 @@
-use Rattle.std.proofs.Common.{◌-◌, ap, take, ◌∙◌, arith}
+use Rattle.std.proofs.Common.{ap, take, ◌∙◌, arith}
 use mir.Syntax.{w128}
 use Rattle.std.proofs.lemmas.Int.{to_z-of_z}
 use Rattle.std.proofs.lemmas.List.Sums.{sum_by_more, sum_by_more_le}
@@ -31,7 +31,7 @@ loop-index-preserved g c =
       place = omega (arith, c.loop-index.invariant.place);
       steps =
           takes_field c.args.steps.now c.loop-index.steps _ i (row_width (take i fs)) _
-          g.V.Store.BitRegister.BITS (g.V.Store.BitRegister.BITS - 1) c.width-width.result _
+          g.V.Store.BitRegister.BITS _ c.width-width.result _
           (omega (arith, g.met.V.Store.BitRegister.least_bits)) (omega (arith, more, width, shape))
           c.loop-index.invariant.steps c.load_number.ensures.steps;
       loaded =

@@ -68,7 +68,7 @@ fn given_back<T: BitStore, O: BitOrder<T>>(alloc: Global) -> Result<bool, AllocE
     vector.resize(20, true)?;
     let before = vector.capacity();
     vector.shrink_to_fit()?;
-    let less = vector.capacity() >= 20 && vector.capacity() <= before;
+    let less = vector.capacity() >= 20 && vector.capacity() < before;
     Ok(less && vector.len() == 20 && vector.all())
 }
 

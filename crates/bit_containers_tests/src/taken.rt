@@ -22,6 +22,22 @@ fn a_closure_is_asked_of_each_new_index(rt: HostRuntime) -> Result<(), AllocErro
     Ok(())
 }
 
+// Of 0, 1, 1, 1, 0 the three ones are taken out, and read one by one up to the end and past it; two ones come there.
+#[test]
+fn a_splice_is_read_to_its_end(rt: HostRuntime) -> Result<(), AllocError> {
+    let mut bits = BitVec::<u8, Msb0>::from_element(rt.alloc(), 0x70)?;
+    bits.truncate(5);
+    assert!(rt; bits.len() == 5);
+    let mut gone = bits.splice(1..4, std::iter::repeat_n(true, 2));
+    assert!(rt; gone.len() == 3);
+    assert!(rt; gone.next() == Some(true) && gone.next_back() == Some(true));
+    assert!(rt; gone.next() == Some(true) && gone.len() == 0);
+    assert!(rt; gone.next().is_none() && gone.next_back().is_none() && gone.next().is_none());
+    gone.finish()?;
+    assert!(rt; bits.len() == 4 && bits.leading_zeros() == 1 && bits.count_ones() == 2);
+    Ok(())
+}
+
 #[test]
 fn texts_of_faults(rt: HostRuntime) -> Result<(), Fail> {
     let alloc = rt.alloc();

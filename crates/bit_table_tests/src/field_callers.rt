@@ -38,14 +38,7 @@ pub fn set_number<T: BitStore, O: Digits<T>>(
 {
     let at = p * layout.row_bits() + bits_before(layout, field);
     let width = layout.fields()[field].width();
-    store_number(
-        rows,
-        at,
-        layout.rule(),
-        width,
-        value,
-        &mut Steps::new(),
-    );
+    store_number(rows, at, layout.rule(), width, value, &mut Steps::new());
 }
 
 /// The numbers of row `p` of `n` rows.

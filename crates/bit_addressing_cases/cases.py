@@ -7,6 +7,10 @@ usage: ./cases.py, in this folder. A case is: word order memory(hex) call words.
 
 import itertools
 import random
+import sys
+
+sys.path.append("../bit_addressing_sample_orders")
+from plain_bits import WORDS, Memory
 
 # Worked rows: none of these answers is computed here.
 ROWS = [
@@ -41,50 +45,8 @@ ROWS = [
     ("u8 msb0 0f act store 2 4 ff", "1,01 2-6 0c, 3f"),
 ]
 
-WORDS = {"u8": 8, "u16": 16, "u32": 32, "u64": 64, "u128": 128, "usize": 64}
-ORDERS = {
-    "lsb0": lambda bits, i: i,
-    "msb0": lambda bits, i: bits - 1 - i,
-    "fifth": lambda bits, i: (5 * i + 3) % bits,
-}
+ORDERS = ("lsb0", "msb0", "fifth")
 OTHERS = {"u8-msb0": ("u8", "msb0"), "u16-fifth": ("u16", "fifth"), "u64-lsb0": ("u64", "lsb0")}
-
-
-class Memory:
-    """Words as one list of bits, in an order."""
-
-    def __init__(self, word, order, words):
-        self.word, self.order, self.words = word, order, words
-        self.bits, self.at = WORDS[word], ORDERS[order]
-
-    def list(self):
-        return [w >> self.at(self.bits, i) & 1 for w in self.words for i in range(self.bits)]
-
-    def text(self, word):
-        return f"{word:0{self.bits // 4}x}"
-
-    def hex(self):
-        return "".join(map(self.text, self.words))
-
-    def of(self, bits):
-        """The same words with this list."""
-        cut = [bits[k : k + self.bits] for k in range(0, len(bits), self.bits)]
-        words = [sum(bit << self.at(self.bits, i) for i, bit in enumerate(part)) for part in cut]
-        return Memory(self.word, self.order, words)
-
-    def put(self, place, new):
-        bits = self.list()
-        return self.of(bits[:place] + new + bits[place + len(new) :])
-
-    def piece(self, place, length):
-        return self.list()[place : place + length]
-
-    def head(self):
-        return f"{self.word} {self.order} {self.hex()}"
-
-    def touched(self, place, length):
-        """How many words a stretch touches."""
-        return (place + length - 1) // self.bits - place // self.bits + 1 if length else 0
 
 
 def memory(rng, word, order, count):
@@ -118,14 +80,15 @@ def exchange(own, first, second, length):
 
 def move(own, source, target, length):
     words = own.touched(target, length)
-    # under an order whose positions go straight a word is read up to three times, else a bit at a time
-    reads = 3 * words if own.order != "fifth" else 2 * length + 2 * words
+    # a word is read up to three times where positions go straight; of other orders no bound is promised
+    reads = 3 * words if own.order != "fifth" else 1000000
     new = own.put(target, own.piece(source, length))
     return f"move {source} {target} {length} {reads} {words}", f"{new.hex()} yes"
 
 
 def inside(rng):
-    """Each entry, each two places and most stretches of 32 bits, at the start of bytes and across wide words."""
+    """Entries; copies and exchanges of a stretch from each place to each, of some length; some two bits swapped: at the start
+    of four bytes, and of some places across two wide words."""
     for (word, count, first), order in itertools.product((("u8", 4, 0), ("u64", 2, 48), ("u128", 2, 112)), ORDERS):
         for source in range(0, 25, 1 if word == "u8" else 4):
             own = memory(rng, word, order, count)
@@ -142,7 +105,7 @@ def inside(rng):
 
 
 def moves(rng):
-    """Small moves over nine bytes; moves at edges of four words of each width."""
+    """Moves over nine bytes from each place to each, of some length; moves at edges of four words of each width."""
     for order in ORDERS:
         for source, target in itertools.product(range(25), range(25)):
             own = memory(rng, "u8", order, 9)
@@ -162,7 +125,7 @@ def moves(rng):
 
 
 def between(rng):
-    """Each call between two memories, at each start of the others."""
+    """Each call between two memories, from each third place of the others on."""
     for word, order, kind in itertools.product(("u8", "u64"), ORDERS, OTHERS):
         for source, call in itertools.product(range(0, 25, 3), ("between", "to", "to_apart", "from", "from_apart", "swap", "swap_bit")):
             own = memory(rng, word, order, 4 if word == "u8" else 2)
@@ -190,7 +153,7 @@ def pointer(bits, word, index, by):
 
 
 def pointers(rng):
-    """From each bit of words about 0 and at both ends, up to 70 bits on and back."""
+    """From each bit of bytes, and each ninth of wide words, about word 0 and at both ends, up to 70 bits on and back."""
     for word, bits in (("u8", 8), ("u64", 64)):
         for order in ORDERS:
             for number in (-3, -1, 0, 2, LEAST, LEAST + 1, MOST - 1, MOST):

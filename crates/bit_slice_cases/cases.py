@@ -6,6 +6,10 @@ usage: ./cases.py, in this folder. A case is: word order memory(hex) from len ca
 """
 
 import random
+import sys
+
+sys.path.append("../bit_addressing_sample_orders")
+from plain_bits import ORDERS, WORDS, Memory
 
 # Worked rows: none of these answers is computed here.
 ROWS = [
@@ -186,47 +190,8 @@ ROWS = [
     ("u64 msb0 0000000000000000 7 1 store_le i16 1", "-1 0100000000000000"),
 ]
 
-WORDS = {"u8": 8, "u16": 16, "u32": 32, "u64": 64, "u128": 128, "usize": 64}
-ORDERS = {
-    "lsb0": lambda bits, i: i,
-    "msb0": lambda bits, i: bits - 1 - i,
-    "fifth": lambda bits, i: (5 * i + 3) % bits,
-    "hilo": lambda bits, i: i ^ 4,
-}
 TYPES = {"u8": 8, "u16": 16, "u32": 32, "u64": 64, "u128": 128, "usize": 64}
 TYPES |= {"i8": 8, "i16": 16, "i32": 32, "i64": 64, "i128": 128, "isize": 64}
-
-
-class Memory:
-    """Words as one list of bits, in an order."""
-
-    def __init__(self, word, order, words):
-        self.word, self.order, self.words = word, order, words
-        self.bits, self.at = WORDS[word], ORDERS[order]
-
-    def list(self):
-        return [w >> self.at(self.bits, i) & 1 for w in self.words for i in range(self.bits)]
-
-    def hex(self):
-        return "".join(f"{w:0{self.bits // 4}x}" for w in self.words)
-
-    def with_list(self, bits):
-        words = []
-        for k in range(len(self.words)):
-            part = bits[k * self.bits : (k + 1) * self.bits]
-            words.append(sum(bit << self.at(self.bits, i) for i, bit in enumerate(part)))
-        return "".join(f"{w:0{self.bits // 4}x}" for w in words)
-
-    def with_part(self, place, new):
-        all_bits = self.list()
-        return self.with_list(all_bits[:place] + new + all_bits[place + len(new) :])
-
-    def touched(self, place, length):
-        """How many words a stretch touches."""
-        return (place + length - 1) // self.bits - place // self.bits + 1 if length else 0
-
-    def head(self, place, length):
-        return f"{self.word} {self.order} {self.hex()} {place} {length}"
 
 
 def text(bits):
@@ -528,7 +493,7 @@ def numbers(memory, place, length, kind, value, is_part):
         kept = value % (1 << length)
         for k, at in enumerate(digits(memory, place, length, not call.endswith("be"))):
             bits[at] = kept >> (length - 1 - k) & 1
-        answer = f"{signed(kept, length, kind)} {memory.with_list(bits)}"
+        answer = f"{signed(kept, length, kind)} {memory.of(bits).hex()}"
         yield f"{head} {call} {kind} {value}{' part' if is_part else ''}", answer
 
 
@@ -572,7 +537,7 @@ def calls_of(memory, place, length, rng):
         *edits(bits, other, count, lambda to, k: memory.touched(place + to, k), rng),
         *lent(bits, random, size, rng.randint(0, 2)),
     ):
-        yield call, f"{head} {call} {args}".rstrip(), told + memory.with_part(place, new)
+        yield call, f"{head} {call} {args}".rstrip(), told + memory.put(place, new).hex()
 
 
 def sweep():
@@ -594,18 +559,18 @@ def part_sweep():
     wide = [int(b) for b in f"{0xA6D1:016b}"][3:13]
     bits = memory.list()[2:22]
     for at in range(10):
-        yield f"{memory.head(2, 20)} write_part {text(wide)} {at}", memory.with_part(2, put(bits, at, wide))
+        yield f"{memory.head(2, 20)} write_part {text(wide)} {at}", memory.put(2, put(bits, at, wide)).hex()
     bits = memory.list()[3:22]
     for k in range(6):
         for second in range(1 + k, 5 + k):
             new = put(put(bits, 1, bits[second : second + k]), second, bits[1 : 1 + k])
-            yield f"{memory.head(3, 19)} swap_parts 1 {second} {k}", memory.with_part(3, new)
+            yield f"{memory.head(3, 19)} swap_parts 1 {second} {k}", memory.put(3, new).hex()
     bits = memory.list()[5:23]
     for at in range(4):
         for k, by in ((7, 0), (7, 3), (7, 7), (14, 1), (14, 5), (14, 7)):
             part = bits[at : at + k]
             new = put(bits, at, part[by:] + part[:by])
-            yield f"{memory.head(5, 18)} rotate_part {at} {by} {k}", memory.with_part(5, new)
+            yield f"{memory.head(5, 18)} rotate_part {at} {by} {k}", memory.put(5, new).hex()
 
 
 def piece_sweep():
@@ -618,7 +583,7 @@ def piece_sweep():
             if not call.startswith("iter"):
                 yield f"{head} {call} {args}", answer
         for call, args, new, told in lent(bits, [1] * 10, size, 1):
-            yield f"{head} {call} {args}", told + memory.with_part(3, new)
+            yield f"{head} {call} {args}", told + memory.put(3, new).hex()
 
 
 def single_sweep():
@@ -631,13 +596,8 @@ def single_sweep():
                 place, i = rng.choice((0, 3, 7)), rng.randrange(length)
                 count = (place + length) // WORDS[word] + 1
                 memory = Memory(word, order, [0 if bit else (1 << WORDS[word]) - 1] * count)
-                memory = Memory(word, order, words_of(memory, memory.with_part(place + i, [bit])))
+                memory = memory.put(place + i, [bit])
                 yield f"{memory.head(place, length)} {'ones' if bit else 'zeros'}", f"Some({i}) Some({i})"
-
-
-def words_of(memory, hex):
-    size = memory.bits // 4
-    return [int(hex[k : k + size], 16) for k in range(0, len(hex), size)]
 
 
 def path_sweep():
@@ -654,8 +614,7 @@ def path_sweep():
                     others = memory if kind != "another" else Memory(word, order, filled(WORDS[word], count, rng))
                     if kind == "near" and length:
                         middle = place + length // 2
-                        flipped = others.with_part(middle, [1 - others.list()[middle]])
-                        others = Memory(word, order, words_of(others, flipped))
+                        others = others.put(middle, [1 - others.list()[middle]])
                     lines = list(path_calls(memory, place, others, from_, length))
                     for call, answer in rng.sample(lines[1:], 2) + lines[:1]:
                         yield f"{memory.head(place, length)} {call} {others.hex()} {from_}", answer
@@ -673,10 +632,10 @@ def path_calls(memory, place, others, from_, length):
         ("path_or", combined(bits, its, lambda x, y: x | y)),
         ("path_xor", combined(bits, its, lambda x, y: x ^ y)),
     ):
-        yield call, f"true {length} {memory.with_part(place, new)} {others.hex()}"
-    yield "path_swap", f"true {length} {memory.with_part(place, its)} {others.with_part(from_, bits)}"
+        yield call, f"true {length} {memory.put(place, new).hex()} {others.hex()}"
+    yield "path_swap", f"true {length} {memory.put(place, its).hex()} {others.put(from_, bits).hex()}"
     for call in ("copy_from", "copy_from_slice"):
-        yield call, f"true 0 {memory.with_part(place, its)} {others.hex()}"
+        yield call, f"true 0 {memory.put(place, its).hex()} {others.hex()}"
 
 
 def move_sweep():
@@ -688,7 +647,7 @@ def move_sweep():
                 for target in range(25):
                     length = rng.choice(lengths)
                     memory = Memory(word, order, filled(WORDS[word], 64 // WORDS[word], rng))
-                    new = memory.with_part(target, memory.list()[source : source + length])
+                    new = memory.put(target, memory.piece(source, length)).hex()
                     line = f"{memory.head(source, length)} move_words {target} {memory.touched(target, length)}"
                     yield line, f"few {new}"
 

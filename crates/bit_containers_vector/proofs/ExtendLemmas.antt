@@ -1,5 +1,6 @@
 -- Vectors that grow step by step.
-use Rattle.std.proofs.Common.{◌≡◌, ℕ, ◌+◌, ◌-◌, ◌*◌, ◌<◌, ◌≤◌, Bool, false, List, [], ◌++◌, length, replicate, arith, ap, ap₂, sym}
+use Rattle.std.proofs.Common.{◌≡◌, ℕ, ◌+◌, ◌-◌, ◌*◌, ◌<◌, ◌≤◌, [], ◌++◌}
+use Rattle.std.proofs.Common.{Bool, false, List, length, replicate, arith, ap, ap₂, sym}
 use Rattle.std.proofs.Common.{◌∙◌, refl, length-append, append_assoc, append-nil}
 use Rattle.std.proofs.lemmas.List.{places, same_lists, length-take-le, length-replicate}
 use Rattle.bit_addressing_memory.specs.Memory.{Reading, memory, with_piece}

@@ -1,5 +1,6 @@
 -- Vectors of words that were cut and filled up.
-use Rattle.std.proofs.Common.{◌≡◌, ℕ, Bool, false, get_or, ◌+◌, ◌-◌, ◌*◌, ◌<◌, ◌≤◌, List, ◌++◌, length, take, replicate, arith, ap, ap₂}
+use Rattle.std.proofs.Common.{◌≡◌, ℕ, ◌+◌, ◌-◌, ◌*◌, ◌<◌, ◌≤◌, ◌++◌}
+use Rattle.std.proofs.Common.{Bool, false, get_or, List, length, take, replicate, arith, ap, ap₂}
 use Rattle.std.proofs.Common.{sym, ◌∙◌, refl, Result, Ok, Err, OnOk, if◌then◌else◌, is_ok, length-append}
 use Rattle.std.proofs.Math.Nat.{mul-le-mul_right}
 use Rattle.std.proofs.lemmas.List.{take_all, take-take, length-take-le, length-replicate}

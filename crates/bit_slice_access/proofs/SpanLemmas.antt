@@ -1,5 +1,6 @@
 -- The span of a window: `touched_head`, `span_fits`, `span_ends`. The part of a word: `part_inside`, `word_beside`.
-use Rattle.std.proofs.Common.{◌≡◌, ◌⊎◌, ℕ, zero, suc, ◌+◌, ◌-◌, ◌*◌, ◌/◌, ◌%◌, ◌^◌, ◌<◌, ◌≤◌, refl, ap, sym, ◌∙◌, arith}
+use Rattle.std.proofs.Common.{◌≡◌, ◌⊎◌, ℕ, ◌+◌, ◌-◌, ◌*◌, ◌/◌, ◌%◌, ◌^◌, ◌<◌, ◌≤◌, ◌∙◌}
+use Rattle.std.proofs.Common.{zero, suc, refl, ap, sym, arith}
 use Rattle.std.proofs.Common.{inl, inr, Bool, List}
 use Rattle.std.proofs.Math.Nat.{add-mul-div_right, div-eq_of_lt, le-mul_of_pos_right, mod-lt}
 use Rattle.std.proofs.lemmas.Nat.{div-add-mod'}

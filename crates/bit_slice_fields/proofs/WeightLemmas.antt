@@ -2,7 +2,8 @@
 --
 -- Below it: `weight_within`. Apart: `weights_apart`. Each: `weight_onto`. In window order whatever the start: `weight_up` (the first
 -- segment lowest, each from its lowest end), `weight_down`.
-use Rattle.std.proofs.Common.{◌≡◌, ℕ, ◌+◌, ◌-◌, ◌*◌, ◌/◌, ◌%◌, ◌<◌, ◌≤◌, Bool, true, false, min, arith, sym, ap, ◌∙◌}
+use Rattle.std.proofs.Common.{◌≡◌, ℕ, ◌+◌, ◌-◌, ◌*◌, ◌/◌, ◌%◌, ◌<◌, ◌≤◌, ◌∙◌}
+use Rattle.std.proofs.Common.{Bool, true, false, min, arith, sym, ap}
 use Rattle.std.proofs.lemmas.Nat.{div-add-mod', div-mul-add}
 use Rattle.std.proofs.Math.Nat.{min-le_left, min-le_right}
 use Rattle.bit_slice_fields.specs.Number.{segment_start, segment_end, weight}

@@ -2,7 +2,8 @@
 --
 -- What half the numbers of so many digits is: `halves`. Fewer digits of more: `low_mod`. A number tells its digits and
 -- its digits tell it: `low_pos`, `low_neg`, `fits_wrapped`, `same_wrapped`.
-use Rattle.std.proofs.Common.{◌≡◌, ℕ, suc, ◌+◌, ◌-◌, ◌*◌, ◌%◌, ◌^◌, ◌<◌, ◌≤◌, Bool, true, false, arith, pow-suc, lit<, sym, ap, ◌∙◌}
+use Rattle.std.proofs.Common.{◌≡◌, ℕ, ◌+◌, ◌-◌, ◌*◌, ◌%◌, ◌^◌, ◌<◌, ◌≤◌, ◌∙◌}
+use Rattle.std.proofs.Common.{suc, Bool, true, false, arith, pow-suc, lit<, sym, ap}
 use Rattle.std.specs.Prelude.{ℤ, pos, negsuc}
 use Rattle.std.proofs.Math.Nat.{mod-eq_of_lt}
 use Rattle.std.proofs.Math.Pow.{pow_mono}

@@ -3,7 +3,8 @@
 -- What `==` of std tells: `equal_own`, `equal_same`, `equal_decided`. A list that begins or ends with another:
 -- `starts_decided`, `ends_decided`; it is then no shorter: `start_fits`, `end_fits`. Bits of two memories:
 -- `windows_told`.
-use Rattle.std.proofs.Common.{◌≡◌, ◌⊎◌, ◌↔◌, ℕ, ◌+◌, ◌-◌, ◌*◌, ◌<◌, ◌≤◌, get_or, Bool, true, false, List, [], ◌∷◌, length, take, drop}
+use Rattle.std.proofs.Common.{◌≡◌, ◌⊎◌, ◌↔◌, ℕ, ◌+◌, ◌-◌, ◌*◌, ◌<◌, ◌≤◌, [], ◌∷◌}
+use Rattle.std.proofs.Common.{get_or, Bool, true, false, List, length, take, drop}
 use Rattle.std.proofs.Common.{IsTrue, refl, sym, ap, ◌∙◌, inl, inr, arith}
 use Rattle.std.proofs.lemmas.List.{length-take, length-drop}
 use Rattle.std.specs.Bool.{beq}

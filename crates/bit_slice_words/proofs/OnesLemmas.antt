@@ -1,6 +1,7 @@
 -- The ones of a number are the trues of its list in any lawful order: `ones_in_order`. True bits of lists: `trues`,
 -- `trues-append`, `trues_none`, `trues-falses`.
-use Rattle.std.proofs.Common.{◌≡◌, ◌≢◌, ℕ, zero, suc, ◌+◌, ◌-◌, ◌*◌, ◌/◌, ◌%◌, ◌^◌, ◌<◌, ◌≤◌, ◌==◌, Bool, true, false}
+use Rattle.std.proofs.Common.{◌≡◌, ◌≢◌, ℕ, ◌+◌, ◌-◌, ◌*◌, ◌/◌, ◌%◌, ◌^◌, ◌<◌, ◌≤◌, ◌==◌}
+use Rattle.std.proofs.Common.{zero, suc, Bool, true, false}
 use Rattle.std.proofs.Common.{cond, not, List, [], ◌∷◌, ◌++◌, Option, length, get_or, set, count_by, refl, sym, ap, ◌∙◌}
 use Rattle.std.proofs.Common.{inl, inr, arith}
 use Rattle.std.specs.Int.{bit_at}

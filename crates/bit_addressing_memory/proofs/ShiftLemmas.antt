@@ -1,6 +1,7 @@
 -- The digits of two words shifted and put together.
 --
--- `shifted_word`: by positions, so that it serves either direction and each width.
+-- `shifted_word`: by positions, so that it serves either direction and each width. The digits of one number shifted
+-- or cut: `bit_at_shr`, `bit_at_cut`, `bit_at_shl_low`, `bit_at_shl_high`.
 use Rattle.std.proofs.Common.{◌≡◌, ℕ, ◌+◌, ◌-◌, ◌*◌, ◌/◌, ◌%◌, ◌^◌, ◌==◌, ◌<◌, ◌≤◌, ◌∙◌}
 use Rattle.std.proofs.Common.{bit_or, sym, ap, arith}
 use Rattle.std.proofs.Math.Pow.{pow_pos}
@@ -10,7 +11,7 @@ use Rattle.std.specs.Int.{bit_at}
 use Rattle.bit_addressing_memory.specs.ShiftSteps.{AreShifted}
 
 -- `n >> s`
-bit_at_shr : (n s p : ℕ) → bit_at (n / 2 ^ s) p ≡ bit_at n (p + s)
+pub bit_at_shr : (n s p : ℕ) → bit_at (n / 2 ^ s) p ≡ bit_at n (p + s)
 bit_at_shr n s p =
     let small : n % 2 ^ s < 2 ^ s = omega (arith, pow_pos s) in
     let back : p + s - s ≡ p = omega arith in
@@ -19,18 +20,18 @@ bit_at_shr n s p =
     ∙ ap (λ m. bit_at m (p + s)) (div-add-mod' n (2 ^ s))
 
 -- a number cut to b digits keeps these
-bit_at_cut : (n b p : ℕ) → p < b → bit_at (n % 2 ^ b) p ≡ bit_at n p
+pub bit_at_cut : (n b p : ℕ) → p < b → bit_at (n % 2 ^ b) p ≡ bit_at n p
 bit_at_cut n b p low =
     sym (bit_at_cat_low (n / 2 ^ b) b (n % 2 ^ b) p low) ∙ ap (λ m. bit_at m p) (div-add-mod' n (2 ^ b))
 
 -- `n << s`: the lowest digits are zero
-bit_at_shl_low : (n s p : ℕ) → p < s → bit_at (n * 2 ^ s) p ≡ 0
+pub bit_at_shl_low : (n s p : ℕ) → p < s → bit_at (n * 2 ^ s) p ≡ 0
 bit_at_shl_low n s p low =
     let whole : n * 2 ^ s + 0 ≡ n * 2 ^ s = omega arith in
     ap (λ m. bit_at m p) (sym whole) ∙ bit_at_cat_low n s 0 p low ∙ bit_at-zero p
 
 -- and the others those of n
-bit_at_shl_high : (n s p : ℕ) → s ≤ p → bit_at (n * 2 ^ s) p ≡ bit_at n (p - s)
+pub bit_at_shl_high : (n s p : ℕ) → s ≤ p → bit_at (n * 2 ^ s) p ≡ bit_at n (p - s)
 bit_at_shl_high n s p high =
     let whole : n * 2 ^ s + 0 ≡ n * 2 ^ s = omega arith in
     ap (λ m. bit_at m p) (sym whole) ∙ bit_at_cat_high n s 0 p (pow_pos s) high

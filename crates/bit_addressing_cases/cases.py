@@ -12,6 +12,13 @@ import sys
 sys.path.append("../bit_addressing_sample_orders")
 from plain_bits import WORDS, Memory
 
+
+
+def texts_row(line, *forms):
+    """A row of a domain's four texts, the same of its writable one."""
+    return line, (" ".join(forms) + " ") * 2
+
+
 # Worked rows: none of these answers is computed here.
 ROWS = [
     # 16 bits from place 4 on: moved down, up by a word, up by one bit, with reads and writes at most
@@ -26,12 +33,18 @@ ROWS = [
     # the same copied
     ("u8 lsb0 123456 copy 4 0 16", "416356 113456"),
     ("u8 lsb0 123456 copy 4 5 16", "32684c 123446"),
+    ("u8 lsb0 123456 copy 4 8 16", "124163 123466"),
+    ("u8 msb0 123456 copy 4 0 16", "234556 223456"),
+    # bits read, written and replaced, by their place and by a pointer
+    ("u8 lsb0 123456 entry 1 0", "1110345601034560123456"),
     # bytes from the highest digit on into a word from the lowest digit on
     ("u64 lsb0 0000000000000000 between between u8-msb0 1234 0 4 16", "000000000002c480 1234"),
+    ("u64 lsb0 000000000002c480 between swap u8-msb0 ff 0 8 8", "000000000002ff80 23"),
     # bits exchanged
     ("u8 lsb0 c4 exchange 0 4 4", "4c"),
     ("u8 lsb0 70 swap 0 4", "61 70"),
     # pointers go on and back, and wrap round at the ends of `isize`
+    ("u8 lsb0 - pointer 3 5 0", "3.5 3.5 3.5 3.5 "),
     ("u8 lsb0 - pointer 3 5 3", "4.0 4.0 4.0 4.0 "),
     ("u8 lsb0 - pointer 3 5 -6", "2.7 2.7 2.7 2.7 "),
     ("u8 lsb0 - pointer 3 5 -30", "-1.7 -1.7 -1.7 -1.7 "),
@@ -43,6 +56,42 @@ ROWS = [
     ("u8 lsb0 f0 act store 2 4 ff", "1,01 2-6 30, fc"),
     ("u8 lsb0 fc act invert 2 4 00", "1,01 2-6 3c, c0"),
     ("u8 msb0 0f act store 2 4 ff", "1,01 2-6 0c, 3f"),
+    # the same as parts of a word, which then is written whole
+    ("u8 lsb0 f0 part store 2 6 ff", "2,6,2,6 3c,30,30 fc 2,4 ff"),
+    ("u8 lsb0 f0 part invert 2 6 ff", "2,6,2,6 3c,30,30 cc 2,4 ff"),
+    ("u8 msb0 f0 part clear 2 6 ff", "2,6,2,6 3c,30,30 c0 2,4 ff"),
+    ("u8 msb0 f0 part set 2 6 ff", "2,6,2,6 3c,30,30 fc 2,4 ff"),
+    # bits 4 to before 20 of three bytes: their parts, and their words from the front, the back and by turns; an enclave; no bits
+    (
+        "u8 lsb0 123456 span 4 16",
+        "3,4,0,4,16 00111111 10,4 ,8 ,4 ,8 f0=12,4,4 [34] 06,0 ,4 ,0 ,4 0f=56,0,4 10,34,06, 10,34,06, 06,34,10, 3:10,2:06,1:34,0:-,-,-,",
+    ),
+    ("u8 lsb0 f0 span 2 4", "1,6,0,2,4 11111111 in 30,2 ,6 ,2 ,6 3c=f0,2,4 30, 30, 30, 1:30,0:-,-,-,"),
+    ("u8 msb0 f0 span 2 4", "1,6,0,2,4 11111111 in 30,2 ,6 ,2 ,6 3c=f0,2,4 30, 30, 30, 1:30,0:-,-,-,"),
+    ("u8 msb0 123456 span 3 0", "0,3,0,3,0 11111111 - [] -    0:-,-,-,"),
+    # number texts, in binary, octal, small and capital hexadecimal, of a domain and of its writable one: from the middle of one
+    # byte up to that of another; the same from the highest digit on
+    texts_row("u8 lsb0 1fabcd5e texts 4 24", "[10000, 10101011, 11001101, 1110]", "[20, 253, 315, 16]", "[10, ab, cd, e]", "[10, AB, CD, E]"),
+    texts_row("u8 msb0 1fabcd5e texts 4 24", "[1111, 10101011, 11001101, 1010000]", "[17, 253, 315, 120]", "[f, ab, cd, 50]", "[F, AB, CD, 50]"),
+    # words with leading zeros, whole words, a tail alone, an enclave, no bits
+    texts_row("u8 lsb0 123456 texts 4 16", "[10000, 110100, 110]", "[20, 64, 6]", "[10, 34, 6]", "[10, 34, 6]"),
+    texts_row("u8 lsb0 1fabcd5e texts 8 16", "[10101011, 11001101]", "[253, 315]", "[ab, cd]", "[AB, CD]"),
+    texts_row("u8 lsb0 1fabcd5e texts 16 3", "[101]", "[5]", "[5]", "[5]"),
+    texts_row("u16 lsb0 ffff0bad texts 19 8", "[1110101000]", "[1650]", "[3a8]", "[3A8]"),
+    texts_row("u16 msb0 ffff0bad texts 23 0", "[]", "[]", "[]", "[]"),
+    texts_row("u8 lsb0 - texts none", "[]", "[]", "[]", "[]"),
+    # zeros, ones, and the upper half of a word of 128 bits
+    texts_row("u64 lsb0 00000000000000000000000000000000 texts 60 68", "[0, 0]", "[0, 0]", "[0, 0]", "[0, 0]"),
+    texts_row(
+        "u64 lsb0 fffffffffffffffffedcba9876543210 texts 0 72",
+        "[1111111111111111111111111111111111111111111111111111111111111111, 10000]",
+        "[1777777777777777777777, 20]", "[ffffffffffffffff, 10]", "[FFFFFFFFFFFFFFFF, 10]",
+    ),  # fmt: skip
+    texts_row(
+        "u128 lsb0 ffffffffffffffffffffffffffffffff0000000000000000fedcba9876543210 texts 64 72",
+        "[11111111111111111111111111111111111111111111111111111111111111110000000000000000000000000000000000000000000000000000000000000000, 10000]",
+        "[3777777777777777777776000000000000000000000, 20]", "[ffffffffffffffff0000000000000000, 10]", "[FFFFFFFFFFFFFFFF0000000000000000, 10]",
+    ),  # fmt: skip
 ]
 
 ORDERS = ("lsb0", "msb0", "fifth")
@@ -264,6 +313,19 @@ def spans(rng):
                 yield own, act(own, rng.choice(ACTS), start, length, memory(rng, word, order, 256 // WORDS[word]))
 
 
+def texts(rng):
+    """The number texts of domains, from each third place of bytes on, of some length; of wider words at edges."""
+    for word, order in itertools.product(WORDS, ORDERS):
+        b = WORDS[word]
+        starts = range(0, 25, 3) if b == 8 else (0, 1, b - 1, b, b + 7)
+        for start in starts:
+            own = memory(rng, word, order, 4)
+            length = rng.randrange(4 * b - start + 1)
+            words = [int(w, 16) for w in held(own, start, start + length)]
+            forms = ["[" + ", ".join(format(w, form) for w in words) + "]" for form in "boxX"]
+            yield own, (f"texts {start} {length}", (" ".join(forms) + " ") * 2)
+
+
 def parts(rng):
     """Each part of a byte, some of wider words."""
     for order in ORDERS:
@@ -283,6 +345,7 @@ def main():
     for sweep in (inside, moves, between, spans, parts):
         cases += [(f"{own.head()} {line}", answer) for own, (line, answer) in sweep(rng)]
     cases += pointers(rng)
+    cases += [(f"{own.head()} {line}", answer) for own, (line, answer) in texts(rng)]
     with open("stdin", "w") as file:
         file.write("".join(f"{line}\n" for line, _ in cases))
     with open("stdout", "w") as file:

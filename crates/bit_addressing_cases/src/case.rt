@@ -6,6 +6,7 @@ use crate::entries::{copy_case, entry_case, exchange_case, move_case, swap_case}
 use crate::parts::part_case;
 use crate::pointers::pointer_case;
 use crate::spans::span_case;
+use crate::texts::text_case;
 use bit_addressing::{BitOrder, BitRegister, Lsb0, Msb0};
 use bit_addressing_sample_orders::FifthStep;
 use bit_addressing_sample_orders::texts::read_words;
@@ -52,6 +53,7 @@ fn in_order<R: BitRegister, O: BitOrder<R>>(
         "between" => between_case::<R, O>(alloc, &mut memory, words),
         "pointer" => pointer_case::<R, O>(alloc, words),
         "span" => span_case::<R, O>(alloc, &memory, words),
+        "texts" => text_case::<R, O>(alloc, &mut memory, words),
         "act" => act_case::<R, O>(alloc, &mut memory, words),
         "part" => part_case::<R, O>(alloc, &mut memory, words),
         _ => "no such call".to_string(alloc),

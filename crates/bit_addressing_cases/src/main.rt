@@ -10,6 +10,7 @@ mod parts;
 mod pointers;
 mod spans;
 mod text;
+mod texts;
 
 use std::io;
 

@@ -2,16 +2,17 @@
 //! proves from its contracts alone.
 #![tactic(auto)]
 
+#[cfg(test)]
 pub mod callers;
 #[cfg(test)]
-mod domain_texts;
-#[cfg(test)]
 mod domains;
+#[cfg(test)]
 pub mod memory_callers;
 #[cfg(test)]
 mod memory_rows;
 #[cfg(test)]
 mod moves;
+#[cfg(test)]
 pub mod part_callers;
 #[cfg(test)]
 mod part_rows;

@@ -1,6 +1,7 @@
 //! The tests of arrays, vectors and boxes of bits, and of what they lend; and what a user proves from their contracts alone.
 #![tactic(auto)]
 
+#[cfg(test)]
 pub mod arrays;
 #[cfg(test)]
 mod boxes_lent;
@@ -19,6 +20,7 @@ mod memory;
 pub mod numbers;
 #[cfg(test)]
 mod readme;
+#[cfg(test)]
 pub mod reserved;
 #[cfg(test)]
 mod taken;

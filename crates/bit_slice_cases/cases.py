@@ -601,7 +601,7 @@ def single_sweep():
 
 
 def path_sweep():
-    """Word paths of two memories, a step a bit: of another memory, of the same one, and of one that differs in one bit."""
+    """Word paths of two memories: of another memory, of the same one, and of one that differs in one bit."""
     rng = random.Random(5)
     for word in ("u8", "u16", "u64"):
         for order in ("lsb0", "msb0", "hilo"):
@@ -620,11 +620,56 @@ def path_sweep():
                         yield f"{memory.head(place, length)} {call} {others.hex()} {from_}", answer
 
 
+def path_heads():
+    """Each path at each head of a word of 8 bits and each length to 200, and at some heads of wider words."""
+    rng = random.Random(47)
+    for order in ("lsb0", "msb0", "hilo"):
+        for head in range(8):
+            for length in range(201):
+                yield path_at("u8", order, head, rng.randrange(17), length, head + length, rng)
+    for word in ("u64", "u128"):
+        for order in ("lsb0", "msb0"):
+            for head in (0, 13, 63, 64, 100):
+                for length in (0, 1, 63, 64, 65, 128, 140, 300):
+                    for call in range(7):
+                        yield path_at(word, order, head, rng.choice((0, 13, 63, 64, 100)), length, call, rng)
+
+
+def path_steps():
+    """Steps: one for each 64 bits of a straight order, and for each bit of another."""
+    rng = random.Random(64)
+    for word in ("u8", "u32", "u64", "u128"):
+        for order in ("lsb0", "msb0", "hilo"):
+            for length in (0, 1, 63, 64, 65, 128, 1000):
+                for call in range(7):
+                    yield path_at(word, order, rng.choice((0, 5, 13)), rng.choice((0, 3, 100)), length, call, rng)
+
+
+def path_at(word, order, place, from_, length, call, rng):
+    """A path of two memories with as few words as hold the stretches; those of `path_equal` differ in the last bit or not."""
+    count = (max(place, from_) + length - 1) // WORDS[word] + 1
+    memory, others = (Memory(word, order, filled(WORDS[word], count, rng)) for _ in range(2))
+    lines = list(path_calls(memory, place, others, from_, length))[:7]
+    name = lines[call % 7][0]
+    if name == "path_equal":
+        others = others.put(from_, memory.piece(place, length))
+        if length and rng.getrandbits(1):
+            others = others.put(from_ + length - 1, [1 - memory.list()[place + length - 1]])
+        lines = list(path_calls(memory, place, others, from_, length))
+    return f"{memory.head(place, length)} {name} {others.hex()} {from_}", dict(lines)[name]
+
+
+def steps_of(memory, length):
+    """How many steps a path takes over so many bits."""
+    span = 64 if memory.order in ("lsb0", "msb0") else 1
+    return -(-length // span)
+
+
 def path_calls(memory, place, others, from_, length):
     bits, its = memory.list()[place : place + length], others.list()[from_ : from_ + length]
     first = next((k for k in range(length) if bits[k] != its[k]), None)
-    steps = length if first is None else first + 1
-    yield "path_equal", f"{truths(first is None)} {steps} {memory.hex()} {others.hex()}"
+    equal_steps, steps = steps_of(memory, length if first is None else first + 1), steps_of(memory, length)
+    yield "path_equal", f"{truths(first is None)} {equal_steps} {memory.hex()} {others.hex()}"
     for call, new in (
         ("path_copy", its),
         ("path_over", memory.list()[from_ : from_ + length]),
@@ -632,8 +677,8 @@ def path_calls(memory, place, others, from_, length):
         ("path_or", combined(bits, its, lambda x, y: x | y)),
         ("path_xor", combined(bits, its, lambda x, y: x ^ y)),
     ):
-        yield call, f"true {length} {memory.put(place, new).hex()} {others.hex()}"
-    yield "path_swap", f"true {length} {memory.put(place, its).hex()} {others.put(from_, bits).hex()}"
+        yield call, f"true {steps} {memory.put(place, new).hex()} {others.hex()}"
+    yield "path_swap", f"true {steps} {memory.put(place, its).hex()} {others.put(from_, bits).hex()}"
     for call in ("copy_from", "copy_from_slice"):
         yield call, f"true 0 {memory.put(place, its).hex()} {others.hex()}"
 
@@ -675,6 +720,7 @@ def number_sweep():
 
 def main():
     cases = [*ROWS, *sweep(), *part_sweep(), *piece_sweep(), *single_sweep(), *path_sweep(), *move_sweep(), *number_sweep()]
+    cases += [*path_heads(), *path_steps()]
     with open("stdin", "w") as file:
         file.write("".join(line + "\n" for line, _ in cases))
     with open("stdout", "w") as file:

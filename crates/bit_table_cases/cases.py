@@ -111,10 +111,15 @@ def thrown_scripts():
 # ---- tables
 
 
-def table_answer(script, bits):
+def span(order):
+    """How many bits a word step carries: 64 where the positions go straight."""
+    return 64 if order in ("lsb0", "msb0") else 1
+
+
+def table_answer(script, word, order):
     """What a table answers to lines of which some are this program's own."""
     first, *rest = script.split(b"\n")
-    table, answer = Table(Layout(first), bits), ["ok"]
+    table, answer = Table(Layout(first), WORDS[word], span(order)), ["ok"]
     for line in rest:
         answer.append(table.own(line[1:].decode()) if line[:1] == b"!" else table.answer(line))
     return "".join(f"{line}\n" for line in answer)
@@ -122,13 +127,16 @@ def table_answer(script, bits):
 
 def table(script, answer, storages):
     for word, order in storages:
-        assert table_answer(script, WORDS[word]) == answer, (script, answer, table_answer(script, WORDS[word]))
+        assert table_answer(script, word, order) == answer, (script, answer, table_answer(script, word, order))
         case(f"table {word} {order} {spelled(script)}", told(answer))
 
 
 def tables():
     for script, answer in worked.TABLES:
-        table(script, answer, some_storages(4) if script.startswith(worked.SEVENTY[0]) else STORAGES)
+        table(script, answer, STORAGES)
+    for script, answer in worked.COMBINED:
+        for word, order in some_storages(4):
+            table(script, answer % worked.STEPS[order], [(word, order)])
     for script, answer in worked.RELAYED:
         for storage in worked.RELAYS:
             table(script % storage, answer, some_storages(4))
@@ -168,7 +176,7 @@ def edited_tables():
             thrower.throw("!letters")
             thrower.throw("back")
         script = b"\n".join(thrower.lines)
-        table(script, table_answer(script, WORDS[word]), [(word, order)])
+        table(script, table_answer(script, word, order), [(word, order)])
 
 
 def thrown_tables():
@@ -183,7 +191,7 @@ def thrown_tables():
         for _ in range(6):
             own_line(rng, thrower)
         script = b"\n".join(thrower.lines)
-        table(script, table_answer(script, WORDS[word]), [(word, order)])
+        table(script, table_answer(script, word, order), [(word, order)])
 
 
 def marks(rng, thrower):

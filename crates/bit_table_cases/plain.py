@@ -139,10 +139,10 @@ def copied(rows):
 
 
 class Table:
-    """Rows of a layout; `bits` is the width of its words, which only `moved` tells."""
+    """Rows of a layout; `bits` is the width of its words, which only `moved` tells, `span` how many bits a step carries."""
 
-    def __init__(self, layout, bits=64):
-        self.layout, self.bits = layout, bits
+    def __init__(self, layout, bits=64, span=1):
+        self.layout, self.bits, self.span = layout, bits, span
         self.rows, self.kept, self.moved = [], None, [0] * 27
 
     def answer(self, line):
@@ -320,10 +320,10 @@ class Table:
         if command == "relay":
             self.moved = [0] * 27
             return shown_bits(self.list_bits())
-        # word paths of these orders go bit by bit: a step a row, and none for a letter and itself
+        # none for a letter and itself
         self.answer(line.encode())
         x, y = rest.split()
-        return str(0 if x == y else len(self.rows))
+        return str(0 if x == y else -(-len(self.rows) // self.span))
 
 
 COMMANDS = {

@@ -264,13 +264,18 @@ TABLES = [
         b"mark a f > 2\n!letters",
         "ok\nok\nletters\nok\nok\nletters a[001] z[010]\nok\nletters a[001] z[101]\n2\n1\n0\nok\nletters z[101]\n",
     ),
-    # both letters of an operation, and one alone: 29 rows bear both, 41 exactly one
+]
+
+# Both letters of an operation, and one alone: 29 rows bear both, 41 exactly one. Seventy rows are two steps where a step
+# carries 64 bits, and seventy where it carries one.
+STEPS = {"lsb0": 2, "msb0": 2, "hilo": 70, "third": 70}
+COMBINED = [
     (
         SEVENTY[0] + b"!and x y\ncount x\ncount y\n!and y y\ncount y",
-        SEVENTY[1] + "70\n29\n50\n0\n50\n",
+        SEVENTY[1] + "%d\n29\n50\n0\n50\n",
     ),
-    (SEVENTY[0] + b"!or x y\ncount x\ncount y\n!or y y\ncount y", SEVENTY[1] + "70\n70\n50\n0\n50\n"),
-    (SEVENTY[0] + b"!xor x y\ncount x\ncount y\n!xor y y\ncount y", SEVENTY[1] + "70\n41\n50\n0\n0\n"),
+    (SEVENTY[0] + b"!or x y\ncount x\ncount y\n!or y y\ncount y", SEVENTY[1] + "%d\n70\n50\n0\n50\n"),
+    (SEVENTY[0] + b"!xor x y\ncount x\ncount y\n!xor y y\ncount y", SEVENTY[1] + "%d\n41\n50\n0\n0\n"),
 ]
 
 # Rows, letters and what is kept go to another storage, and answer there and here as before.

@@ -2,7 +2,7 @@
 use Rattle.std.proofs.Common.{◌≡◌, ℕ, ◌+◌, Bool, List, refl, ap₂, ◌∙◌, arith, below_more}
 use Rattle.bit_addressing_memory.specs.Memory.{Reading, entry, Overwrites, Writes}
 use Rattle.bit_addressing_memory.proofs.OverwriteLemmas.{written_there, written_others}
-use Rattle.bit_slice_words.specs.Edits.{Combines}
+use Rattle.bit_slice_paths.specs.Combined.{Combines}
 
 -- before the first bit
 pub stretch_none : {R : Type 0} (reading : Reading R) (words : List R) (place : ℕ) (now : ℕ → Bool)

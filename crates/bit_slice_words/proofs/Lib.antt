@@ -12,7 +12,8 @@ pub mod MirrorLemmas
 pub mod RotateLemmas
 pub mod ShiftLemmas
 pub mod ChangedStretchLemmas
-pub mod StepLemmas
+pub mod PathLemmas
 -- what public clauses cite of the crates below
 pub use Rattle.bit_addressing_memory.proofs.MemoryLemmas
 pub use Rattle.bit_addressing_memory.proofs.WindowLemmas
+pub use Rattle.bit_slice_paths.proofs.StepLemmas

@@ -1,13 +1,10 @@
 -- The steps of a call, by words and by bits. No public clause cites this module.
 --
--- A bit: `changed_bit`, `combined_bit`. A stretch of them: `Changes`, `Combines`, `Mirrored`.
-use Rattle.std.specs.Prelude.{ℕ, ◌+◌, ◌-◌, ◌<◌, ◌≤◌, ◌≡◌, Bool, true, false, not, ◌&&◌, ◌||◌, List, length}
-use Rattle.std.specs.Bool.{xor}
+-- A bit: `changed_bit`. A stretch of them: `Changes`, `Mirrored`.
+use Rattle.std.specs.Prelude.{ℕ, ◌+◌, ◌-◌, ◌<◌, ◌≤◌, ◌≡◌, Bool, true, false, not, List, length}
 use Rattle.bit_addressing_memory.specs.Memory.{Reading, entry, Overwrites}
 use Rattle.bit_slice_words.specs.declared.change.Change.{Change}
 use Rattle.bit_slice_words.specs.declared.change.Change.TheVariants.{Clear, Set, Flip}
-use Rattle.bit_slice_words.specs.declared.combine.Combination.{Combination}
-use Rattle.bit_slice_words.specs.declared.combine.Combination.TheVariants.{And, Or, Xor}
 
 -- the bit as a change leaves it
 abbrev pub changed_bit : Change → Bool → Bool
@@ -15,24 +12,10 @@ changed_bit Clear bit = false
 changed_bit Set bit = true
 changed_bit Flip bit = not bit
 
--- the bit that two make
-abbrev pub combined_bit : Combination → Bool → Bool → Bool
-combined_bit And bit other = bit && other
-combined_bit Or bit other = bit || other
-combined_bit Xor bit other = xor bit other
-
 -- after is before with `on` done to each of the n entries from a place on
 abbrev pub Changes : {R : Type 0} → Reading R → List R → List R → ℕ → ℕ → (Bool → Bool) → Type 0
 Changes reading before after place n on =
     Overwrites reading before after place n (λ k. on (entry reading before (place + k)))
-
--- after is before with each of the n entries from a place on made what `how` makes of it and of an entry of the
--- memory `other`, read by `its`, from other_place on
-abbrev pub Combines : {R Q : Type 0} → Reading R → List R → List R → ℕ → ℕ → (Bool → Bool → Bool) → Reading Q
-    → List Q → ℕ → Type 0
-Combines reading before after place n how its other other_place =
-    Overwrites reading before after place n
-    (λ k. how (entry reading before (place + k)) (entry its other (other_place + k)))
 
 -- the first i of the n entries from a place on, and the last i, are exchanged as in a mirror: each other entry is as
 -- before, and there are as many words

@@ -4,10 +4,10 @@ pub mod Stretch
 pub mod Edits
 pub mod Rotations
 pub mod PathLaws
-pub mod Steps
 -- what public clauses cite of the crates below
 pub use Rattle.bit_addressing_memory.specs.BitOrder
 pub use Rattle.bit_addressing_memory.specs.BitRegister
 pub use Rattle.bit_addressing_memory.specs.Bits
 pub use Rattle.bit_addressing_memory.specs.Memory
 pub use Rattle.bit_addressing_memory.specs.Moves
+pub use Rattle.bit_slice_paths.specs.Steps

@@ -1,26 +1,16 @@
-//! Word paths bit by bit, one step a bit: what an order whose `SPAN` is 1 calls.
+//! Word paths bit by bit, one step a bit: what an order whose `SPAN` is 1 calls. A step is counted in the loop that
+//! moves, once for each bit.
 
 ghost use Rattle.std.specs.Prelude.{◌≡◌, ℕ, ◌+◌, ◌*◌, ◌^◌, ◌<◌, ◌≤◌, ◌↔◌, ◌&&◌, ◌||◌};
 ghost use Rattle.std.specs.Prelude.{length, IsTrue, true, false};
 ghost use Rattle.std.specs.Bool.{xor};
 ghost use Rattle.bit_addressing_memory.specs.Memory.{entry, read_by, Copies, Overwrites};
-ghost use Rattle.bit_slice_words.specs.Steps.{groups, Takes};
+ghost use Rattle.bit_slice_paths.specs.Combined.{combined_bit, Combines};
+ghost use Rattle.bit_slice_paths.specs.Steps.{groups, Takes};
 
-use crate::combine::{and_in, or_in, xor_in};
-use crate::steps::Steps;
-use bit_addressing_memory::{
-    BitOrder, BitRegister, copy_between, copy_within, read_entry, swap_between,
-};
-
-// Counts a step for each bit.
-#[tactic(auto, using(crate::proofs::StepLemmas::count_steps))]
-fn count(len: usize, steps: &mut Steps)
-    ensures { Takes steps.old steps.new (groups len 64) (groups len 1) }
-{
-    for _ in 0..len {
-        steps.step();
-    }
-}
+use crate::combine::combined;
+use bit_addressing_memory::{BitOrder, BitRegister, read_entry, write_entry};
+use bit_slice_paths::{Combination, Steps};
 
 /// `WordPaths::equal`, a step a bit.
 pub fn equal<R: BitRegister, O: BitOrder<R>>(
@@ -69,11 +59,19 @@ pub fn copy<R: BitRegister, O: BitOrder<R>>(
         (read_by R.BitRegister O.position) others.now other_place place len }
     ensures steps { Takes steps.old steps.new (groups len 64) (groups len 1) }
 {
-    copy_between::<R, O, R, O>(others, other_place, words, place, len);
-    count(len, steps);
+    combine::<R, O>(
+        words,
+        place,
+        others,
+        other_place,
+        len,
+        Combination::Take,
+        steps,
+    );
 }
 
 /// `WordPaths::swap`, a step a bit.
+#[tactic(auto, using(bit_addressing_memory::proofs::CopyLemmas::between_steps, crate::proofs::PathLemmas::count_steps))]
 pub fn swap<R: BitRegister, O: BitOrder<R>>(
     words: &mut [R],
     place: usize,
@@ -92,11 +90,17 @@ pub fn swap<R: BitRegister, O: BitOrder<R>>(
         (read_by R.BitRegister O.position) words.old place other_place len }
     ensures steps { Takes steps.old steps.new (groups len 64) (groups len 1) }
 {
-    swap_between::<R, O, R, O>(words, place, others, other_place, len);
-    count(len, steps);
+    for k in 0..len {
+        let bit = read_entry::<R, O>(words, place + k);
+        let other = read_entry::<R, O>(others, other_place + k);
+        write_entry::<R, O>(words, place + k, other);
+        write_entry::<R, O>(others, other_place + k, bit);
+        steps.step();
+    }
 }
 
 /// `WordPaths::copy_over`, a step a bit.
+#[tactic(auto, using(bit_addressing_memory::proofs::CopyLemmas::within_steps, crate::proofs::PathLemmas::count_steps))]
 pub fn copy_over<R: BitRegister, O: BitOrder<R>>(
     words: &mut [R],
     source: usize,
@@ -112,8 +116,19 @@ pub fn copy_over<R: BitRegister, O: BitOrder<R>>(
         (read_by R.BitRegister O.position) words.old source target len }
     ensures steps { Takes steps.old steps.new (groups len 64) (groups len 1) }
 {
-    copy_within::<R, O>(words, source, target, len);
-    count(len, steps);
+    if target <= source {
+        'up: for k in 0..len {
+            let bit = read_entry::<R, O>(words, source + k);
+            write_entry::<R, O>(words, target + k, bit);
+            steps.step();
+        }
+    } else {
+        'down: for k in (0..len).rev() {
+            let bit = read_entry::<R, O>(words, source + k);
+            write_entry::<R, O>(words, target + k, bit);
+            steps.step();
+        }
+    }
 }
 
 /// `WordPaths::and`, a step a bit.
@@ -134,8 +149,15 @@ pub fn and<R: BitRegister, O: BitOrder<R>>(
         && entry (read_by R.BitRegister O.position) others.now (other_place + k)) }
     ensures steps { Takes steps.old steps.new (groups len 64) (groups len 1) }
 {
-    and_in::<R, O, R, O>(words, place, others, other_place, len);
-    count(len, steps);
+    combine::<R, O>(
+        words,
+        place,
+        others,
+        other_place,
+        len,
+        Combination::And,
+        steps,
+    );
 }
 
 /// `WordPaths::or`, a step a bit.
@@ -156,8 +178,15 @@ pub fn or<R: BitRegister, O: BitOrder<R>>(
         || entry (read_by R.BitRegister O.position) others.now (other_place + k)) }
     ensures steps { Takes steps.old steps.new (groups len 64) (groups len 1) }
 {
-    or_in::<R, O, R, O>(words, place, others, other_place, len);
-    count(len, steps);
+    combine::<R, O>(
+        words,
+        place,
+        others,
+        other_place,
+        len,
+        Combination::Or,
+        steps,
+    );
 }
 
 /// `WordPaths::xor`, a step a bit.
@@ -178,6 +207,40 @@ pub fn xor<R: BitRegister, O: BitOrder<R>>(
         (entry (read_by R.BitRegister O.position) others.now (other_place + k))) }
     ensures steps { Takes steps.old steps.new (groups len 64) (groups len 1) }
 {
-    xor_in::<R, O, R, O>(words, place, others, other_place, len);
-    count(len, steps);
+    combine::<R, O>(
+        words,
+        place,
+        others,
+        other_place,
+        len,
+        Combination::Xor,
+        steps,
+    );
+}
+
+// Makes each of `len` bits what `how` makes of it and of one of another memory.
+#[tactic(auto, using(crate::proofs::ChangedStretchLemmas::stretch_steps, crate::proofs::PathLemmas::count_steps))]
+fn combine<R: BitRegister, O: BitOrder<R>>(
+    words: &mut [R],
+    place: usize,
+    others: &[R],
+    other_place: usize,
+    len: usize,
+    how: Combination,
+    steps: &mut Steps,
+)
+    requires within { place + len ≤ length words.old * R.BITS }
+    requires ends { place + len < 2 ^ 64 }
+    requires other_within { other_place + len ≤ length others.now * R.BITS }
+    requires other_ends { other_place + len < 2 ^ 64 }
+    ensures combined { Combines (read_by R.BitRegister O.position) words.old words.new place len
+        (combined_bit how) (read_by R.BitRegister O.position) others.now other_place }
+    ensures steps { Takes steps.old steps.new (groups len 64) (groups len 1) }
+{
+    for k in 0..len {
+        let bit = read_entry::<R, O>(words, place + k);
+        let other = read_entry::<R, O>(others, other_place + k);
+        write_entry::<R, O>(words, place + k, combined(how, bit, other));
+        steps.step();
+    }
 }

@@ -3,23 +3,17 @@
 ghost use Rattle.std.specs.Prelude.{◌≡◌, ◌+◌, ◌*◌, ◌^◌, ◌<◌, ◌≤◌, ◌&&◌, ◌||◌, length};
 ghost use Rattle.std.specs.Bool.{xor};
 ghost use Rattle.bit_addressing_memory.specs.Memory.{entry, read_by, Overwrites};
-ghost use Rattle.bit_slice_words.specs.Edits.{combined_bit, Combines};
+ghost use Rattle.bit_slice_paths.specs.Combined.{combined_bit, Combines};
 
 use bit_addressing_memory::{BitOrder, BitRegister, read_entry, write_entry};
-
-/// How two bits make one.
-#[derive(Clone, Copy)]
-pub(crate) enum Combination {
-    And,
-    Or,
-    Xor,
-}
+use bit_slice_paths::Combination;
 
 // The bit that two make.
-fn combined(how: Combination, bit: bool, other: bool) -> bool
+pub(crate) fn combined(how: Combination, bit: bool, other: bool) -> bool
     ensures { result ≡ combined_bit how bit other }
 {
     match how {
+        Combination::Take => other,
         Combination::And => bit && other,
         Combination::Or => bit || other,
         Combination::Xor => bit != other,

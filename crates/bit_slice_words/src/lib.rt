@@ -19,8 +19,8 @@ mod paths;
 mod reverse;
 mod rotate;
 mod shift;
-mod steps;
 
+pub use bit_slice_paths::Steps;
 pub use combine::{and_in, or_in, xor_in};
 pub use compare::compare_in;
 pub use contains::contains_in;
@@ -36,4 +36,3 @@ pub use paths::WordPaths;
 pub use reverse::reverse_in;
 pub use rotate::{rotate_left_in, rotate_right_in};
 pub use shift::{shift_left_in, shift_right_in};
-pub use steps::Steps;

@@ -1,16 +1,16 @@
 //! Word paths: what an order does to many bits at once.
 //!
-//! No method has a body here: an order whose `SPAN` is 1 calls the functions of the same names in `by_bits`.
+//! No method has a body here. An order whose positions go straight with the indices calls `by_words`, a step for each 64
+//! bits; one whose `SPAN` is 1 calls the functions of the same names in `by_bits`.
 
 ghost use Rattle.std.specs.Prelude.{◌≡◌, ℕ, ◌+◌, ◌*◌, ◌^◌, ◌<◌, ◌≤◌, ◌↔◌, ◌&&◌, ◌||◌};
 ghost use Rattle.std.specs.Prelude.{length, IsTrue, true, false};
 ghost use Rattle.std.specs.Bool.{xor};
 ghost use Rattle.bit_addressing_memory.specs.Memory.{entry, read_by, Copies, Overwrites};
-ghost use Rattle.bit_slice_words.specs.Steps.{groups, Takes};
+ghost use Rattle.bit_slice_paths.specs.Steps.{groups, Takes};
 
-use crate::by_bits;
-use crate::steps::Steps;
-use bit_addressing_memory::{BitOrder, BitRegister, Lsb0, Msb0};
+use bit_addressing_memory::{BitOrder, BitRegister, Direction, Lsb0, Msb0};
+use bit_slice_paths::{Combination, Steps, by_words};
 
 /// What an order does to many bits of memories at once, from a place on of each, and in how many word steps: at
 /// most one for each `SPAN` bits, and no fewer than one for each 64. Each method is lent the count.
@@ -148,11 +148,11 @@ pub trait WordPaths<R: BitRegister>: BitOrder<R> {
 }
 
 impl<R: BitRegister> WordPaths<R> for Lsb0 {
-    ghost use Rattle.bit_slice_words.specs.PathLaws.{one_span, span_of_one};
+    ghost use Rattle.bit_slice_words.specs.PathLaws.{span_of_64, most_of_64};
 
-    ghost SPAN = { 1 };
+    ghost SPAN = { 64 };
 
-    const SPAN: u8 = 1;
+    const SPAN: u8 = 64;
 
     fn equal(
         words: &[R],
@@ -162,7 +162,15 @@ impl<R: BitRegister> WordPaths<R> for Lsb0 {
         len: usize,
         steps: &mut Steps,
     ) -> bool {
-        by_bits::equal::<R, Lsb0>(words, place, others, other_place, len, steps)
+        by_words::equal::<R, Lsb0>(
+            Direction::Ascending,
+            words,
+            place,
+            others,
+            other_place,
+            len,
+            steps,
+        )
     }
 
     fn copy(
@@ -173,7 +181,16 @@ impl<R: BitRegister> WordPaths<R> for Lsb0 {
         len: usize,
         steps: &mut Steps,
     ) {
-        by_bits::copy::<R, Lsb0>(words, place, others, other_place, len, steps);
+        by_words::combine::<R, Lsb0>(
+            Direction::Ascending,
+            Combination::Take,
+            words,
+            place,
+            others,
+            other_place,
+            len,
+            steps,
+        );
     }
 
     fn swap(
@@ -184,11 +201,19 @@ impl<R: BitRegister> WordPaths<R> for Lsb0 {
         len: usize,
         steps: &mut Steps,
     ) {
-        by_bits::swap::<R, Lsb0>(words, place, others, other_place, len, steps);
+        by_words::swap::<R, Lsb0>(
+            Direction::Ascending,
+            words,
+            place,
+            others,
+            other_place,
+            len,
+            steps,
+        );
     }
 
     fn copy_over(words: &mut [R], source: usize, target: usize, len: usize, steps: &mut Steps) {
-        by_bits::copy_over::<R, Lsb0>(words, source, target, len, steps);
+        by_words::copy_over::<R, Lsb0>(Direction::Ascending, words, source, target, len, steps);
     }
 
     fn and(
@@ -199,7 +224,16 @@ impl<R: BitRegister> WordPaths<R> for Lsb0 {
         len: usize,
         steps: &mut Steps,
     ) {
-        by_bits::and::<R, Lsb0>(words, place, others, other_place, len, steps);
+        by_words::combine::<R, Lsb0>(
+            Direction::Ascending,
+            Combination::And,
+            words,
+            place,
+            others,
+            other_place,
+            len,
+            steps,
+        );
     }
 
     fn or(
@@ -210,7 +244,16 @@ impl<R: BitRegister> WordPaths<R> for Lsb0 {
         len: usize,
         steps: &mut Steps,
     ) {
-        by_bits::or::<R, Lsb0>(words, place, others, other_place, len, steps);
+        by_words::combine::<R, Lsb0>(
+            Direction::Ascending,
+            Combination::Or,
+            words,
+            place,
+            others,
+            other_place,
+            len,
+            steps,
+        );
     }
 
     fn xor(
@@ -221,20 +264,29 @@ impl<R: BitRegister> WordPaths<R> for Lsb0 {
         len: usize,
         steps: &mut Steps,
     ) {
-        by_bits::xor::<R, Lsb0>(words, place, others, other_place, len, steps);
+        by_words::combine::<R, Lsb0>(
+            Direction::Ascending,
+            Combination::Xor,
+            words,
+            place,
+            others,
+            other_place,
+            len,
+            steps,
+        );
     }
 
-    ghost least_span = { one_span };
+    ghost least_span = { span_of_64 };
 
-    ghost most_span = { span_of_one };
+    ghost most_span = { most_of_64 };
 }
 
 impl<R: BitRegister> WordPaths<R> for Msb0 {
-    ghost use Rattle.bit_slice_words.specs.PathLaws.{one_span, span_of_one};
+    ghost use Rattle.bit_slice_words.specs.PathLaws.{span_of_64, most_of_64};
 
-    ghost SPAN = { 1 };
+    ghost SPAN = { 64 };
 
-    const SPAN: u8 = 1;
+    const SPAN: u8 = 64;
 
     fn equal(
         words: &[R],
@@ -244,7 +296,15 @@ impl<R: BitRegister> WordPaths<R> for Msb0 {
         len: usize,
         steps: &mut Steps,
     ) -> bool {
-        by_bits::equal::<R, Msb0>(words, place, others, other_place, len, steps)
+        by_words::equal::<R, Msb0>(
+            Direction::Descending,
+            words,
+            place,
+            others,
+            other_place,
+            len,
+            steps,
+        )
     }
 
     fn copy(
@@ -255,7 +315,16 @@ impl<R: BitRegister> WordPaths<R> for Msb0 {
         len: usize,
         steps: &mut Steps,
     ) {
-        by_bits::copy::<R, Msb0>(words, place, others, other_place, len, steps);
+        by_words::combine::<R, Msb0>(
+            Direction::Descending,
+            Combination::Take,
+            words,
+            place,
+            others,
+            other_place,
+            len,
+            steps,
+        );
     }
 
     fn swap(
@@ -266,11 +335,19 @@ impl<R: BitRegister> WordPaths<R> for Msb0 {
         len: usize,
         steps: &mut Steps,
     ) {
-        by_bits::swap::<R, Msb0>(words, place, others, other_place, len, steps);
+        by_words::swap::<R, Msb0>(
+            Direction::Descending,
+            words,
+            place,
+            others,
+            other_place,
+            len,
+            steps,
+        );
     }
 
     fn copy_over(words: &mut [R], source: usize, target: usize, len: usize, steps: &mut Steps) {
-        by_bits::copy_over::<R, Msb0>(words, source, target, len, steps);
+        by_words::copy_over::<R, Msb0>(Direction::Descending, words, source, target, len, steps);
     }
 
     fn and(
@@ -281,7 +358,16 @@ impl<R: BitRegister> WordPaths<R> for Msb0 {
         len: usize,
         steps: &mut Steps,
     ) {
-        by_bits::and::<R, Msb0>(words, place, others, other_place, len, steps);
+        by_words::combine::<R, Msb0>(
+            Direction::Descending,
+            Combination::And,
+            words,
+            place,
+            others,
+            other_place,
+            len,
+            steps,
+        );
     }
 
     fn or(
@@ -292,7 +378,16 @@ impl<R: BitRegister> WordPaths<R> for Msb0 {
         len: usize,
         steps: &mut Steps,
     ) {
-        by_bits::or::<R, Msb0>(words, place, others, other_place, len, steps);
+        by_words::combine::<R, Msb0>(
+            Direction::Descending,
+            Combination::Or,
+            words,
+            place,
+            others,
+            other_place,
+            len,
+            steps,
+        );
     }
 
     fn xor(
@@ -303,10 +398,19 @@ impl<R: BitRegister> WordPaths<R> for Msb0 {
         len: usize,
         steps: &mut Steps,
     ) {
-        by_bits::xor::<R, Msb0>(words, place, others, other_place, len, steps);
+        by_words::combine::<R, Msb0>(
+            Direction::Descending,
+            Combination::Xor,
+            words,
+            place,
+            others,
+            other_place,
+            len,
+            steps,
+        );
     }
 
-    ghost least_span = { one_span };
+    ghost least_span = { span_of_64 };
 
-    ghost most_span = { span_of_one };
+    ghost most_span = { most_of_64 };
 }

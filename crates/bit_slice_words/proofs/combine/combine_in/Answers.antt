@@ -1,5 +1,5 @@
 use Rattle.bit_addressing_memory.specs.Memory.{read_by}
-use Rattle.bit_slice_words.specs.Edits.{combined_bit}
+use Rattle.bit_slice_paths.specs.Combined.{combined_bit}
 use Rattle.bit_slice_words.proofs.ChangedStretchLemmas.{combines_more}
 use Rattle.bit_slice_words.proofs.combine.combine_in.Goals as goal
 

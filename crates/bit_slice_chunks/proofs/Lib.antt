@@ -1,0 +1,4 @@
+pub mod ChunkLemmas
+pub mod KnownRows
+pub mod TransferLemmas
+pub mod WholeLemmas

@@ -1,0 +1,175 @@
+-- Chunks of a memory, word by word: read, and written.
+use Rattle.std.proofs.Common.{◌≡◌, ℕ, ◌+◌, ◌-◌, ◌*◌, ◌/◌, ◌%◌, ◌==◌, ◌<◌, ◌≤◌, ◌≢◌, Bool, false, List, length, get_or}
+use Rattle.std.proofs.Common.{min, bit_or, refl, sym, ap, ◌∙◌, inl, inr, arith}
+use Rattle.std.proofs.Math.Nat.{mul-le-mul_right}
+use Rattle.std.proofs.lemmas.Bool.{cases_lt, eqb-false}
+use Rattle.std.proofs.lemmas.Nat.{div-add-mod', div_below}
+use Rattle.std.proofs.lemmas.Nat.Bits.{bit_at_or, bit_at-lt}
+use Rattle.std.specs.Int.{bit_at}
+use Rattle.bit_addressing_memory.specs.Bits.{digit_at}
+use Rattle.bit_addressing_memory.specs.Memory.{Reading, entry, reading_in, Overwrites}
+use Rattle.bit_addressing_memory.proofs.EntryLemmas.{entry_read}
+use Rattle.bit_addressing_memory.specs.declared.direction.Direction.{Direction}
+use Rattle.bit_addressing_memory.specs.Straight.{straight, Goes}
+use Rattle.bit_slice_chunks.specs.Chunk.{chunk_bit, IsChunk, ReadTo, IsLowered, IsRaised, IsCut, IsPart}
+
+-- ---- where words lie
+
+-- the first and the last word of some bits
+pub first_word : (b bits place : ℕ) → bits ≡ b → place / bits * b + place % bits ≡ place
+first_word b bits place is = rw is (div-add-mod' place b)
+
+pub less_words : (x y w : ℕ) → x * w < y * w → x < y
+less_words x y w less = elim (cases_lt x y) [
+  | inl low ↦ low
+  | inr high ↦ absurd (omega (arith, mul-le-mul_right w high))
+]
+
+-- a word up to the last one begins before the end
+pub begins_before : (b bits end k : ℕ) → bits ≡ b → 0 < b → 0 < end → k < (end - 1) / bits + 1 → k * b < end
+begins_before b bits end k is some any low =
+    let whole : (end - 1) / bits * b + (end - 1) % bits ≡ end - 1 = first_word b bits (end - 1) is in
+    let row : k * b ≤ (end - 1) / bits * b = mul-le-mul_right b (omega arith) in
+    omega arith
+
+-- and is one of the words
+pub word_in : (b bits end k words : ℕ) → bits ≡ b → 0 < b → 0 < end → k < (end - 1) / bits + 1 → end ≤ words * b
+    → k < words
+word_in b bits end k words is some any low within =
+    let begins = begins_before b bits end k is some any low in
+    less_words k words b (omega arith)
+
+-- so is the first
+pub first_in : (b bits place n words : ℕ) → bits ≡ b → 0 < b → 0 < n → place + n ≤ words * b → place / bits < words
+first_in b bits place n words is some any within = rw is (div_below place b words some (omega arith))
+
+-- a word behind the first one begins behind the place
+pub begins_behind : (b bits place k : ℕ) → bits ≡ b → 0 < b → place / bits + 1 ≤ k → place < k * b
+begins_behind b bits place k is some high =
+    let whole : place / bits * b + place % bits ≡ place = first_word b bits place is in
+    let row : (place / bits + 1) * b ≤ k * b = mul-le-mul_right b high in
+    let rest : place % bits < b = rw is (omega arith) in
+    omega arith
+
+-- the last word ends behind the end
+pub ends_behind : (b bits end k : ℕ) → bits ≡ b → 0 < b → (end - 1) / bits + 1 ≤ k → end ≤ k * b
+ends_behind b bits end k is some high = omega (arith, begins_behind b bits (end - 1) k is some high)
+
+-- ---- reading
+
+-- the digits of two numbers put together, where one of them has none
+pub no_digit : (y p : ℕ) → digit_at y p ≡ false → bit_at y p ≡ 0
+no_digit y p none =
+    let other : bit_at y p ≢ 1 = eqb-false (bit_at y p) 1 none in
+    omega (arith, bit_at-lt y p)
+
+pub or_left : (x y p : ℕ) → digit_at y p ≡ false → digit_at (bit_or x y) p ≡ digit_at x p
+or_left x y p none = ap (λ d. d == 1) (omega (arith, bit_at_or x y p, no_digit y p none))
+
+pub or_right : (x y p : ℕ) → digit_at x p ≡ false → digit_at (bit_or x y) p ≡ digit_at y p
+or_right x y p none = ap (λ d. d == 1) (omega (arith, bit_at_or x y p, no_digit x p none))
+
+module _ {R : Type 0} (b : ℕ) (number : R → ℕ) (at : ℕ → ℕ) (direction : Direction) (goes : Goes b at direction)
+    (words : List R) (place : ℕ) where
+  -- bit i of a part of word j, from the index `from` on
+  pub part_entry : (j from i chunk : ℕ) (x : R) → IsPart direction b (number x) from chunk → j < length words
+      → x ≡ get_or words j x → i < 64 → from + i < b
+      → chunk_bit direction chunk i ≡ entry (reading_in b number at) words (j * b + (from + i))
+  part_entry j from i chunk x is within read small low =
+      is.inside i small low
+      ∙ ap (digit_at (number x)) (sym (goes (from + i) low))
+      ∙ entry_read (reading_in b number at) words j (from + i) x low within read
+
+  -- the first word
+  pub read_first : (j from chunk end : ℕ) (x : R) → j * b + from ≡ place → end ≡ (j + 1) * b
+      → IsPart direction b (number x) from chunk → j < length words → x ≡ get_or words j x
+      → ReadTo (reading_in b number at) words place end direction chunk
+  read_first j from chunk end x start is_end is within read = record {
+    inside = λ i small low.
+        let here : j * b + (from + i) ≡ place + i = omega arith in
+        part_entry j from i chunk x is within read small (omega arith)
+        ∙ ap (entry (reading_in b number at) words) here;
+    past = λ i small far. is.past i small (omega arith);
+  }
+
+  -- one word more
+  pub read_more : (k by chunk next up r end : ℕ) (x : R) → place ≤ k * b → by ≡ k * b - place → end ≡ (k + 1) * b
+      → ReadTo (reading_in b number at) words place (k * b) direction chunk
+      → IsPart direction b (number x) 0 next → IsRaised direction next by up → r ≡ bit_or chunk up
+      → k < length words → x ≡ get_or words k x
+      → ReadTo (reading_in b number at) words place end direction r
+  read_more k by chunk next up r end x begins is_by is_end had is moved put within read = rw put (record {
+    inside = λ i small low. elim (cases_lt i by) [
+      | inl under ↦
+          or_left chunk up (straight 64 direction i) (moved.below i under) ∙ had.inside i small (omega arith)
+      | inr over ↦
+          let here : k * b + (0 + (i - by)) ≡ place + i = omega arith in
+          or_right chunk up (straight 64 direction i) (had.past i small (omega arith))
+          ∙ moved.above i over small
+          ∙ part_entry k 0 (i - by) next x is within read (omega arith) (omega arith)
+          ∙ ap (entry (reading_in b number at) words) here
+    ];
+    past = λ i small far.
+        or_right chunk up (straight 64 direction i) (had.past i small (omega arith))
+        ∙ moved.above i (omega arith) small
+        ∙ is.past (i - by) (omega arith) (omega arith);
+  })
+
+-- all words, and the bits behind cut off
+pub read_all : {R : Type 0} (reading : Reading R) (words : List R) (place end count : ℕ) (direction : Direction)
+    (chunk r : ℕ) → count ≤ 64 → place + count ≤ end → ReadTo reading words place end direction chunk
+    → IsCut direction chunk count r → IsChunk reading words place count direction r
+read_all reading words place end count direction chunk r few within had cut = record {
+  inside = λ i low. cut.inside i low ∙ had.inside i (omega arith) (omega arith);
+  past = cut.past;
+}
+
+-- ---- writing
+
+-- two stretches end to end
+pub overwrites_join : {R : Type 0} (reading : Reading R) (before mid after : List R) (place n next m all : ℕ)
+    (now then : ℕ → Bool) → next ≡ place + n → all ≡ n + m → ((i : ℕ) → i < m → then i ≡ now (n + i))
+    → Overwrites reading before mid place n now → Overwrites reading mid after next m then
+    → Overwrites reading before after place all now
+overwrites_join reading before mid after place n next m all now then ends sum same one two = record {
+  there = λ k small. elim (cases_lt k n) [
+    | inl low ↦ two.below (place + k) (omega arith) ∙ one.there k low
+    | inr high ↦
+        let at : next + (k - n) ≡ place + k = omega arith in
+        let back : n + (k - n) ≡ k = omega arith in
+        ap (entry reading after) (sym at)
+        ∙ two.there (k - n) (omega arith)
+        ∙ same (k - n) (omega arith)
+        ∙ ap now back
+  ];
+  below = λ p low. two.below p (omega arith) ∙ one.below p low;
+  above = λ p high. two.above p (omega arith) ∙ one.above p (omega arith);
+  words = two.words ∙ one.words;
+}
+
+-- one word more
+pub write_more : {R : Type 0} (reading : Reading R) (before mid after : List R)
+    (place count k b start bits from upto by : ℕ) (direction : Direction) (chunk rest : ℕ)
+    → bits ≡ b → start ≡ k * b → place < (k + 1) * b → k * b < place + count → count ≤ 64
+    → from ≡ place - start → upto ≡ min bits (place + count - start) → by ≡ start + from - place
+    → IsLowered direction chunk by rest
+    → Overwrites reading before mid place (min count (k * b - place)) (chunk_bit direction chunk)
+    → Overwrites reading mid after (k * b + from) (upto - from) (chunk_bit direction rest)
+    → Overwrites reading before after place (min count ((k + 1) * b - place)) (chunk_bit direction chunk)
+write_more reading before mid after place count k b start bits from upto by direction chunk rest is_bits is_start
+    begins ends few is_from is_upto is_by moved one two =
+    overwrites_join reading before mid after place (min count (k * b - place)) (k * b + from) (upto - from)
+    (min count ((k + 1) * b - place)) (chunk_bit direction chunk) (chunk_bit direction rest) (omega arith) (omega arith)
+    (λ i low.
+    let at : i + by ≡ min count (k * b - place) + i = omega arith in
+    moved.inside i (omega arith) ∙ ap (chunk_bit direction chunk) at)
+    one two
+
+pub write_none : {R : Type 0} (reading : Reading R) (words : List R) (place n : ℕ) (now : ℕ → Bool) → n ≡ 0
+    → Overwrites reading words words place n now
+write_none reading words place n now none = record {
+  there = λ k small. absurd (omega arith);
+  below = λ p low. refl;
+  above = λ p high. refl;
+  words = refl;
+}

@@ -1,0 +1,84 @@
+//! Chunks: numbers of 64 digits, whose bits are counted up from the lowest digit, or down from the highest.
+
+ghost use Rattle.std.specs.Prelude.{◌≡◌, ℕ, ◌+◌, ◌-◌, ◌*◌, ◌/◌, ◌%◌, ◌^◌, ◌<◌, ◌≤◌, false};
+ghost use Rattle.bit_addressing_memory.specs.declared.direction.Direction.{Direction};
+ghost use Rattle.bit_slice_chunks.specs.Chunk.{chunk_bit, word_bit, IsLowered, IsRaised, IsPart, IsPlaced, IsCut};
+
+use bit_addressing_memory::{BitRegister, Direction};
+
+/// The chunk whose bits are those of another from bit `by` on, and then zeros.
+#[inline(always)]
+pub fn lowered(direction: Direction, chunk: u64, by: u8) -> u64
+    requires { by < 64 }
+    ensures { IsLowered direction chunk by result }
+{
+    match direction {
+        Direction::Ascending => chunk >> by,
+        Direction::Descending => chunk << by,
+    }
+}
+
+/// The chunk that begins with `by` zeros, and then has the bits of another as far as there is room.
+#[inline(always)]
+pub fn raised(direction: Direction, chunk: u64, by: u8) -> u64
+    requires { by < 64 }
+    ensures { IsRaised direction chunk by result }
+{
+    match direction {
+        Direction::Ascending => chunk << by,
+        Direction::Descending => chunk >> by,
+    }
+}
+
+/// The chunk with each bit from bit `count` on made zero. `count` is 1 to 64.
+#[inline(always)]
+pub fn first_bits(direction: Direction, chunk: u64, count: u8) -> u64
+    requires some { 0 < count }
+    requires few { count ≤ 64 }
+    ensures { IsCut direction chunk count result }
+{
+    let above = 64 - count;
+    lowered(direction, raised(direction, chunk, above), above)
+}
+
+// The bits of a word from an index on, as many as a chunk has, and zeros behind them.
+#[inline(always)]
+pub(crate) fn part<R: BitRegister>(direction: Direction, word: R, from: u8) -> u64
+    requires { from < R.BITS }
+    ensures { IsPart direction R.BITS (R.number word) from result }
+{
+    match direction {
+        Direction::Ascending => part_up(word.value(), from),
+        Direction::Descending => part_down(word.value(), 128 - R::BITS + from),
+    }
+}
+
+#[inline(always)]
+fn part_up(value: u128, by: u8) -> u64
+    requires { by < 128 }
+    ensures { result ≡ value / 2 ^ by % 2 ^ 64 }
+{
+    ((value >> by) % (1 << 64)) as u64
+}
+
+#[inline(always)]
+fn part_down(value: u128, by: u8) -> u64
+    requires { by < 128 }
+    ensures { result ≡ value * 2 ^ by % 2 ^ 128 / 2 ^ 64 }
+{
+    ((value << by) >> 64) as u64
+}
+
+// A word with the bits of a chunk from an index on.
+#[inline(always)]
+pub(crate) fn placed<R: BitRegister>(direction: Direction, chunk: u64, from: u8) -> R
+    requires { from < R.BITS }
+    ensures { IsPlaced direction chunk from R.BITS (R.number result) }
+{
+    match direction {
+        Direction::Ascending => R::from_value(u128::from(chunk) << from),
+        Direction::Descending => {
+            R::from_value(((u128::from(chunk) << 64) >> from) >> (128 - R::BITS))
+        }
+    }
+}

@@ -1,0 +1,95 @@
+//! Up to 64 bits of a memory read as a chunk, and written: each word that they touch is read once, or put once.
+
+ghost use Rattle.std.specs.Prelude.{◌≡◌, ℕ, ◌+◌, ◌-◌, ◌*◌, ◌^◌, ◌<◌, ◌≤◌, length};
+ghost use Rattle.bit_addressing_memory.specs.Memory.{read_by, Overwrites};
+ghost use Rattle.bit_addressing_memory.specs.Straight.{Goes};
+ghost use Rattle.bit_slice_chunks.specs.Chunk.{chunk_bit, IsChunk};
+
+use crate::chunk::{first_bits, lowered, part, placed, raised};
+use bit_addressing_memory::mem::bits_of;
+use bit_addressing_memory::{BitEnd, BitIdx, BitOrder, BitRegister, Direction, store_in};
+
+/// The `count` bits of a memory from a place on, 1 to 64, as a chunk: bit k of it is entry `place + k`, and the
+/// bits behind them are zero. The positions go in `direction`.
+pub fn read_bits<R: BitRegister, O: BitOrder<R>>(
+    direction: Direction,
+    words: &[R],
+    place: usize,
+    count: usize,
+) -> u64
+    requires goes { Goes R.BITS O.position direction }
+    requires some { 0 < count }
+    requires few { count ≤ 64 }
+    requires within { place + count ≤ length words.now * R.BITS }
+    requires ends { place + count < 2 ^ 64 }
+    ensures { IsChunk (read_by R.BitRegister O.position) words.now place count direction result }
+{
+    let bits = bits_of::<R>();
+    let first = place / bits;
+    let last = (place + count - 1) / bits;
+    let mut chunk = part::<R>(direction, words[first], (place % bits) as u8);
+    for k in first + 1..last + 1 {
+        let next = part::<R>(direction, words[k], 0);
+        let by = k * bits - place;
+        chunk |= raised(direction, next, by as u8);
+    }
+    first_bits(direction, chunk, count as u8)
+}
+
+/// Makes the `count` bits of a memory from a place on, 1 to 64, those of a chunk: entry `place + k` is bit k of
+/// it. Every other bit of the memory stays. The positions go in `direction`.
+pub fn write_bits<R: BitRegister, O: BitOrder<R>>(
+    direction: Direction,
+    words: &mut [R],
+    place: usize,
+    count: usize,
+    chunk: u64,
+)
+    requires goes { Goes R.BITS O.position direction }
+    requires some { 0 < count }
+    requires few { count ≤ 64 }
+    requires within { place + count ≤ length words.old * R.BITS }
+    requires ends { place + count < 2 ^ 64 }
+    ensures { Overwrites (read_by R.BitRegister O.position) words.old words.new place count
+        (chunk_bit direction chunk) }
+{
+    let bits = bits_of::<R>();
+    let first = place / bits;
+    let last = (place + count - 1) / bits;
+    for k in first..last + 1 {
+        let start = k * bits;
+        let from = place.saturating_sub(start);
+        let upto = bits.min(place + count - start);
+        let rest = lowered(direction, chunk, (start + from - place) as u8);
+        put::<R, O>(direction, words, k, from as u8, upto as u8, rest);
+    }
+}
+
+// Writes the first bits of a chunk into a part of one word.
+#[inline(always)]
+pub(crate) fn put<R: BitRegister, O: BitOrder<R>>(
+    direction: Direction,
+    words: &mut [R],
+    at: usize,
+    from: u8,
+    upto: u8,
+    chunk: u64,
+)
+    requires goes { Goes R.BITS O.position direction }
+    requires inside { at < length words.old }
+    requires index { from < R.BITS }
+    requires order { from ≤ upto }
+    requires within { upto ≤ R.BITS }
+    requires few { upto - from ≤ 64 }
+    ensures { Overwrites (read_by R.BitRegister O.position) words.old words.new (at * R.BITS + from)
+        (upto - from) (chunk_bit direction chunk) }
+{
+    let value = placed::<R>(direction, chunk, from);
+    store_in::<R, O>(
+        words,
+        at,
+        value,
+        BitIdx::new_unchecked(from),
+        BitEnd::new_unchecked(upto),
+    );
+}

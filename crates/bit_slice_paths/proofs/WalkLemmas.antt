@@ -1,0 +1,204 @@
+-- Stretches combined, copied and compared chunk by chunk.
+use Rattle.std.proofs.Common.{◌≡◌, ℕ, ◌+◌, ◌-◌, ◌*◌, ◌%◌, ◌==◌, ◌^◌, ◌<◌, ◌≤◌, ◌≢◌, ◌↔◌, IsTrue, Bool, ◌&&◌, ◌||◌, List}
+use Rattle.std.proofs.Common.{bit_and, bit_or, bit_xor, min, max, refl, sym, ap, ap₂, ◌∙◌, inl, inr, arith}
+use mathlib.Core.Bool.{xor}
+use Rattle.std.specs.Int.{bit_at}
+use Rattle.std.proofs.lemmas.Bool.{cases_lt, cases_eq, eqb-true, eqb-false, eq-eqb, ne_eqb}
+use Rattle.std.proofs.lemmas.Bool.Decides.{nat_tests}
+use Rattle.std.proofs.lemmas.Nat.Bits.{bit_at_and, bit_at_or, bit_at_xor, bit_at-lt, same_from_bits_below}
+use Rattle.bit_addressing_memory.specs.Bits.{digit_at}
+use Rattle.bit_addressing_memory.specs.Memory.{Reading, entry, Overwrites, Copies}
+use Rattle.bit_addressing_memory.proofs.PartsLemmas.{stores_as}
+use Rattle.bit_addressing_memory.specs.declared.direction.Direction.{Direction}
+use Rattle.bit_addressing_memory.specs.declared.direction.Direction.TheVariants.{Ascending, Descending}
+use Rattle.bit_addressing_memory.specs.Straight.{straight}
+use Rattle.bit_slice_chunks.specs.Chunk.{chunk_bit, IsChunk}
+use Rattle.bit_slice_chunks.proofs.TransferLemmas.{overwrites_join, write_none}
+use Rattle.bit_slice_paths.specs.Combined.{Combines}
+
+-- ---- digits of two numbers combined
+
+both : (x y r : ℕ) → x < 2 → y < 2 → r ≡ min x y → (r == 1) ≡ ((x == 1) && (y == 1))
+both x y r low_x low_y is = grind (arith, nat_tests)
+
+either : (x y r : ℕ) → x < 2 → y < 2 → r ≡ max x y → (r == 1) ≡ ((x == 1) || (y == 1))
+either x y r low_x low_y is = grind (arith, nat_tests)
+
+one : (x y r : ℕ) → x < 2 → y < 2 → r ≡ (x + y) % 2 → (r == 1) ≡ xor (x == 1) (y == 1)
+unfolding xor
+one x y r low_x low_y is = grind (arith, nat_tests)
+
+pub and_digit : (m n p : ℕ) → digit_at (bit_and m n) p ≡ (digit_at m p && digit_at n p)
+and_digit m n p =
+    both (bit_at m p) (bit_at n p) (bit_at (bit_and m n) p) (bit_at-lt m p) (bit_at-lt n p) (bit_at_and m n p)
+
+pub or_digit : (m n p : ℕ) → digit_at (bit_or m n) p ≡ (digit_at m p || digit_at n p)
+or_digit m n p =
+    either (bit_at m p) (bit_at n p) (bit_at (bit_or m n) p) (bit_at-lt m p) (bit_at-lt n p) (bit_at_or m n p)
+
+pub xor_digit : (m n p : ℕ) → digit_at (bit_xor m n) p ≡ xor (digit_at m p) (digit_at n p)
+xor_digit m n p =
+    one (bit_at m p) (bit_at n p) (bit_at (bit_xor m n) p) (bit_at-lt m p) (bit_at-lt n p) (bit_at_xor m n p)
+
+same_digit : (x y p : ℕ) → digit_at x p ≡ digit_at y p → bit_at x p ≡ bit_at y p
+same_digit x y p same = elim (cases_eq (bit_at x p) 1) [
+  | inl one ↦ one ∙ sym (eqb-true (bit_at y p) 1 (sym same ∙ eq-eqb (bit_at x p) 1 one))
+  | inr other ↦
+      let also : bit_at y p ≢ 1 = eqb-false (bit_at y p) 1 (sym same ∙ ne_eqb (bit_at x p) 1 other) in
+      omega (arith, bit_at-lt x p, bit_at-lt y p)
+]
+
+-- ---- one chunk
+
+-- chunks of two memories read, combined and written back
+pub combines_chunk : {R Q : Type 0} (reading : Reading R) (its : Reading Q) (before after : List R) (others : List Q)
+    (place n other_place : ℕ) (how : Bool → Bool → Bool) (direction : Direction) (chunk other result : ℕ)
+    → IsChunk reading before place n direction chunk → IsChunk its others other_place n direction other
+    → ((p : ℕ) → digit_at result p ≡ how (digit_at chunk p) (digit_at other p))
+    → Overwrites reading before after place n (chunk_bit direction result)
+    → Combines reading before after place n how its others other_place
+combines_chunk reading its before after others place n other_place how direction chunk other result mine theirs made
+    wrote =
+    stores_as reading before after place n (chunk_bit direction result)
+    (λ k. how (entry reading before (place + k)) (entry its others (other_place + k))) wrote
+    (λ i low. made (straight 64 direction i) ∙ ap₂ how (mine.inside i low) (theirs.inside i low))
+
+-- ---- chunk after chunk
+
+pub combines_none : {R Q : Type 0} (reading : Reading R) (its : Reading Q) (words : List R) (others : List Q)
+    (place other_place : ℕ) (how : Bool → Bool → Bool)
+    → Combines reading words words place (64 * 0) how its others other_place
+combines_none reading its words others place other_place how =
+    write_none reading words place (64 * 0)
+    (λ k. how (entry reading words (place + k)) (entry its others (other_place + k))) (omega arith)
+
+pub combines_more : {R Q : Type 0} (reading : Reading R) (its : Reading Q) (before mid after : List R)
+    (others : List Q) (place other_place n m all : ℕ) (how : Bool → Bool → Bool) → all ≡ n + m
+    → Combines reading before mid place n how its others other_place
+    → Combines reading mid after (place + n) m how its others (other_place + n)
+    → Combines reading before after place all how its others other_place
+combines_more reading its before mid after others place other_place n m all how sum had more =
+    overwrites_join reading before mid after place n (place + n) m all
+    (λ k. how (entry reading before (place + k)) (entry its others (other_place + k)))
+    (λ k. how (entry reading mid (place + n + k)) (entry its others (other_place + n + k))) refl sum
+    (λ i low.
+    let here : place + n + i ≡ place + (n + i) = omega arith in
+    let there : other_place + n + i ≡ other_place + (n + i) = omega arith in
+    ap₂ how (had.above (place + n + i) (omega arith) ∙ ap (entry reading before) here)
+    (ap (entry its others) there))
+    had more
+
+-- ---- copies
+
+-- a chunk of one memory written into another
+pub copies_chunk : {R Q : Type 0} (reading : Reading R) (its : Reading Q) (before after : List R) (others : List Q)
+    (place n other_place : ℕ) (direction : Direction) (other : ℕ)
+    → IsChunk its others other_place n direction other
+    → Overwrites reading before after place n (chunk_bit direction other)
+    → Copies reading before after its others other_place place n
+copies_chunk reading its before after others place n other_place direction other theirs wrote =
+    stores_as reading before after place n (chunk_bit direction other)
+    (λ k. entry its others (other_place + k)) wrote (λ i low. theirs.inside i low)
+
+pub copied_none : {R Q : Type 0} (reading : Reading R) (its : Reading Q) (words : List R) (others : List Q)
+    (place other_place : ℕ) → Copies reading words words its others other_place place (64 * 0)
+copied_none reading its words others place other_place =
+    write_none reading words place (64 * 0) (λ k. entry its others (other_place + k)) (omega arith)
+
+-- one more, of a memory whose bits there are still as they were
+pub copied_more : {R Q : Type 0} (reading : Reading R) (its : Reading Q) (before mid after : List R)
+    (others others_mid : List Q) (place other_place n m all : ℕ) → all ≡ n + m
+    → ((p : ℕ) → other_place + n ≤ p → entry its others_mid p ≡ entry its others p)
+    → Copies reading before mid its others other_place place n
+    → Copies reading mid after its others_mid (other_place + n) (place + n) m
+    → Copies reading before after its others other_place place all
+copied_more reading its before mid after others others_mid place other_place n m all sum still had more =
+    overwrites_join reading before mid after place n (place + n) m all
+    (λ k. entry its others (other_place + k)) (λ k. entry its others_mid (other_place + n + k)) refl sum
+    (λ i low.
+    let there : other_place + n + i ≡ other_place + (n + i) = omega arith in
+    still (other_place + n + i) (omega arith) ∙ ap (entry its others) there)
+    had more
+
+-- one more in front of those that are copied
+pub copied_before : {R : Type 0} (reading : Reading R) (before mid after : List R)
+    (source target k m len : ℕ) → source ≤ target → k + m ≤ len
+    → Copies reading before mid reading before (source + (k + m)) (target + (k + m)) (len - (k + m))
+    → Copies reading mid after reading mid (source + k) (target + k) m
+    → Copies reading before after reading before (source + k) (target + k) (len - k)
+copied_before reading before mid after source target k m len order inside had more = record {
+  there = λ i low. elim (cases_lt i m) [
+    | inl first ↦ more.there i first ∙ had.below (source + k + i) (omega arith)
+    | inr later ↦
+        let to : target + (k + m) + (i - m) ≡ target + k + i = omega arith in
+        let from : source + (k + m) + (i - m) ≡ source + k + i = omega arith in
+        more.above (target + k + i) (omega arith)
+        ∙ ap (entry reading mid) (sym to)
+        ∙ had.there (i - m) (omega arith)
+        ∙ ap (entry reading before) from
+  ];
+  below = λ p low. more.below p low ∙ had.below p (omega arith);
+  above = λ p high. more.above p (omega arith) ∙ had.above p (omega arith);
+  words = more.words ∙ had.words;
+}
+
+-- ---- equality
+
+-- two numbers with the same 64 bits are equal
+pub same_chunks : (direction : Direction) (x y : ℕ) → x < 2 ^ 64 → y < 2 ^ 64
+    → ((i : ℕ) → i < 64 → chunk_bit direction x i ≡ chunk_bit direction y i) → x ≡ y
+same_chunks Ascending x y low_x low_y same =
+    same_from_bits_below 64 x y low_x low_y (λ p small. same_digit x y p (same p small))
+same_chunks Descending x y low_x low_y same =
+    same_from_bits_below 64 x y low_x low_y (λ p small.
+    let back : 64 - 1 - (64 - 1 - p) ≡ p = omega arith in
+    same_digit x y p (rw back at (same (64 - 1 - p) (omega arith))))
+
+-- chunks of two memories are equal exactly if the memories' bits are
+pub chunks_equal : {R Q : Type 0} (reading : Reading R) (its : Reading Q) (words : List R) (others : List Q)
+    (place other_place n : ℕ) (direction : Direction) (x y : ℕ) → x < 2 ^ 64 → y < 2 ^ 64
+    → IsChunk reading words place n direction x → IsChunk its others other_place n direction y
+    → (x ≡ y) ↔ ((k : ℕ) → k < n → entry reading words (place + k) ≡ entry its others (other_place + k))
+chunks_equal reading its words others place other_place n direction x y low_x low_y mine theirs = (
+  λ equal k low. sym (mine.inside k low) ∙ ap (λ c. chunk_bit direction c k) equal ∙ theirs.inside k low,
+  λ same. same_chunks direction x y low_x low_y (λ i small. elim (cases_lt i n) [
+    | inl low ↦ mine.inside i low ∙ same i low ∙ sym (theirs.inside i low)
+    | inr past ↦ mine.past i past small ∙ sym (theirs.past i past small)
+  ]),
+)
+
+-- and so says their comparison
+pub chunks_equal_test : {R Q : Type 0} (reading : Reading R) (its : Reading Q) (words : List R) (others : List Q)
+    (place other_place n : ℕ) (direction : Direction) (x y : ℕ) → x < 2 ^ 64 → y < 2 ^ 64
+    → IsChunk reading words place n direction x → IsChunk its others other_place n direction y
+    → IsTrue (x == y)
+    ↔ ((k : ℕ) → k < n → entry reading words (place + k) ≡ entry its others (other_place + k))
+chunks_equal_test reading its words others place other_place n direction x y low_x low_y mine theirs =
+    let is = chunks_equal reading its words others place other_place n direction x y low_x low_y mine theirs in (
+      λ test. is.0 (eqb-true x y test),
+      λ same. eq-eqb x y (is.1 same),
+    )
+
+-- one more chunk that is equal
+pub equal_more : {R Q : Type 0} (reading : Reading R) (its : Reading Q) (words : List R) (others : List Q)
+    (place other_place n m all : ℕ) → all ≡ n + m
+    → ((k : ℕ) → k < n → entry reading words (place + k) ≡ entry its others (other_place + k))
+    → ((k : ℕ) → k < m → entry reading words (place + n + k) ≡ entry its others (other_place + n + k))
+    → (k : ℕ) → k < all → entry reading words (place + k) ≡ entry its others (other_place + k)
+equal_more reading its words others place other_place n m all sum had more k low = elim (cases_lt k n) [
+  | inl first ↦ had k first
+  | inr later ↦
+      let here : place + n + (k - n) ≡ place + k = omega arith in
+      let there : other_place + n + (k - n) ≡ other_place + k = omega arith in
+      ap (entry reading words) (sym here) ∙ more (k - n) (omega arith) ∙ ap (entry its others) there
+]
+
+-- a part of two stretches that are equal
+pub equal_part : {R Q : Type 0} (reading : Reading R) (its : Reading Q) (words : List R) (others : List Q)
+    (place other_place n m all : ℕ) → n + m ≤ all
+    → ((k : ℕ) → k < all → entry reading words (place + k) ≡ entry its others (other_place + k))
+    → (k : ℕ) → k < m → entry reading words (place + n + k) ≡ entry its others (other_place + n + k)
+equal_part reading its words others place other_place n m all within same k low =
+    let here : place + n + k ≡ place + (n + k) = omega arith in
+    let there : other_place + n + k ≡ other_place + (n + k) = omega arith in
+    ap (entry reading words) here ∙ same (n + k) (omega arith) ∙ ap (entry its others) (sym there)

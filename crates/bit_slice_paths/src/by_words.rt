@@ -1,0 +1,590 @@
+//! Word paths by chunks of 64 bits, a step a chunk: what an order calls whose positions go straight with the
+//! indices.
+//!
+//! A step is counted in the loop that moves, once for each chunk. The count goes through the loop as a value, so that
+//! it stays in a register.
+
+ghost use Rattle.std.specs.Prelude.{◌≡◌, ℕ, ◌+◌, ◌-◌, ◌*◌, ◌/◌, ◌^◌, ◌<◌, ◌≤◌, ◌↔◌};
+ghost use Rattle.std.specs.Prelude.{length, IsTrue, true, false};
+ghost use Rattle.bit_addressing_memory.specs.Bits.{digit_at};
+ghost use Rattle.bit_addressing_memory.specs.Memory.{entry, read_by, Copies};
+ghost use Rattle.bit_addressing_memory.specs.Straight.{Goes};
+ghost use Rattle.bit_slice_paths.specs.Combined.{combined_bit, Combines};
+ghost use Rattle.bit_slice_paths.specs.Steps.{groups, Takes};
+
+use crate::combination::Combination;
+use crate::steps::Steps;
+use bit_addressing_memory::{BitOrder, BitRegister, Direction};
+use bit_slice_chunks::{read_bits, read_chunk, write_bits, write_chunk};
+use std::mem;
+
+// The digits that two chunks make.
+#[inline(always)]
+fn combined(how: Combination, chunk: u64, other: u64) -> u64
+    ensures { (p : ℕ) → digit_at result p ≡ combined_bit how (digit_at chunk p) (digit_at other p) }
+{
+    match how {
+        Combination::Take => other,
+        Combination::And => chunk & other,
+        Combination::Or => chunk | other,
+        Combination::Xor => chunk ^ other,
+    }
+}
+
+// Combines 64 bits.
+#[inline(always)]
+fn combine_chunk<R: BitRegister, O: BitOrder<R>>(
+    direction: Direction,
+    how: Combination,
+    words: &mut [R],
+    place: usize,
+    others: &[R],
+    other_place: usize,
+)
+    requires goes { Goes R.BITS O.position direction }
+    requires within { place + 64 ≤ length words.old * R.BITS }
+    requires ends { place + 64 < 2 ^ 64 }
+    requires other_within { other_place + 64 ≤ length others.now * R.BITS }
+    requires other_ends { other_place + 64 < 2 ^ 64 }
+    ensures { Combines (read_by R.BitRegister O.position) words.old words.new place 64
+        (combined_bit how) (read_by R.BitRegister O.position) others.now other_place }
+{
+    let other = read_chunk::<R, O>(direction, others, other_place);
+    let chunk = read_chunk::<R, O>(direction, words, place);
+    write_chunk::<R, O>(direction, words, place, combined(how, chunk, other));
+}
+
+// Combines up to 64 bits.
+#[inline(never)]
+fn combine_rest<R: BitRegister, O: BitOrder<R>>(
+    direction: Direction,
+    how: Combination,
+    words: &mut [R],
+    place: usize,
+    others: &[R],
+    other_place: usize,
+    count: usize,
+)
+    requires goes { Goes R.BITS O.position direction }
+    requires some { 0 < count }
+    requires few { count ≤ 64 }
+    requires within { place + count ≤ length words.old * R.BITS }
+    requires ends { place + count < 2 ^ 64 }
+    requires other_within { other_place + count ≤ length others.now * R.BITS }
+    requires other_ends { other_place + count < 2 ^ 64 }
+    ensures { Combines (read_by R.BitRegister O.position) words.old words.new place count
+        (combined_bit how) (read_by R.BitRegister O.position) others.now other_place }
+{
+    let other = read_bits::<R, O>(direction, others, other_place, count);
+    let chunk = read_bits::<R, O>(direction, words, place, count);
+    write_bits::<R, O>(direction, words, place, count, combined(how, chunk, other));
+}
+
+/// Combines each of `len` bits with one of another memory, a step for each 64.
+#[inline(always)]
+pub fn combine<R: BitRegister, O: BitOrder<R>>(
+    direction: Direction,
+    how: Combination,
+    words: &mut [R],
+    place: usize,
+    others: &[R],
+    other_place: usize,
+    len: usize,
+    steps: &mut Steps,
+)
+    requires goes { Goes R.BITS O.position direction }
+    requires within { place + len ≤ length words.old * R.BITS }
+    requires ends { place + len < 2 ^ 64 }
+    requires other_within { other_place + len ≤ length others.now * R.BITS }
+    requires other_ends { other_place + len < 2 ^ 64 }
+    ensures combined { Combines (read_by R.BitRegister O.position) words.old words.new place len
+        (combined_bit how) (read_by R.BitRegister O.position) others.now other_place }
+    ensures steps { Takes steps.old steps.new (groups len 64) (groups len 64) }
+{
+    let counted = mem::replace(steps, Steps::new());
+    *steps = combine_counted::<R, O>(
+        direction,
+        how,
+        words,
+        place,
+        others,
+        other_place,
+        len,
+        counted,
+    );
+}
+
+// `combine`, with a count that is handed in and back, so that the loop keeps it in a register.
+#[inline(always)]
+fn combine_counted<R: BitRegister, O: BitOrder<R>>(
+    direction: Direction,
+    how: Combination,
+    words: &mut [R],
+    place: usize,
+    others: &[R],
+    other_place: usize,
+    len: usize,
+    counted: Steps,
+) -> Steps
+    requires goes { Goes R.BITS O.position direction }
+    requires within { place + len ≤ length words.old * R.BITS }
+    requires ends { place + len < 2 ^ 64 }
+    requires other_within { other_place + len ≤ length others.now * R.BITS }
+    requires other_ends { other_place + len < 2 ^ 64 }
+    ensures combined { Combines (read_by R.BitRegister O.position) words.old words.new place len
+        (combined_bit how) (read_by R.BitRegister O.position) others.now other_place }
+    ensures steps { Takes counted result (groups len 64) (groups len 64) }
+{
+    let mut steps = counted;
+    let whole = len / 64;
+    let rest = len % 64;
+    for k in 0..whole {
+        let done = 64 * k;
+        combine_chunk::<R, O>(
+            direction,
+            how,
+            words,
+            place + done,
+            others,
+            other_place + done,
+        );
+        steps.step();
+    }
+    if rest > 0 {
+        let done = 64 * whole;
+        combine_rest::<R, O>(
+            direction,
+            how,
+            words,
+            place + done,
+            others,
+            other_place + done,
+            rest,
+        );
+        steps.step();
+    }
+    steps
+}
+
+// Copies up to 64 bits to another place of the same memory.
+#[inline(never)]
+fn move_rest<R: BitRegister, O: BitOrder<R>>(
+    direction: Direction,
+    words: &mut [R],
+    source: usize,
+    target: usize,
+    count: usize,
+)
+    requires goes { Goes R.BITS O.position direction }
+    requires some { 0 < count }
+    requires few { count ≤ 64 }
+    requires source_within { source + count ≤ length words.old * R.BITS }
+    requires source_ends { source + count < 2 ^ 64 }
+    requires target_within { target + count ≤ length words.old * R.BITS }
+    requires target_ends { target + count < 2 ^ 64 }
+    ensures { Copies (read_by R.BitRegister O.position) words.old words.new
+        (read_by R.BitRegister O.position) words.old source target count }
+{
+    let chunk = read_bits::<R, O>(direction, words, source, count);
+    write_bits::<R, O>(direction, words, target, count, chunk);
+}
+
+// Copies 64 bits to another place of the same memory.
+#[inline(always)]
+fn move_chunk<R: BitRegister, O: BitOrder<R>>(
+    direction: Direction,
+    words: &mut [R],
+    source: usize,
+    target: usize,
+)
+    requires goes { Goes R.BITS O.position direction }
+    requires source_within { source + 64 ≤ length words.old * R.BITS }
+    requires source_ends { source + 64 < 2 ^ 64 }
+    requires target_within { target + 64 ≤ length words.old * R.BITS }
+    requires target_ends { target + 64 < 2 ^ 64 }
+    ensures { Copies (read_by R.BitRegister O.position) words.old words.new
+        (read_by R.BitRegister O.position) words.old source target 64 }
+{
+    let chunk = read_chunk::<R, O>(direction, words, source);
+    write_chunk::<R, O>(direction, words, target, chunk);
+}
+
+// Copies bits towards lower places, the lowest first.
+#[inline(always)]
+fn copy_up<R: BitRegister, O: BitOrder<R>>(
+    direction: Direction,
+    words: &mut [R],
+    source: usize,
+    target: usize,
+    len: usize,
+    counted: Steps,
+) -> Steps
+    requires goes { Goes R.BITS O.position direction }
+    requires order { target ≤ source }
+    requires source_within { source + len ≤ length words.old * R.BITS }
+    requires source_ends { source + len < 2 ^ 64 }
+    requires target_within { target + len ≤ length words.old * R.BITS }
+    requires target_ends { target + len < 2 ^ 64 }
+    ensures copied { Copies (read_by R.BitRegister O.position) words.old words.new
+        (read_by R.BitRegister O.position) words.old source target len }
+    ensures steps { Takes counted result (groups len 64) (groups len 64) }
+{
+    let mut steps = counted;
+    let whole = len / 64;
+    let rest = len % 64;
+    for k in 0..whole {
+        let done = 64 * k;
+        move_chunk::<R, O>(direction, words, source + done, target + done);
+        steps.step();
+    }
+    if rest > 0 {
+        let done = 64 * whole;
+        move_rest::<R, O>(direction, words, source + done, target + done, rest);
+        steps.step();
+    }
+    steps
+}
+
+// Copies bits towards higher places, the highest first.
+#[inline(always)]
+fn copy_down<R: BitRegister, O: BitOrder<R>>(
+    direction: Direction,
+    words: &mut [R],
+    source: usize,
+    target: usize,
+    len: usize,
+    counted: Steps,
+) -> Steps
+    requires goes { Goes R.BITS O.position direction }
+    requires order { source ≤ target }
+    requires source_within { source + len ≤ length words.old * R.BITS }
+    requires source_ends { source + len < 2 ^ 64 }
+    requires target_within { target + len ≤ length words.old * R.BITS }
+    requires target_ends { target + len < 2 ^ 64 }
+    ensures copied { Copies (read_by R.BitRegister O.position) words.old words.new
+        (read_by R.BitRegister O.position) words.old source target len }
+    ensures steps { Takes counted result (groups len 64) (groups len 64) }
+{
+    let whole = len / 64;
+    let mut steps = copy_last::<R, O>(direction, words, source, target, len, counted);
+    for k in (0..whole).rev() {
+        let before = 64 * k;
+        move_chunk::<R, O>(direction, words, source + before, target + before);
+        steps.step();
+    }
+    steps
+}
+
+// Copies the bits behind the whole chunks.
+fn copy_last<R: BitRegister, O: BitOrder<R>>(
+    direction: Direction,
+    words: &mut [R],
+    source: usize,
+    target: usize,
+    len: usize,
+    counted: Steps,
+) -> Steps
+    requires goes { Goes R.BITS O.position direction }
+    requires source_within { source + len ≤ length words.old * R.BITS }
+    requires source_ends { source + len < 2 ^ 64 }
+    requires target_within { target + len ≤ length words.old * R.BITS }
+    requires target_ends { target + len < 2 ^ 64 }
+    ensures copied { Copies (read_by R.BitRegister O.position) words.old words.new
+        (read_by R.BitRegister O.position) words.old (source + 64 * (len / 64)) (target + 64 * (len / 64))
+        (len - 64 * (len / 64)) }
+    ensures steps { Takes counted result (groups (len - 64 * (len / 64)) 64)
+        (groups (len - 64 * (len / 64)) 64) }
+{
+    let mut steps = counted;
+    let done = 64 * (len / 64);
+    let rest = len - done;
+    if rest > 0 {
+        move_rest::<R, O>(direction, words, source + done, target + done, rest);
+        steps.step();
+    }
+    steps
+}
+
+/// Copies bits to another place of the same memory, a step for each 64. The two stretches may overlap.
+#[inline(always)]
+pub fn copy_over<R: BitRegister, O: BitOrder<R>>(
+    direction: Direction,
+    words: &mut [R],
+    source: usize,
+    target: usize,
+    len: usize,
+    steps: &mut Steps,
+)
+    requires goes { Goes R.BITS O.position direction }
+    requires source_within { source + len ≤ length words.old * R.BITS }
+    requires source_ends { source + len < 2 ^ 64 }
+    requires target_within { target + len ≤ length words.old * R.BITS }
+    requires target_ends { target + len < 2 ^ 64 }
+    ensures copied { Copies (read_by R.BitRegister O.position) words.old words.new
+        (read_by R.BitRegister O.position) words.old source target len }
+    ensures steps { Takes steps.old steps.new (groups len 64) (groups len 64) }
+{
+    let counted = mem::replace(steps, Steps::new());
+    if target <= source {
+        *steps = copy_up::<R, O>(direction, words, source, target, len, counted);
+    } else {
+        *steps = copy_down::<R, O>(direction, words, source, target, len, counted);
+    }
+}
+
+// Exchanges up to 64 bits.
+#[inline(never)]
+fn swap_rest<R: BitRegister, O: BitOrder<R>>(
+    direction: Direction,
+    words: &mut [R],
+    place: usize,
+    others: &mut [R],
+    other_place: usize,
+    count: usize,
+)
+    requires goes { Goes R.BITS O.position direction }
+    requires some { 0 < count }
+    requires few { count ≤ 64 }
+    requires within { place + count ≤ length words.old * R.BITS }
+    requires ends { place + count < 2 ^ 64 }
+    requires other_within { other_place + count ≤ length others.old * R.BITS }
+    requires other_ends { other_place + count < 2 ^ 64 }
+    ensures to_words { Copies (read_by R.BitRegister O.position) words.old words.new
+        (read_by R.BitRegister O.position) others.old other_place place count }
+    ensures to_others { Copies (read_by R.BitRegister O.position) others.old others.new
+        (read_by R.BitRegister O.position) words.old place other_place count }
+{
+    let chunk = read_bits::<R, O>(direction, words, place, count);
+    let other = read_bits::<R, O>(direction, others, other_place, count);
+    write_bits::<R, O>(direction, words, place, count, other);
+    write_bits::<R, O>(direction, others, other_place, count, chunk);
+}
+
+// Exchanges 64 bits.
+#[inline(always)]
+fn swap_chunk<R: BitRegister, O: BitOrder<R>>(
+    direction: Direction,
+    words: &mut [R],
+    place: usize,
+    others: &mut [R],
+    other_place: usize,
+)
+    requires goes { Goes R.BITS O.position direction }
+    requires within { place + 64 ≤ length words.old * R.BITS }
+    requires ends { place + 64 < 2 ^ 64 }
+    requires other_within { other_place + 64 ≤ length others.old * R.BITS }
+    requires other_ends { other_place + 64 < 2 ^ 64 }
+    ensures to_words { Copies (read_by R.BitRegister O.position) words.old words.new
+        (read_by R.BitRegister O.position) others.old other_place place 64 }
+    ensures to_others { Copies (read_by R.BitRegister O.position) others.old others.new
+        (read_by R.BitRegister O.position) words.old place other_place 64 }
+{
+    let chunk = read_chunk::<R, O>(direction, words, place);
+    let other = read_chunk::<R, O>(direction, others, other_place);
+    write_chunk::<R, O>(direction, words, place, other);
+    write_chunk::<R, O>(direction, others, other_place, chunk);
+}
+
+/// Exchanges the bits of two stretches, a step for each 64.
+#[inline(always)]
+pub fn swap<R: BitRegister, O: BitOrder<R>>(
+    direction: Direction,
+    words: &mut [R],
+    place: usize,
+    others: &mut [R],
+    other_place: usize,
+    len: usize,
+    steps: &mut Steps,
+)
+    requires goes { Goes R.BITS O.position direction }
+    requires within { place + len ≤ length words.old * R.BITS }
+    requires ends { place + len < 2 ^ 64 }
+    requires other_within { other_place + len ≤ length others.old * R.BITS }
+    requires other_ends { other_place + len < 2 ^ 64 }
+    ensures to_words { Copies (read_by R.BitRegister O.position) words.old words.new
+        (read_by R.BitRegister O.position) others.old other_place place len }
+    ensures to_others { Copies (read_by R.BitRegister O.position) others.old others.new
+        (read_by R.BitRegister O.position) words.old place other_place len }
+    ensures steps { Takes steps.old steps.new (groups len 64) (groups len 64) }
+{
+    let counted = mem::replace(steps, Steps::new());
+    *steps = swap_counted::<R, O>(direction, words, place, others, other_place, len, counted);
+}
+
+// `swap`, with a count that is handed in and back.
+#[inline(always)]
+fn swap_counted<R: BitRegister, O: BitOrder<R>>(
+    direction: Direction,
+    words: &mut [R],
+    place: usize,
+    others: &mut [R],
+    other_place: usize,
+    len: usize,
+    counted: Steps,
+) -> Steps
+    requires goes { Goes R.BITS O.position direction }
+    requires within { place + len ≤ length words.old * R.BITS }
+    requires ends { place + len < 2 ^ 64 }
+    requires other_within { other_place + len ≤ length others.old * R.BITS }
+    requires other_ends { other_place + len < 2 ^ 64 }
+    ensures to_words { Copies (read_by R.BitRegister O.position) words.old words.new
+        (read_by R.BitRegister O.position) others.old other_place place len }
+    ensures to_others { Copies (read_by R.BitRegister O.position) others.old others.new
+        (read_by R.BitRegister O.position) words.old place other_place len }
+    ensures steps { Takes counted result (groups len 64) (groups len 64) }
+{
+    let mut steps = counted;
+    let whole = len / 64;
+    let rest = len % 64;
+    for k in 0..whole {
+        let done = 64 * k;
+        swap_chunk::<R, O>(direction, words, place + done, others, other_place + done);
+        steps.step();
+    }
+    if rest > 0 {
+        let done = 64 * whole;
+        swap_rest::<R, O>(
+            direction,
+            words,
+            place + done,
+            others,
+            other_place + done,
+            rest,
+        );
+        steps.step();
+    }
+    steps
+}
+
+// Whether two stretches of 64 bits have the same bits.
+#[inline(always)]
+fn equal_chunk<R: BitRegister, O: BitOrder<R>>(
+    direction: Direction,
+    words: &[R],
+    place: usize,
+    others: &[R],
+    other_place: usize,
+) -> bool
+    requires goes { Goes R.BITS O.position direction }
+    requires within { place + 64 ≤ length words.now * R.BITS }
+    requires ends { place + 64 < 2 ^ 64 }
+    requires other_within { other_place + 64 ≤ length others.now * R.BITS }
+    requires other_ends { other_place + 64 < 2 ^ 64 }
+    ensures { IsTrue result ↔ ((k : ℕ) → k < 64
+        → entry (read_by R.BitRegister O.position) words.now (place + k)
+        ≡ entry (read_by R.BitRegister O.position) others.now (other_place + k)) }
+{
+    let chunk = read_chunk::<R, O>(direction, words, place);
+    let other = read_chunk::<R, O>(direction, others, other_place);
+    chunk == other
+}
+
+// Whether two stretches of up to 64 bits have the same bits.
+#[inline(never)]
+fn equal_rest<R: BitRegister, O: BitOrder<R>>(
+    direction: Direction,
+    words: &[R],
+    place: usize,
+    others: &[R],
+    other_place: usize,
+    count: usize,
+) -> bool
+    requires goes { Goes R.BITS O.position direction }
+    requires some { 0 < count }
+    requires few { count ≤ 64 }
+    requires within { place + count ≤ length words.now * R.BITS }
+    requires ends { place + count < 2 ^ 64 }
+    requires other_within { other_place + count ≤ length others.now * R.BITS }
+    requires other_ends { other_place + count < 2 ^ 64 }
+    ensures { IsTrue result ↔ ((k : ℕ) → k < count
+        → entry (read_by R.BitRegister O.position) words.now (place + k)
+        ≡ entry (read_by R.BitRegister O.position) others.now (other_place + k)) }
+{
+    let chunk = read_bits::<R, O>(direction, words, place, count);
+    let other = read_bits::<R, O>(direction, others, other_place, count);
+    chunk == other
+}
+
+/// Whether two stretches have the same bits, a step for each 64 up to the first that differ.
+#[inline(always)]
+pub fn equal<R: BitRegister, O: BitOrder<R>>(
+    direction: Direction,
+    words: &[R],
+    place: usize,
+    others: &[R],
+    other_place: usize,
+    len: usize,
+    steps: &mut Steps,
+) -> bool
+    requires goes { Goes R.BITS O.position direction }
+    requires within { place + len ≤ length words.now * R.BITS }
+    requires ends { place + len < 2 ^ 64 }
+    requires other_within { other_place + len ≤ length others.now * R.BITS }
+    requires other_ends { other_place + len < 2 ^ 64 }
+    ensures value { IsTrue result ↔ ((k : ℕ) → k < len
+        → entry (read_by R.BitRegister O.position) words.now (place + k)
+        ≡ entry (read_by R.BitRegister O.position) others.now (other_place + k)) }
+    ensures same { result ≡ true → Takes steps.old steps.new (groups len 64) (groups len 64) }
+    ensures other { result ≡ false → Takes steps.old steps.new 1 (groups len 64) }
+{
+    let counted = mem::replace(steps, Steps::new());
+    let (same, all) = equal_counted::<R, O>(
+        direction,
+        words,
+        place,
+        others,
+        other_place,
+        len,
+        counted,
+    );
+    *steps = all;
+    same
+}
+
+// `equal`, with a count that is handed in and back.
+#[inline(always)]
+fn equal_counted<R: BitRegister, O: BitOrder<R>>(
+    direction: Direction,
+    words: &[R],
+    place: usize,
+    others: &[R],
+    other_place: usize,
+    len: usize,
+    counted: Steps,
+) -> (bool, Steps)
+    requires goes { Goes R.BITS O.position direction }
+    requires within { place + len ≤ length words.now * R.BITS }
+    requires ends { place + len < 2 ^ 64 }
+    requires other_within { other_place + len ≤ length others.now * R.BITS }
+    requires other_ends { other_place + len < 2 ^ 64 }
+    ensures value { IsTrue result.0 ↔ ((k : ℕ) → k < len
+        → entry (read_by R.BitRegister O.position) words.now (place + k)
+        ≡ entry (read_by R.BitRegister O.position) others.now (other_place + k)) }
+    ensures same { result.0 ≡ true → Takes counted result.1 (groups len 64) (groups len 64) }
+    ensures other { result.0 ≡ false → Takes counted result.1 1 (groups len 64) }
+{
+    let mut steps = counted;
+    let whole = len / 64;
+    let rest = len % 64;
+    for k in 0..whole {
+        let done = 64 * k;
+        steps.step();
+        if !equal_chunk::<R, O>(direction, words, place + done, others, other_place + done) {
+            return (false, steps);
+        }
+    }
+    if rest == 0 {
+        return (true, steps);
+    }
+    let done = 64 * whole;
+    steps.step();
+    let same = equal_rest::<R, O>(
+        direction,
+        words,
+        place + done,
+        others,
+        other_place + done,
+        rest,
+    );
+    (same, steps)
+}

@@ -1,0 +1,54 @@
+-- Word paths bit by bit: their steps, and bits that are equal so far.
+use Rattle.std.proofs.Common.{◌≡◌, ◌≢◌, ℕ, ◌+◌, ◌-◌, ◌<◌, ◌≤◌, Bool, true, false, not, refl, arith, min}
+use mathlib.Core.Bool.{beq}
+use Rattle.bit_slice_paths.specs.Steps.{most_steps, groups, Takes}
+use Rattle.bit_slice_paths.proofs.StepLemmas.{takes_none, takes_more, takes_as}
+
+groups_one : (n : ℕ) → groups n 1 ≡ n
+groups_one n = omega arith
+
+groups_64 : (n : ℕ) → groups n 64 ≤ n
+groups_64 n = omega arith
+
+-- a step a bit
+pub takes_bits : (old new n k : ℕ) → k ≡ n → Takes old new k k → Takes old new (groups n 64) (groups n 1)
+takes_bits old new n k all had =
+    let a = had.at_least in
+    let b = had.at_most in
+    record { at_least = omega (arith, groups_64 n); at_most = omega (arith, groups_one n) }
+
+-- the last bit first: before it, one more, and all
+pub takes_none_down : (old n k : ℕ) → k ≡ n → Takes old old (n - k) (n - k)
+takes_none_down old n k all = record { at_least = omega arith; at_most = omega arith }
+
+pub takes_more_down : (old now new n k : ℕ) → 0 < k → k ≤ n → new ≡ min (now + 1) most_steps
+    → Takes old now (n - k) (n - k) → Takes old new (n - (k - 1)) (n - (k - 1))
+takes_more_down old now new n k some inside is had =
+    let one_more : n - k + 1 ≡ n - (k - 1) = omega arith in
+    takes_as old new (n - k + 1) (n - (k - 1)) one_more (takes_more old now new (n - k) is had)
+
+pub takes_bits_down : (old new n k : ℕ) → k ≡ 0 → Takes old new (n - k) (n - k)
+    → Takes old new (groups n 64) (groups n 1)
+takes_bits_down old new n k none had = takes_bits old new n (n - k) (omega arith) had
+
+-- a step a bit, up to the first that differs
+pub takes_some : (old new n k : ℕ) → 1 ≤ k → k ≤ n → Takes old new k k → Takes old new 1 (groups n 1)
+takes_some old new n k some h had =
+    let a = had.at_least in
+    let b = had.at_most in
+    record { at_least = omega arith; at_most = omega (arith, groups_one n) }
+
+-- what the test `a != b` says
+pub same_bits : (a b : Bool) → not (beq a b) ≡ false → a ≡ b
+same_bits true true e = refl
+same_bits true false e = cc
+same_bits false true e = cc
+same_bits false false e = refl
+
+pub other_bits : (a b : Bool) → not (beq a b) ≡ true → a ≢ b
+other_bits true true e = cc
+other_bits true false e = λ h. cc
+other_bits false true e = λ h. cc
+other_bits false false e = cc
+
+pub ruleset count_steps = (takes_none, takes_more, takes_bits, takes_none_down, takes_more_down, takes_bits_down)

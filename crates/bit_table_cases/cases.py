@@ -108,6 +108,26 @@ def thrown_scripts():
         run(script, lines(script), [STORAGES[number * 3]])
 
 
+def long_rows():
+    """Rows of more than 256 bits."""
+    for script, answer in worked.LONG_ROWS:
+        run(script, answer, STORAGES)
+    rng = random.Random(15)
+    for number in range(20):
+        script = thrown.script(rng, thrown.WIDE[number % 4], 16, rng.choice((0, 3)))
+        run(script, lines(script), [STORAGES[number]])
+    for number, width in enumerate(thrown.WIDE):
+        word, order = STORAGES[number * 5]
+        thrower = thrown.Thrower(rng, width, WORDS[word], "amz")
+        thrower.load(5)
+        for letter in thrower.letters:
+            thrower.throw("mark", letter, *[str(it) for it in marks(rng, thrower)])
+        for _ in range(6):
+            own_line(rng, thrower)
+        script = b"\n".join(thrower.lines)
+        table(script, table_answer(script, WORDS[word]), [(word, order)])
+
+
 # ---- tables
 
 
@@ -383,6 +403,7 @@ def main():
     stored_rows()
     moved_rows()
     kept_rows()
+    long_rows()
     pathlib.Path("stdin").write_text("".join(f"{line}\n" for line in given))
     pathlib.Path("stdout").write_text("".join(f"{line}\n" for line in wanted))
 

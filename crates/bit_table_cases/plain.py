@@ -7,7 +7,7 @@ import sys
 sys.set_int_max_str_digits(0)
 
 MOST_BITS = 2305843009213693951
-MOST_ROW_BITS = 256
+MOST_ROW_BITS = 1024
 LETTERS = "abcdefghijklmnopqrstuvwxyz"
 
 

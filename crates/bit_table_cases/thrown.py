@@ -12,12 +12,13 @@ NO_COMMANDS = (
 
 # Lines that are no layout, and blank ones.
 NO_LAYOUTS = (
-    b";\r;low;low a:u0;low a:u01;low a:u65;low a:u1 a:i2;low a:u64 b:u64 c:i64 d:i64 e:u1;high a:i0;low a:u1:u1;"
-    b"low 1a:u1;image"
+    b";\r;low;low a:u0;low a:u01;low a:u65;low a:u1 a:i2;low a:u64 b:u64 c:i64 d:i64 e:u64 f:u64 g:i64 h:i64 i:u64 j:u64"
+    b" k:i64 l:i64 m:u64 n:u64 o:i64 p:i64 q:u1;high a:i0;low a:u1:u1;low 1a:u1;image"
 ).split(b";")
 
 # How many bits a row has.
 WIDTHS = (1, 7, 8, 9, 63, 64, 65, 255, 256)
+WIDE = (257, 513, 1023, 1024)
 
 
 def layout_line(rng, width):

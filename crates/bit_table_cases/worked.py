@@ -1,6 +1,8 @@
 """Worked scripts and lines with their answers, by hand. Two rows of `a:u3 b:i4` are 5 and -1, then 2 and 3: under `high`
 101 1111 and 010 0011, under `low` 101 1111 and 010 1100."""
 
+import worked_lines
+
 # What a script of the two rows begins with.
 HIGH = b"high a:u3 b:i4\ninsert 0 5 -1\ninsert 1 2 3\n"
 LOW = b"low a:u3 b:i4\ninsert 0 5 -1\ninsert 1 2 3\n"
@@ -130,6 +132,33 @@ SCRIPTS = [
     (
         HIGH + b"mark x a > 2\nkeep\nnot x\nload 2 be8c\nlist x\nnot x\nlist x\nload 0\nback\nlist x\nimage",
         "ok\nok\nok\nok\nok\nok\nok\nnone\nok\n0 1\nok\nok\n0\n2 be8c\n",
+    ),
+]
+
+# Rows of 257 bits, 0, 0, 0, 0 and 1.
+LOW_257, HIGH_257 = (b"%s a:u64 b:u64 c:u64 d:u64 e:u1\ninsert 0 0 0 0 0 1\nimage\n" % rule for rule in (b"low", b"high"))
+
+# Layouts of 1,024 bits.
+LOW_1024, HIGH_1024 = (b"%s %s" % (rule, worked_lines.SIXTEEN.encode()) for rule in (b"low", b"high"))
+
+# Scripts of long rows with their answers, for every storage.
+LONG_ROWS = [
+    (LOW_1024 + b" q:u1\n" + LOW_1024, "refused layout\nok\n"),
+    (HIGH_1024 + b" q:u1\n" + HIGH_1024, "refused layout\nok\n"),
+    (
+        LOW_257 + b"insert 1 0 0 0 0 1\nimage\nget 1",
+        "ok\nok\n1 " + "0" * 64 + "01\nok\n2 " + "0" * 64 + "01" + "0" * 62 + "02\n0 0 0 0 1\n",
+    ),
+    (
+        HIGH_257 + b"insert 1 0 0 0 0 1\nimage\nget 1",
+        "ok\nok\n1 " + "0" * 64 + "80\nok\n2 " + "0" * 64 + "80" + "0" * 62 + "40\n0 0 0 0 1\n",
+    ),
+    (LOW_1024 + b"\nload 2251799813685248 00\nload 2251799813685247 00\nimage", "ok\nrefused full\nrefused image\n0\n"),
+    # the last field of each row
+    (
+        LOW_1024 + b"\nload 2 " + b"0" * 254 + b"80" + b"0" * 254 + b"40\nmark x p < 0\nlist x\nswap 0 1\nlist x\nset 0 a 1"
+        b"\nimage",
+        "ok\nok\nok\n0\nok\n1\nok\n2 01" + "0" * 252 + "40" + "0" * 254 + "80\n",
     ),
 ]
 

@@ -1,14 +1,25 @@
 """Worked lines, image bytes and memories with their answers, by hand."""
 
+# Fields of 64 bits, sixteen of which are as many bits as a row may have.
+SIXTEEN = "a:u64 b:u64 c:i64 d:i64 e:u64 f:u64 g:i64 h:i64 i:u64 j:u64 k:i64 l:i64 m:u64 n:u64 o:i64 p:i64"
+FIFTEEN = SIXTEEN.removesuffix(" p:i64")
+
+
+def ones(count):
+    """Fields of one bit each."""
+    return " ".join(f"f{place}:u1" for place in range(count))
+
+
 # Layout lines, told by their rule, the bits of a row and the fields.
 LAYOUTS = [
     (b" low\ta:u3  b_2:i64\r", "low 67 a:u3 b_2:i64"),
     (b"high a:u1", "high 1 a:u1"),
     (b"low a:u64 b:i64 c:u64 d:i64", "low 256 a:u64 b:i64 c:u64 d:i64"),
-    (
-        b"low" + b"".join(b" f%d:u1" % place for place in range(256)),
-        "low 256" + "".join(f" f{place}:u1" for place in range(256)),
-    ),
+    *((f"low {ones(bits)}".encode(), f"low {bits} {ones(bits)}") for bits in (256, 257, 1023, 1024)),
+    (b"low a:u64 b:u64 c:u64 d:u64 e:u1", "low 257 a:u64 b:u64 c:u64 d:u64 e:u1"),
+    (f"high {FIFTEEN} p:i63".encode(), f"high 1023 {FIFTEEN} p:i63"),
+    (f"low {SIXTEEN}".encode(), f"low 1024 {SIXTEEN}"),
+    (f"high {SIXTEEN}".encode(), f"high 1024 {SIXTEEN}"),
 ]
 
 # Lines that are no layout lines.
@@ -17,9 +28,10 @@ NO_LAYOUTS = [
     b"insert 0 1", b"low a", b"low a:", b"low a:u", b"low a:3", b"low a:x1", b"low a:U1", b"low a:u0", b"low a:u01",
     b"low a:u65", b"low a:u100000000000000000000000000000000000000000", b"low a:u-1", b"low a:u1:", b"low a::u1",
     b"low :u1", b"low 1a:u1", b"low _a:u1", b"low A:u1", b"low a-b:u1", b"low a\xfe:u1", b"low \xfe",
-    b"low a2345678901234567:u1", b"low a:u1 a:u1", b"low a:u1 b:u2 a:i3", b"low a:u64 b:u64 c:u64 d:u64 e:u1",
+    b"low a2345678901234567:u1", b"low a:u1 a:u1", b"low a:u1 b:u2 a:i3", f"low {SIXTEEN} q:u1".encode(),
     b"low a:u1\n", b"low a:u1\nb:u1", b"low\na:u1",
-    b"low" + b"".join(b" f%d:u1" % place for place in range(256)) + b" g:u1",
+    f"low {ones(1024)} g:u1".encode(), f"high {FIFTEEN} p:i63 q:u2".encode(), f"low {ones(1023)} f0:u1".encode(),
+    f"low {ones(1023)} f1022:u1".encode(), f"low f700:u1 {ones(1023)}".encode(),
 ]  # fmt: skip
 
 # What stands for numbers that are cut off, and for a letter.

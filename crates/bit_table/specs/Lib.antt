@@ -24,6 +24,7 @@ pub use Rattle.bit_table_layout.specs.Numerals
 pub use Rattle.bit_table_layout.specs.Readings
 pub use Rattle.bit_table_layout.specs.Rows
 pub use Rattle.bit_table_layout.specs.CauseWords
+pub use Rattle.bit_table_layout.specs.declared.layout.TheConstants as LayoutLimits
 pub use Rattle.bit_table_commands.specs.Tables
 pub use Rattle.bit_table_commands.specs.Causes
 pub use Rattle.bit_table_commands.specs.Edits

@@ -1,5 +1,6 @@
 //! The run of a script.
 ghost use Rattle.std.specs.Prelude.{◌≡◌, ◌*◌, ◌≤◌, ◌-◌, ◌^◌, ◌<◌, ◌↔◌, false, OnOk, IfSome, IsErrOf, IsTrue, length};
+ghost use Rattle.bit_table_layout.specs.declared.layout.TheConstants.{MAX_ROW_BITS};
 ghost use Rattle.bit_table.specs.Ends.{input_reader, input_failed, output_writer, output_failed};
 ghost use Rattle.bit_table.specs.Runs.{RanToEnd, StoppedByRead, StoppedByWrite, StoppedByMemory};
 ghost use Rattle.bit_table.specs.Scripts.{answers};
@@ -28,7 +29,7 @@ pub fn run<A: BitViewSized, O: WordPaths<A::Store> + Digits<A::Store>, R: Read, 
     input: &mut Input<R>,
     output: &mut Output<W>,
 ) -> Result<(), RunError>
-    requires buffer { 256 ≤ A.COUNT * A.Store.BITS }
+    requires buffer { MAX_ROW_BITS ≤ A.COUNT * A.Store.BITS }
     requires readable { input_failed input.old ≡ false }
     requires writable { output_failed output.old ≡ false }
 

@@ -1,5 +1,6 @@
 //! A script's lines, answered one after another.
 ghost use Rattle.std.specs.Prelude.{◌≡◌, ◌*◌, ◌≤◌, IfOk, OnOk, None, Some, IsTrue};
+ghost use Rattle.bit_table_layout.specs.declared.layout.TheConstants.{MAX_ROW_BITS};
 ghost use Rattle.bit_table_layout.specs.LineWords.{words};
 ghost use Rattle.bit_table_commands.specs.Causes.{line_cause};
 ghost use Rattle.bit_table.specs.Scripts.{has_word, answer_by, after_by, state_of};
@@ -21,7 +22,7 @@ pub(crate) struct Session<A: BitViewSized, O: WordPaths<A::Store> + Digits<A::St
     alloc: Global,
     table: Option<Table<A, O>>,
 
-    ghost buffer: { 256 ≤ A.COUNT * A.Store.BITS },
+    ghost buffer: { MAX_ROW_BITS ≤ A.COUNT * A.Store.BITS },
 }
 
 impl<A: BitViewSized, O: WordPaths<A::Store> + Digits<A::Store>> Session<A, O> {
@@ -29,7 +30,7 @@ impl<A: BitViewSized, O: WordPaths<A::Store> + Digits<A::Store>> Session<A, O> {
 
     // The beginning of a script.
     pub(crate) fn new(alloc: Global) -> Session<A, O>
-        requires { 256 ≤ A.COUNT * A.Store.BITS }
+        requires { MAX_ROW_BITS ≤ A.COUNT * A.Store.BITS }
         ensures { session_state result ≡ start }
     {
         Session { alloc, table: None }
@@ -73,7 +74,7 @@ fn answer_layout_line<A: BitViewSized, O: WordPaths<A::Store> + Digits<A::Store>
     alloc: Global,
     line: &[u8],
 ) -> Result<(Option<Table<A, O>>, Vec<u8>), AllocError>
-    requires { 256 ≤ A.COUNT * A.Store.BITS }
+    requires { MAX_ROW_BITS ≤ A.COUNT * A.Store.BITS }
     ensures text { IfOk result (λ begun. begun.1.items ≡ answer_by (line_cause None line.now) None line.now) }
     ensures state { IfOk result (λ begun.
         state_of (shape_in begun.0) ≡ after_by (line_cause None line.now) start line.now) }

@@ -8,7 +8,7 @@ ghost use Rattle.bit_containers_array.specs.Array.{array_bits};
 ghost use Rattle.bit_slice_words.specs.Steps.{groups, Takes};
 ghost use Rattle.bit_slice_views.specs.View.{view_bits};
 ghost use Rattle.bit_table_layout.specs.Images.{image_bytes, HasOnlyNumbers};
-ghost use Rattle.bit_table_layout.specs.declared.layout.TheConstants.{MAX_BITS};
+ghost use Rattle.bit_table_layout.specs.declared.layout.TheConstants.{MAX_BITS, MAX_ROW_BITS};
 ghost use Rattle.bit_table_layout.specs.Layouts.{row_width};
 ghost use Rattle.bit_table_layout.specs.Rows.{new_row, numbers_bits, table_bits, take_all};
 ghost use Rattle.bit_table_commands.specs.Accepted.{IsAccepted};
@@ -59,6 +59,7 @@ impl<A: BitViewSized, O: WordPaths<A::Store> + Digits<A::Store>> Model for Table
     ghost use Rattle.bit_addressing_memory.specs.Memory.{read_by};
     ghost use Rattle.bit_addressing_span.specs.declared.span.TheConstants.{MAX_BITS};
     ghost use Rattle.bit_containers_vector.specs.Vector.{vec_bits, vec_head};
+    ghost use Rattle.bit_table_layout.specs.declared.layout.TheConstants.{MAX_ROW_BITS};
     ghost use Rattle.bit_table_layout.specs.Layouts.{is_layout, row_width};
     ghost use Rattle.bit_table_commands.specs.LetterSets.{letters_code};
     ghost use Rattle.bit_table.specs.View.{table_from, AreStored, StoredRows, TableView};
@@ -83,16 +84,16 @@ impl<A: BitViewSized, O: WordPaths<A::Store> + Digits<A::Store>> Model for Table
           letters = t.letters;
         })
         × IfSome t.kept (AreStored t.layout)
-        × (256 ≤ A.COUNT * A.Store.BITS)
+        × (MAX_ROW_BITS ≤ A.COUNT * A.Store.BITS)
         × (vec_head t.bits ≡ 0) };
 }
 
 impl<A: BitViewSized, O: WordPaths<A::Store> + Digits<A::Store>> Table<A, O> {
     /// A table of a layout, with no rows and nothing kept. It takes no memory until there are rows.
     ///
-    /// A row has at most 256 bits, and so the buffer has to have as many.
+    /// A row has at most `MAX_ROW_BITS` bits, and so the buffer has to have as many.
     pub fn new(alloc: Global, layout: Layout) -> Table<A, O>
-        requires buffer { 256 ≤ A.COUNT * A.Store.BITS }
+        requires buffer { MAX_ROW_BITS ≤ A.COUNT * A.Store.BITS }
         ensures shape { result.shape ≡ new_table layout }
         ensures moved { result.moved ≡ replicate 27 0 }
     {
@@ -184,7 +185,7 @@ impl<A: BitViewSized, O: WordPaths<A::Store> + Digits<A::Store>> Table<A, O> {
     pub fn relay<A2: BitViewSized, O2: WordPaths<A2::Store> + Digits<A2::Store>>(
         &self,
     ) -> Result<Table<A2, O2>, AllocError>
-        requires buffer { 256 ≤ A2.COUNT * A2.Store.BITS }
+        requires buffer { MAX_ROW_BITS ≤ A2.COUNT * A2.Store.BITS }
         ensures shape { IfOk result (λ other. other.shape ≡ self.now.shape) }
         ensures moved { IfOk result (λ other. other.moved ≡ replicate 27 0) }
     {
@@ -522,11 +523,11 @@ fn row_of<A: BitViewSized, O: WordPaths<A::Store> + Digits<A::Store>>(
     layout: &Layout,
     values: &[i128],
 ) -> BitArray<A, O>
-    requires buffer { 256 ≤ A.COUNT * A.Store.BITS }
-    requires narrow { row_width layout.now.fields ≤ 256 }
+    requires buffer { MAX_ROW_BITS ≤ A.COUNT * A.Store.BITS }
+    requires narrow { row_width layout.now.fields ≤ MAX_ROW_BITS }
     requires count { length values.now ≡ length layout.now.fields }
     requires taken { take_all layout.now.fields values.now ≡ true }
-    ensures len { 256 ≤ length (array_bits (read_by A.Store.BitRegister O.position) A.words result) }
+    ensures len { MAX_ROW_BITS ≤ length (array_bits (read_by A.Store.BitRegister O.position) A.words result) }
     ensures bits { take (row_width layout.now.fields)
         (array_bits (read_by A.Store.BitRegister O.position) A.words result)
         ≡ numbers_bits layout.now.rule layout.now.fields values.now }

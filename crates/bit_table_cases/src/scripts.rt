@@ -1,6 +1,7 @@
 //! Whole scripts, run over memory.
 
 ghost use Rattle.std.specs.Prelude.{◌*◌, ◌≤◌};
+ghost use Rattle.bit_table.specs.LayoutLimits.{MAX_ROW_BITS};
 
 use crate::text::{cut, meant, push_answer};
 use bit_addressing_sample_orders::texts::number;
@@ -13,7 +14,7 @@ pub fn run_case<A: BitViewSized, O: WordPaths<A::Store> + Digits<A::Store>>(
     alloc: Global,
     rest: &str,
 ) -> Result<String, AllocError>
-    requires { 256 ≤ A.COUNT * A.Store.BITS }
+    requires { MAX_ROW_BITS ≤ A.COUNT * A.Store.BITS }
 {
     let (piece, script) = cut(rest);
     let script = meant(alloc, script)?;
@@ -30,7 +31,7 @@ fn answered<A: BitViewSized, O: WordPaths<A::Store> + Digits<A::Store>>(
     piece: usize,
     script: &[u8],
 ) -> Result<Vec<u8>, RunError>
-    requires { 256 ≤ A.COUNT * A.Store.BITS }
+    requires { MAX_ROW_BITS ≤ A.COUNT * A.Store.BITS }
 {
     if piece == 0 {
         return answer_to::<A, O>(alloc, script);

@@ -1,6 +1,7 @@
 //! The storage of a script: a word and an order.
 
 ghost use Rattle.std.specs.Prelude.{◌*◌, ◌≤◌};
+ghost use Rattle.bit_table.specs.LayoutLimits.{MAX_ROW_BITS};
 
 use crate::order::ThirdStep;
 use crate::scripts::run_case;
@@ -13,17 +14,17 @@ use std::alloc::{AllocError, Global};
 pub fn in_storage(alloc: Global, kind: &str, rest: &str) -> Result<String, AllocError> {
     let (word, rest) = cut(rest);
     match word {
-        "u8" => in_words::<[u8; 32]>(alloc, kind, rest),
-        "u16" => in_words::<[u16; 16]>(alloc, kind, rest),
-        "u32" => in_words::<[u32; 8]>(alloc, kind, rest),
-        "u64" => in_words::<[u64; 4]>(alloc, kind, rest),
-        "u128" => in_words::<[u128; 2]>(alloc, kind, rest),
+        "u8" => in_words::<[u8; 128]>(alloc, kind, rest),
+        "u16" => in_words::<[u16; 64]>(alloc, kind, rest),
+        "u32" => in_words::<[u32; 32]>(alloc, kind, rest),
+        "u64" => in_words::<[u64; 16]>(alloc, kind, rest),
+        "u128" => in_words::<[u128; 8]>(alloc, kind, rest),
         _ => "no such word".to_string(alloc),
     }
 }
 
 fn in_words<A: BitViewSized>(alloc: Global, kind: &str, rest: &str) -> Result<String, AllocError>
-    requires { 256 ≤ A.COUNT * A.Store.BITS }
+    requires { MAX_ROW_BITS ≤ A.COUNT * A.Store.BITS }
 {
     let (order, rest) = cut(rest);
     match order {
@@ -40,7 +41,7 @@ fn in_order<A: BitViewSized, O: WordPaths<A::Store> + Digits<A::Store>>(
     kind: &str,
     rest: &str,
 ) -> Result<String, AllocError>
-    requires { 256 ≤ A.COUNT * A.Store.BITS }
+    requires { MAX_ROW_BITS ≤ A.COUNT * A.Store.BITS }
 {
     if kind == "run" {
         run_case::<A, O>(alloc, rest)

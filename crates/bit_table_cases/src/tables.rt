@@ -1,6 +1,7 @@
 //! Scripts carried out on a table line by line, with lines of this program's own, which begin with `!`.
 
 ghost use Rattle.std.specs.Prelude.{◌*◌, ◌≤◌};
+ghost use Rattle.bit_table.specs.LayoutLimits.{MAX_ROW_BITS};
 
 use crate::text::{cut, meant, push_answer, push_bits};
 use bit_table::{
@@ -14,7 +15,7 @@ pub fn table_case<A: BitViewSized, O: WordPaths<A::Store> + Digits<A::Store>>(
     alloc: Global,
     script: &str,
 ) -> Result<String, AllocError>
-    requires { 256 ≤ A.COUNT * A.Store.BITS }
+    requires { MAX_ROW_BITS ≤ A.COUNT * A.Store.BITS }
 {
     let mut text = String::new(alloc);
     let mut lines = script.split(';');
@@ -65,7 +66,7 @@ fn own_line<A: BitViewSized, O: WordPaths<A::Store> + Digits<A::Store>>(
     table: &mut Table<A, O>,
     line: &str,
 ) -> Result<(), AllocError>
-    requires { 256 ≤ A.COUNT * A.Store.BITS }
+    requires { MAX_ROW_BITS ≤ A.COUNT * A.Store.BITS }
 {
     text.push(' ')?;
     let (name, rest) = cut(line);
@@ -85,13 +86,13 @@ fn relay<A: BitViewSized, O: WordPaths<A::Store> + Digits<A::Store>>(
     table: &mut Table<A, O>,
     storage: &str,
 ) -> Result<(), AllocError>
-    requires { 256 ≤ A.COUNT * A.Store.BITS }
+    requires { MAX_ROW_BITS ≤ A.COUNT * A.Store.BITS }
 {
     match storage {
-        "u8 msb0" => through::<A, O, [u8; 32], Msb0>(text, table),
-        "u16 hilo" => through::<A, O, [u16; 16], HiLo>(text, table),
-        "u32 lsb0" => through::<A, O, [u32; 8], Lsb0>(text, table),
-        "u64 msb0" => through::<A, O, [u64; 4], Msb0>(text, table),
+        "u8 msb0" => through::<A, O, [u8; 128], Msb0>(text, table),
+        "u16 hilo" => through::<A, O, [u16; 64], HiLo>(text, table),
+        "u32 lsb0" => through::<A, O, [u32; 32], Lsb0>(text, table),
+        "u64 msb0" => through::<A, O, [u64; 16], Msb0>(text, table),
         _ => text.push_str("no such storage"),
     }
 }
@@ -102,8 +103,8 @@ where
     O: WordPaths<A::Store> + Digits<A::Store>,
     A2: BitViewSized,
     O2: WordPaths<A2::Store> + Digits<A2::Store>,
-    requires own { 256 ≤ A.COUNT * A.Store.BITS }
-    requires other { 256 ≤ A2.COUNT * A2.Store.BITS }
+    requires own { MAX_ROW_BITS ≤ A.COUNT * A.Store.BITS }
+    requires other { MAX_ROW_BITS ≤ A2.COUNT * A2.Store.BITS }
 {
     let other = table.relay::<A2, O2>()?;
     push_bits(text, &other.row_bits())?;

@@ -10,8 +10,8 @@ use std::alloc::{AllocError, Global};
 // What help says below the options.
 const AFTER_HELP: &str = "\
 The script comes on standard input, and each of its lines is answered on standard output. First
-comes a layout: `low` or `high`, and fields of 1 to 64 bits without a sign (u) or with one (i), 256
-bits together. Then come commands. Rows are numbered from 0, and bear letters, a to z:
+comes a layout: `low` or `high`, and fields of 1 to 64 bits without a sign (u) or with one (i),
+1,024 bits together. Then come commands. Rows are numbered from 0, and bear letters, a to z:
 
   insert p v..     a new row before row p, one value a field
   delete p q       takes rows p to before q out

@@ -51,6 +51,12 @@ is_field-parts name digits width named digital is =
     let bounds = width-bounds digits digital in
     and_from _ _ named (and_from _ _ (le-leb 1 width (omega arith)) (le-leb width 64 (omega arith)))
 
+-- a field has a bit
+pub width-some : (f : FieldShape) → is_field f ≡ true → 1 ≤ f.width
+width-some f is =
+    let parts = and_parts (is_name f.name) _ is in
+    leb-true 1 f.width (and_parts (leb 1 f.width) _ parts.1).0
+
 -- what is known of the field that a word spells
 pub record IsFieldOf (word : List ℕ) (f : FieldShape) : Type 0 where
   pub lawful : is_field f ≡ true

@@ -1,6 +1,7 @@
 -- Known rows of the definitions, computed: a wrong rule among them does not check.
 use Rattle.std.proofs.Common.{◌≡◌, ℕ, true, false, List, [], ◌∷◌, Some, None, pos, negsuc, codes, refl}
 use Rattle.std.specs.Fmt.{digits}
+use Rattle.std.specs.Option.{option_map}
 use Rattle.hex.proofs.OnLiterals.{hex_on_literals}
 use Rattle.bit_table_layout.specs.declared.cause.Cause.TheVariants.{Form, Layout}
 use Rattle.bit_table_layout.specs.declared.layout.Rule.TheVariants.{Low, High}
@@ -9,7 +10,7 @@ use Rattle.bit_table_layout.specs.Digits.{digit}
 use Rattle.bit_table_layout.specs.LineWords.{words}
 use Rattle.bit_table_layout.specs.Numerals.{number_in, whole_number_in}
 use Rattle.bit_table_layout.specs.Fields.{FieldShape, takes}
-use Rattle.bit_table_layout.specs.Layouts.{LayoutShape, layout_of}
+use Rattle.bit_table_layout.specs.Layouts.{LayoutShape, row_width, layout_of}
 use Rattle.bit_table_layout.specs.Rows.{row_bits, new_row}
 use Rattle.bit_table_layout.specs.Images.{image_bytes, image_line}
 use Rattle.bit_table_layout.specs.Loads.{rows_in_bytes, is_image}
@@ -111,7 +112,7 @@ no_layout-no_bit : layout_of (codes "low a:u0") ≡ None
 unfolding layout_of
 no_layout-no_bit = refl
 
--- a capital, an unknown kind, 17 bytes, a digit first, no name, no width, no colon, 257 bits, two rules, an empty line
+-- a capital, an unknown kind, 17 bytes, a digit first, no name, no width, no colon, 1,025 bits, two rules, an empty line
 no_layout-capital : layout_of (codes "low A:u1") ≡ None
 unfolding layout_of
 no_layout-capital = refl
@@ -148,9 +149,22 @@ no_layout-empty : layout_of (codes "") ≡ None
 unfolding layout_of
 no_layout-empty = refl
 
-no_layout-257_bits : layout_of (codes "low a:u64 b:u64 c:u64 d:u64 e:u1") ≡ None
+no_layout-1025_bits : layout_of
+    (codes "low a:u64 b:u64 c:u64 d:u64 e:u64 f:u64 g:u64 h:u64 i:u64 j:u64 k:u64 l:u64 m:u64 n:u64 o:u64 p:u64 q:u1")
+    ≡ None
 unfolding layout_of
-no_layout-257_bits = refl
+no_layout-1025_bits = refl
+
+-- 257 bits are few enough
+layout-257_bits : option_map (λ l. row_width l.fields) (layout_of (codes "low a:u64 b:u64 c:u64 d:u64 e:u1")) ≡ Some 257
+unfolding layout_of
+layout-257_bits = refl
+
+layout-1024_bits : option_map (λ l. row_width l.fields)
+    (layout_of (codes "low a:u64 b:u64 c:u64 d:u64 e:u64 f:u64 g:u64 h:u64 i:u64 j:u64 k:u64 l:u64 m:u64 n:u64 o:u64 p:u64"))
+    ≡ Some 1024
+unfolding layout_of
+layout-1024_bits = refl
 
 -- digits: -1 has ones throughout, -8 is ..11000, 5 is 101
 digit-minus_1 : digit (negsuc 0) 3 ≡ 1

@@ -1,21 +1,21 @@
 -- The fields that words spell, and the layouts that they make.
-use Rattle.std.proofs.Common.{◌≡◌, ℕ, ◌+◌, ◌<◌, not, ◌&&◌, ◌||◌, leb, Bool, true, false, List, [], ◌∷◌, Option, Some}
-use Rattle.std.proofs.Common.{None, arith, refl, sym, ap, ◌∙◌, subst}
+use Rattle.std.proofs.Common.{◌≡◌, ℕ, ◌+◌, ◌<◌, not, ◌&&◌, leb, Bool, true, false, List, [], ◌∷◌, Option, Some}
+use Rattle.std.proofs.Common.{None, ◌++◌, arith, refl, sym, ap, ◌∙◌, subst}
 use Rattle.std.specs.List.{list_all}
 use Rattle.std.specs.Option.{option_map, option_and_then, option_map_or}
-use Rattle.std.specs.Str.{bytes_eq}
-use Rattle.std.proofs.lemmas.Bool.{and_from, and_right, lt-leb, cond-true, cond-false, false≢true}
+use Rattle.std.proofs.lemmas.Bool.{and_from, and_parts, and_right, lt-leb, cond-true, cond-false, false≢true}
 use Rattle.std.proofs.lemmas.List.Sums.{sum_by-cons}
 use Rattle.bit_table_layout.specs.declared.layout.TheConstants.{MAX_ROW_BITS}
 use Rattle.bit_table_layout.specs.declared.layout.Rule.{Rule}
 use Rattle.bit_table_layout.specs.LineWords.{words}
-use Rattle.bit_table_layout.specs.Fields.{FieldShape, name_part, field_of}
+use Rattle.bit_table_layout.specs.Fields.{FieldShape, field_of}
 use Rattle.bit_table_layout.specs.Layouts.{row_width, has_name, names_differ, make_layout}
 use Rattle.bit_table_layout.specs.Fields.{is_field}
 use Rattle.bit_table_layout.specs.Layouts.{fields_of, rule_of, layout_from, layout_in}
 use Rattle.bit_table_layout.specs.Layouts.{layout_of}
-use Rattle.bit_table_layout.specs.Steps.{names_word, fields_fit, words_fit}
+use Rattle.bit_table_layout.specs.Steps.{name_number, has_number, are_new, fields_fit, words_fit, new_words_fit}
 use Rattle.bit_table_layout.proofs.FieldLemmas.{IsFieldOf-from_Some}
+use Rattle.bit_table_layout.proofs.NameLemmas.{are_new-more}
 
 -- words that spell fields, cut behind the first
 record FirstField (word : List ℕ) (rest : List (List ℕ)) (fields : List FieldShape) : Type 0 where
@@ -46,73 +46,95 @@ all_fields (word ∷ rest) fields some =
     let lawful = (IsFieldOf-from_Some word cut.first cut.first_of).lawful in
     ap (list_all is_field) cut.both ∙ and_from _ _ lawful (all_fields rest cut.others cut.others_of)
 
--- the names of fields are the names of their words
-pub has_name-of_words : (name : List ℕ) (ws : List (List ℕ)) (fields : List FieldShape) → fields_of ws ≡ Some fields
-    → has_name name fields ≡ names_word name ws
-has_name-of_words name [] fields some = let none : [] ≡ fields = cc in ap (has_name name) (sym none)
-has_name-of_words name (word ∷ rest) fields some =
-    let cut = first_field word rest fields some in
-    let named = (IsFieldOf-from_Some word cut.first cut.first_of).named in
-    let more = has_name-of_words name rest cut.others cut.others_of in
-    ap (has_name name) cut.both ∙ ap (λ n. bytes_eq n name || has_name name cut.others) named
-    ∙ ap (λ b. bytes_eq (name_part word) name || b) more
-
-and-regroup : (x y z : Bool) → ((x && y) && z) ≡ (x && (y && z))
-and-regroup true y z = refl
-and-regroup false y z = refl
+fits-regroup : (a b c d e : Bool) → ((a && b) && ((c && d) && e)) ≡ (a && ((b && c) && (d && e)))
+fits-regroup false b c d e = refl
+fits-regroup true false c d e = refl
+fits-regroup true true false d e = refl
+fits-regroup true true true d e = refl
 
 -- words that begin with a field word
-words_fit-Some : (width : ℕ) (word : List ℕ) (rest : List (List ℕ)) (f : FieldShape) → field_of word ≡ Some f
-    → words_fit width (word ∷ rest) ≡ (not (names_word f.name rest) && words_fit (width + f.width) rest)
-words_fit-Some width word rest f some =
+new_words_fit-Some : (numbers : List ℕ) (width : ℕ) (word : List ℕ) (rest : List (List ℕ)) (f : FieldShape)
+    → field_of word ≡ Some f
+    → new_words_fit numbers width (word ∷ rest) ≡ (not (has_number numbers (name_number f.name))
+    && new_words_fit (numbers ++ name_number f.name ∷ []) (width + f.width) rest)
+new_words_fit-Some numbers width word rest f some =
     let behind : FieldShape → Option (List FieldShape) = λ x. option_map (λ fs. x ∷ fs) (fields_of rest) in
-    ap (λ o. option_map_or (fields_fit width) (option_and_then behind o) false) some ∙ go (fields_of rest) refl
+    ap (λ o. option_map_or (λ fs. are_new numbers fs && fields_fit width fs) (option_and_then behind o) false) some
+    ∙ go (fields_of rest) refl
   where
+    now : Bool
+    now = has_number numbers (name_number f.name)
+
+    more : List ℕ
+    more = numbers ++ name_number f.name ∷ []
+
     go : (o : Option (List FieldShape)) → fields_of rest ≡ o
-        → option_map_or (fields_fit width) (option_map (λ fs. f ∷ fs) o) false
-        ≡ (not (names_word f.name rest) && option_map_or (fields_fit (width + f.width)) o false)
+        → option_map_or (λ fs. are_new numbers fs && fields_fit width fs) (option_map (λ fs. f ∷ fs) o) false
+        ≡ (not now && option_map_or (λ fs. are_new more fs && fields_fit (width + f.width) fs) o false)
     go None is = sym (and_right _ _ refl)
     go (Some fs) is =
-        let same = has_name-of_words f.name rest fs is in
+        let lawful = and_parts _ _ (IsFieldOf-from_Some word f some).lawful in
+        let met = are_new-more numbers f.name fs lawful.0 (all_fields rest fs is) in
         let sum = sum_by-cons (λ g. g.width) f fs in
         let sums : width + row_width (f ∷ fs) ≡ width + f.width + row_width fs = omega arith in
-        ap (λ w. (not (has_name f.name fs) && names_differ fs) && (leb 1 w && leb w MAX_ROW_BITS)) sums
-        ∙ and-regroup (not (has_name f.name fs)) (names_differ fs) _
-        ∙ ap (λ b. not b && fields_fit (width + f.width) fs) same
+        ap (λ w. are_new numbers (f ∷ fs) && ((not (has_name f.name fs) && names_differ fs)
+        && (leb 1 w && leb w MAX_ROW_BITS))) sums
+        ∙ fits-regroup (not now) (are_new numbers fs) (not (has_name f.name fs)) (names_differ fs) _
+        ∙ ap (λ b. not now && (b && fields_fit (width + f.width) fs)) (sym met)
+
+-- without numbers each name is new
+pub new_words_fit-none : (width : ℕ) (ws : List (List ℕ)) → new_words_fit [] width ws ≡ words_fit width ws
+new_words_fit-none width ws = go (fields_of ws)
+  where
+    all_new : (fs : List FieldShape) → are_new [] fs ≡ true
+    all_new [] = refl
+    all_new (f ∷ fs) = all_new fs
+
+    go : (o : Option (List FieldShape)) → option_map_or (λ fs. are_new [] fs && fields_fit width fs) o false
+        ≡ option_map_or (fields_fit width) o false
+    go None = refl
+    go (Some fs) = ap (λ b. b && fields_fit width fs) (all_new fs)
 
 -- too many bits already
-words_fit-past : (width : ℕ) (ws : List (List ℕ)) → MAX_ROW_BITS < width → words_fit width ws ≡ false
-words_fit-past width ws past = go (fields_of ws)
+new_words_fit-past : (numbers : List ℕ) (width : ℕ) (ws : List (List ℕ)) → MAX_ROW_BITS < width
+    → new_words_fit numbers width ws ≡ false
+new_words_fit-past numbers width ws past = go (fields_of ws)
   where
-    go : (o : Option (List FieldShape)) → option_map_or (fields_fit width) o false ≡ false
+    go : (o : Option (List FieldShape)) → option_map_or (λ fs. are_new numbers fs && fields_fit width fs) o false ≡ false
     go None = refl
-    go (Some fs) = and_right _ _ (and_right _ _ (lt-leb (width + row_width fs) MAX_ROW_BITS (omega arith)))
+    go (Some fs) =
+        let wide = lt-leb (width + row_width fs) MAX_ROW_BITS (omega arith) in
+        let sizes = and_right (leb 1 (width + row_width fs)) _ wide in
+        and_right (are_new numbers fs) _ (and_right (names_differ fs) _ sizes)
 
--- one word further, where no later word has its name
-pub words_fit-more : (width : ℕ) (left rest : List (List ℕ)) (word name : List ℕ) (f : FieldShape)
-    → left ≡ word ∷ rest
-    → field_of word ≡ Some f → name ≡ f.name → names_word name rest ≡ false
-    → words_fit (width + f.width) rest ≡ words_fit width left
-words_fit-more width left rest word name f is some named none =
-    let new : names_word f.name rest ≡ false = ap (λ n. names_word n rest) (sym named) ∙ none in
-    let met = words_fit-Some width word rest f some in
-    sym (ap (words_fit width) is ∙ met ∙ ap (λ b. not b && words_fit (width + f.width) rest) new)
+-- one word further, where its name is new
+pub new_words_fit-more : (numbers : List ℕ) (width number : ℕ) (left rest : List (List ℕ)) (word : List ℕ)
+    (f : FieldShape) → left ≡ word ∷ rest
+    → field_of word ≡ Some f → number ≡ name_number f.name → has_number numbers number ≡ false
+    → new_words_fit (numbers ++ number ∷ []) (width + f.width) rest ≡ new_words_fit numbers width left
+new_words_fit-more numbers width number left rest word f is some named none =
+    let met = new_words_fit-Some numbers width word rest f some in
+    let same = ap (λ n. not (has_number numbers n) && new_words_fit (numbers ++ n ∷ []) (width + f.width) rest) named in
+    sym (ap (new_words_fit numbers width) is ∙ met ∙ sym same
+    ∙ ap (λ b. not b && new_words_fit (numbers ++ number ∷ []) (width + f.width) rest) none)
 
--- a later word has the name
-pub words_fit-twice : (width : ℕ) (left rest : List (List ℕ)) (word name : List ℕ) (f : FieldShape)
-    → left ≡ word ∷ rest
-    → field_of word ≡ Some f → name ≡ f.name → names_word name rest ≡ true → words_fit width left ≡ false
-words_fit-twice width left rest word name f is some named again =
-    let old : names_word f.name rest ≡ true = ap (λ n. names_word n rest) (sym named) ∙ again in
-    ap (words_fit width) is ∙ words_fit-Some width word rest f some
-    ∙ ap (λ b. not b && words_fit (width + f.width) rest) old
+-- the word has the name of one before it
+pub new_words_fit-twice : (numbers : List ℕ) (width number : ℕ) (left rest : List (List ℕ)) (word : List ℕ)
+    (f : FieldShape) → left ≡ word ∷ rest
+    → field_of word ≡ Some f → number ≡ name_number f.name → has_number numbers number ≡ true
+    → new_words_fit numbers width left ≡ false
+new_words_fit-twice numbers width number left rest word f is some named again =
+    let old : has_number numbers (name_number f.name) ≡ true = ap (has_number numbers) (sym named) ∙ again in
+    ap (new_words_fit numbers width) is ∙ new_words_fit-Some numbers width word rest f some
+    ∙ ap (λ b. not b && new_words_fit (numbers ++ name_number f.name ∷ []) (width + f.width) rest) old
 
 -- the word has too many bits
-pub words_fit-wide : (width : ℕ) (left rest : List (List ℕ)) (word : List ℕ) (f : FieldShape) → left ≡ word ∷ rest
-    → field_of word ≡ Some f → MAX_ROW_BITS < width + f.width → words_fit width left ≡ false
-words_fit-wide width left rest word f is some past =
-    ap (words_fit width) is ∙ words_fit-Some width word rest f some
-    ∙ and_right _ _ (words_fit-past (width + f.width) rest past)
+pub new_words_fit-wide : (numbers : List ℕ) (width : ℕ) (left rest : List (List ℕ)) (word : List ℕ) (f : FieldShape)
+    → left ≡ word ∷ rest → field_of word ≡ Some f → MAX_ROW_BITS < width + f.width
+    → new_words_fit numbers width left ≡ false
+new_words_fit-wide numbers width left rest word f is some past =
+    ap (new_words_fit numbers width) is ∙ new_words_fit-Some numbers width word rest f some
+    ∙ and_right _ _ (new_words_fit-past (numbers ++ name_number f.name ∷ []) (width + f.width) rest past)
 
 -- fields make a layout if each is one and they fit with no bits before them
 make_layout-fits : (fields : List FieldShape) → make_layout fields ≡ (list_all is_field fields && fields_fit 0 fields)

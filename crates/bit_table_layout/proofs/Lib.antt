@@ -2,6 +2,7 @@ mod NumeralLemmas
 mod PlaceLemmas
 mod WordLemmas
 mod FieldLemmas
+mod NameLemmas
 mod LayoutLemmas
 pub mod DigitLemmas
 pub mod ReadingLemmas

@@ -3,6 +3,7 @@ ghost use Rattle.std.specs.Prelude.{◌≡◌, ◌&&◌, IsTrue, IfSome};
 ghost use Rattle.std.specs.List.{list_all};
 ghost use Rattle.bit_table_layout.specs.Fields.{is_field, is_name, is_name_byte, is_width};
 ghost use Rattle.bit_table_layout.specs.Fields.{field_of, name_part, kind_part};
+ghost use Rattle.bit_table_layout.specs.Steps.{name_number};
 
 use super::numerals::{is_number, number_up_to};
 use std::marker::Model;
@@ -80,6 +81,19 @@ pub fn is_name(word: &[u8]) -> bool
     ensures { result ≡ is_name word.now }
 {
     !word.is_empty() && word.len() <= 16 && word[0].is_ascii_lowercase() && are_name_bytes(word)
+}
+
+// A name as a number: its bytes are the digits to the base 256, the first of them the lowest.
+pub(crate) fn name_number(name: &[u8]) -> u128
+    requires { IsTrue (is_name name.now) }
+    ensures { result ≡ name_number name.now }
+{
+    let mut number = 0u128;
+    for place in 0..name.len() {
+        let byte = name[name.len() - 1 - place];
+        number = 256 * number + u128::from(byte);
+    }
+    number
 }
 
 // Whether a name may have each of the bytes behind its first.

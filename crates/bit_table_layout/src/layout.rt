@@ -2,10 +2,10 @@
 ghost use Rattle.std.specs.Prelude.{◌≡◌, ◌↔◌, ◌++◌, IfOk, IsErrOf, IsSome, Some, None};
 ghost use Rattle.bit_table_layout.specs.Layouts.{rule_of, fields_of};
 ghost use Rattle.bit_table_layout.specs.LineWordsLeft.{words_left};
-ghost use Rattle.bit_table_layout.specs.Steps.{names_word, words_fit};
+ghost use Rattle.bit_table_layout.specs.Steps.{words_fit};
 
 use super::field::Field;
-use super::field_word::{FieldWord, parts};
+use super::field_word::{FieldWord, name_number};
 use super::line_words::Words;
 use std::alloc::{AllocError, Global};
 use std::marker::Model;
@@ -17,7 +17,9 @@ pub const MAX_BITS: usize = 2_305_843_009_213_693_951;
 const _: () = prove!(MAX_BITS == usize::MAX >> 3);
 
 /// The greatest number of bits that a row has.
-pub const MAX_ROW_BITS: usize = 256;
+pub const MAX_ROW_BITS: usize = 1_024;
+
+const _: () = prove!(MAX_ROW_BITS == 16 * 64);
 
 /// In which order a field's digits lie.
 #[derive(Clone, Copy, Debug, PartialEq, Eq)]
@@ -128,9 +130,12 @@ fn rule_of(word: &[u8]) -> Option<Rule>
 }
 
 // Whether the words that are left spell the fields of a layout. It stops at the first fault.
+#[inline(never)]
 fn spell_fields(mut words: Words) -> bool
     ensures { result ≡ words_fit 0 (words_left words.entry) }
 {
+    let mut numbers = [0u128; MAX_ROW_BITS];
+    let mut count = 0;
     let mut width = 0;
     while let Some(word) = words.next() {
         let Some(field) = FieldWord::parse(word) else {
@@ -140,18 +145,14 @@ fn spell_fields(mut words: Words) -> bool
         if width > MAX_ROW_BITS {
             return false;
         }
-        if names_word(field.name(), words) {
+        let number = name_number(field.name());
+        if numbers[..count].contains(&number) {
             return false;
         }
+        numbers[count] = number;
+        count += 1;
     }
     width > 0
-}
-
-// Whether one of the words that are left has the name before its first colon.
-fn names_word(name: &[u8], mut words: Words) -> bool
-    ensures { result ≡ names_word name.now (words_left words.entry) }
-{
-    words.any(|word| parts(word).0 == name)
 }
 
 // The fields that the words that are left spell.

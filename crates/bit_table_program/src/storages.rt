@@ -11,7 +11,7 @@ use bit_table_command_line::{Order, Word};
 use std::alloc::Global;
 use std::io::{Read, Write};
 
-// Runs a script over words of this width in this order, with a buffer of 256 bits. No storage changes an answer: what
+// Runs a script over words of this width in this order, with a buffer of 1,024 bits. No storage changes an answer: what
 // was written is said as for `run`, by the text alone.
 pub(crate) fn run_over<R: Read, W: Write>(
     alloc: Global,
@@ -40,20 +40,20 @@ pub(crate) fn run_over<R: Read, W: Write>(
     ensures write_told { IsErrOf result RunError.Write ↔ IsTrue (output_failed output.new) }
 {
     match (word, order) {
-        (Word::U8, Order::Lsb0) => run::<[u8; 32], Lsb0, _, _>(alloc, input, output),
-        (Word::U8, Order::Msb0) => run::<[u8; 32], Msb0, _, _>(alloc, input, output),
-        (Word::U8, Order::HiLo) => run::<[u8; 32], HiLo, _, _>(alloc, input, output),
-        (Word::U16, Order::Lsb0) => run::<[u16; 16], Lsb0, _, _>(alloc, input, output),
-        (Word::U16, Order::Msb0) => run::<[u16; 16], Msb0, _, _>(alloc, input, output),
-        (Word::U16, Order::HiLo) => run::<[u16; 16], HiLo, _, _>(alloc, input, output),
-        (Word::U32, Order::Lsb0) => run::<[u32; 8], Lsb0, _, _>(alloc, input, output),
-        (Word::U32, Order::Msb0) => run::<[u32; 8], Msb0, _, _>(alloc, input, output),
-        (Word::U32, Order::HiLo) => run::<[u32; 8], HiLo, _, _>(alloc, input, output),
-        (Word::U64, Order::Lsb0) => run::<[u64; 4], Lsb0, _, _>(alloc, input, output),
-        (Word::U64, Order::Msb0) => run::<[u64; 4], Msb0, _, _>(alloc, input, output),
-        (Word::U64, Order::HiLo) => run::<[u64; 4], HiLo, _, _>(alloc, input, output),
-        (Word::U128, Order::Lsb0) => run::<[u128; 2], Lsb0, _, _>(alloc, input, output),
-        (Word::U128, Order::Msb0) => run::<[u128; 2], Msb0, _, _>(alloc, input, output),
-        (Word::U128, Order::HiLo) => run::<[u128; 2], HiLo, _, _>(alloc, input, output),
+        (Word::U8, Order::Lsb0) => run::<[u8; 128], Lsb0, _, _>(alloc, input, output),
+        (Word::U8, Order::Msb0) => run::<[u8; 128], Msb0, _, _>(alloc, input, output),
+        (Word::U8, Order::HiLo) => run::<[u8; 128], HiLo, _, _>(alloc, input, output),
+        (Word::U16, Order::Lsb0) => run::<[u16; 64], Lsb0, _, _>(alloc, input, output),
+        (Word::U16, Order::Msb0) => run::<[u16; 64], Msb0, _, _>(alloc, input, output),
+        (Word::U16, Order::HiLo) => run::<[u16; 64], HiLo, _, _>(alloc, input, output),
+        (Word::U32, Order::Lsb0) => run::<[u32; 32], Lsb0, _, _>(alloc, input, output),
+        (Word::U32, Order::Msb0) => run::<[u32; 32], Msb0, _, _>(alloc, input, output),
+        (Word::U32, Order::HiLo) => run::<[u32; 32], HiLo, _, _>(alloc, input, output),
+        (Word::U64, Order::Lsb0) => run::<[u64; 16], Lsb0, _, _>(alloc, input, output),
+        (Word::U64, Order::Msb0) => run::<[u64; 16], Msb0, _, _>(alloc, input, output),
+        (Word::U64, Order::HiLo) => run::<[u64; 16], HiLo, _, _>(alloc, input, output),
+        (Word::U128, Order::Lsb0) => run::<[u128; 8], Lsb0, _, _>(alloc, input, output),
+        (Word::U128, Order::Msb0) => run::<[u128; 8], Msb0, _, _>(alloc, input, output),
+        (Word::U128, Order::HiLo) => run::<[u128; 8], HiLo, _, _>(alloc, input, output),
     }
 }

@@ -1,5 +1,6 @@
 //! A run over memory.
 ghost use Rattle.std.specs.Prelude.{◌≡◌, ◌*◌, ◌≤◌, IfOk};
+ghost use Rattle.bit_table.specs.LayoutLimits.{MAX_ROW_BITS};
 ghost use Rattle.bit_table.specs.Scripts.{script_answer};
 
 use bit_table::*;
@@ -10,7 +11,7 @@ pub fn answer_to<A: BitViewSized, O: WordPaths<A::Store> + Digits<A::Store>>(
     alloc: Global,
     script: &[u8],
 ) -> Result<Vec<u8>, RunError>
-    requires { 256 ≤ A.COUNT * A.Store.BITS }
+    requires { MAX_ROW_BITS ≤ A.COUNT * A.Store.BITS }
     ensures { IfOk result (λ text. text.items ≡ script_answer script.now) }
 {
     let mut input = Input::new(script);

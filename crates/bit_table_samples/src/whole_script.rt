@@ -1,5 +1,6 @@
 //! A run between any reader and any writer.
 ghost use Rattle.std.specs.Prelude.{◌≡◌, ◌*◌, ◌≤◌, IfSome, OnOk, false};
+ghost use Rattle.bit_table.specs.LayoutLimits.{MAX_ROW_BITS};
 ghost use Rattle.std.specs.Io.KnownBytes.{Appends};
 ghost use Rattle.bit_table.specs.Ends.{input_reader, input_failed, output_writer, output_failed};
 ghost use Rattle.bit_table.specs.Scripts.{script_answer};
@@ -14,7 +15,7 @@ pub fn answer_whole<A: BitViewSized, O: WordPaths<A::Store> + Digits<A::Store>, 
     input: &mut Input<R>,
     output: &mut Output<W>,
 ) -> Result<(), RunError>
-    requires buffer { 256 ≤ A.COUNT * A.Store.BITS }
+    requires buffer { MAX_ROW_BITS ≤ A.COUNT * A.Store.BITS }
     requires readable { input_failed input.old ≡ false }
     requires writable { output_failed output.old ≡ false }
     ensures { OnOk result (IfSome (R.remaining (input_reader input.old)) (λ text.

@@ -1,5 +1,6 @@
 //! A script read and answered in pieces, and runs that a fault ends.
 ghost use Rattle.std.specs.Prelude.{◌*◌, ◌≤◌, Some};
+ghost use Rattle.bit_table.specs.LayoutLimits.{MAX_ROW_BITS};
 
 use bit_addressing_memory::{Lsb0, Msb0};
 use bit_slice_views::BitViewSized;
@@ -30,7 +31,7 @@ fn answers_however_it_is_cut(rt: HostRuntime) -> Result<(), Fail> {
                 until_fault: usize::MAX,
             });
             let mut output = Output::new(Vec::new(rt.alloc()));
-            let result = run::<[u64; 4], Lsb0, _, _>(rt.alloc(), &mut input, &mut output);
+            let result = run::<[u64; 16], Lsb0, _, _>(rt.alloc(), &mut input, &mut output);
             let faults = (input.failed(), output.failed());
             assert!(rt; (result, faults) == (Ok(()), (false, false)));
             assert!(rt; input.into_inner().rest.is_empty());
@@ -67,7 +68,7 @@ fn a_read_fault_ends_it(rt: HostRuntime) -> Result<(), Fail> {
                 until_fault: read,
             });
             let mut output = Output::new(Vec::new(rt.alloc()));
-            let result = run::<[u64; 4], Lsb0, _, _>(rt.alloc(), &mut input, &mut output);
+            let result = run::<[u64; 16], Lsb0, _, _>(rt.alloc(), &mut input, &mut output);
             let faults = (input.failed(), output.failed());
             assert!(rt; (result, faults) == (Err(RunError::Read), (true, false)));
             assert!(rt;
@@ -91,7 +92,7 @@ fn a_write_fault_ends_it(rt: HostRuntime) -> Result<(), Fail> {
                     room,
                     stop,
                 });
-                let result = run::<[u64; 4], Lsb0, _, _>(rt.alloc(), &mut input, &mut output);
+                let result = run::<[u64; 16], Lsb0, _, _>(rt.alloc(), &mut input, &mut output);
                 let count = if stop == Stop::Never {
                     ANSWER.len()
                 } else {
@@ -121,7 +122,7 @@ fn a_write_fault_ends_it(rt: HostRuntime) -> Result<(), Fail> {
 fn stops_after_an_answer<A: BitViewSized, O: WordPaths<A::Store> + Digits<A::Store>>(
     alloc: Global,
 ) -> bool
-    requires { 256 ≤ A.COUNT * A.Store.BITS }
+    requires { MAX_ROW_BITS ≤ A.COUNT * A.Store.BITS }
 {
     let mut input = Input::new(SCRIPT.as_slice());
     let mut output = Output::new(Narrow {
@@ -142,9 +143,9 @@ fn stops_after_an_answer<A: BitViewSized, O: WordPaths<A::Store> + Digits<A::Sto
 
 #[test]
 fn a_write_fault_ends_it_over_other_storages(rt: HostRuntime) {
-    assert!(rt; stops_after_an_answer::<[u8; 32], Msb0>(rt.alloc()));
-    assert!(rt; stops_after_an_answer::<[u16; 16], HiLo>(rt.alloc()));
-    assert!(rt; stops_after_an_answer::<[u32; 8], Lsb0>(rt.alloc()));
+    assert!(rt; stops_after_an_answer::<[u8; 128], Msb0>(rt.alloc()));
+    assert!(rt; stops_after_an_answer::<[u16; 64], HiLo>(rt.alloc()));
+    assert!(rt; stops_after_an_answer::<[u32; 32], Lsb0>(rt.alloc()));
 }
 
 // Takes all that it is given, and counts how often it is given something.
@@ -182,7 +183,7 @@ fn many_short_lines_take_few_writes(rt: HostRuntime) -> Result<(), Fail> {
         taken: Vec::new(rt.alloc()),
         calls: 0,
     });
-    run::<[u64; 4], Lsb0, _, _>(rt.alloc(), &mut input, &mut output)?;
+    run::<[u64; 16], Lsb0, _, _>(rt.alloc(), &mut input, &mut output)?;
     let Counting { taken, calls } = output.into_inner();
     assert!(rt; taken.as_slice() == answer.as_slice());
     assert!(rt; calls <= 20, "{calls}");

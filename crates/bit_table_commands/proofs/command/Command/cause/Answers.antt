@@ -1,6 +1,7 @@
 use Rattle.std.proofs.Common.{◌≡◌, ◌≤◌, ◌*◌, ◌^◌, not, true, false, refl, sym, ap, ◌∙◌, arith}
 use Rattle.std.proofs.lemmas.Bool.Decides.{nat_tests}
 use Rattle.std.proofs.Math.Nat.{mul-le-mul, mul-le-mul_right}
+use Rattle.bit_table_layout.specs.declared.layout.TheConstants.{MAX_ROW_BITS}
 use Rattle.bit_table_layout.specs.Layouts.{row_width}
 use Rattle.bit_table_layout.proofs.CallerLemmas.{row_width-bounds}
 use Rattle.bit_table_commands.specs.CauseSteps.{rows_counted, rows_loaded}
@@ -84,10 +85,10 @@ returns c = λ t h.
 
 pub overflow_mul-rows_counted : goal.overflow_mul-rows_counted
 overflow_mul-rows_counted c =
-    let bits : c.row_bits.result ≤ 256 =
+    let bits : c.row_bits.result ≤ MAX_ROW_BITS =
     omega (arith, c.row_bits.ensures.bits, (row_width-bounds c.args.layout.now c.row_bits.ensures.lawful).1) in
     let few = c.rows_counted.ensures.few in
-    let most : c.rows_counted.result * c.row_bits.result ≤ 2 ^ 65 * 256 = mul-le-mul few bits in
+    let most : c.rows_counted.result * c.row_bits.result ≤ 2 ^ 65 * MAX_ROW_BITS = mul-le-mul few bits in
     omega (arith, most)
 
 pub has_wrong_image-requires : goal.has_wrong_image-requires

@@ -125,7 +125,7 @@ def long_rows():
         for _ in range(6):
             own_line(rng, thrower)
         script = b"\n".join(thrower.lines)
-        table(script, table_answer(script, WORDS[word]), [(word, order)])
+        table(script, table_answer(script, word, order), [(word, order)])
 
 
 # ---- tables

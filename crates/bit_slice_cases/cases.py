@@ -646,8 +646,8 @@ def path_steps():
 
 
 def path_at(word, order, place, from_, length, call, rng):
-    """A path of two memories with as few words as hold the stretches; those of `path_equal` differ in the last bit or not."""
-    count = (max(place, from_) + length - 1) // WORDS[word] + 1
+    """A path of two memories; those of `path_equal` differ in the last bit, or not at all."""
+    count = (max(place, from_) + length) // WORDS[word] + 1
     memory, others = (Memory(word, order, filled(WORDS[word], count, rng)) for _ in range(2))
     lines = list(path_calls(memory, place, others, from_, length))[:7]
     name = lines[call % 7][0]

@@ -5,7 +5,7 @@ use Rattle.std.specs.Int.{bit_at}
 use Rattle.bit_addressing_memory.specs.declared.direction.Direction.{Direction}
 use Rattle.bit_addressing_memory.specs.declared.direction.Direction.TheVariants.{Ascending, Descending}
 use Rattle.bit_addressing_memory.proofs.ShiftLemmas.{bit_at_shr, bit_at_cut, bit_at_shl_low, bit_at_shl_high}
-use Rattle.bit_slice_chunks.specs.Chunk.{chunk_bit, IsLowered, IsRaised, IsCut, IsPart, IsPlaced}
+use Rattle.bit_slice_chunks.specs.Chunk.{chunk_bit, IsLowered, IsRaised, IsCut, IsRest, IsPart, IsPlaced}
 
 -- ---- digits as truth values, at a place that is known by an equation
 
@@ -71,6 +71,16 @@ cut_is direction n count above mid r some few is had then = record {
       let back : i + above - above ≡ i = omega arith in
       then.inside i (omega arith) ∙ had.above (i + above) (omega arith) (omega arith) ∙ ap (chunk_bit direction n) back;
   past = λ i high small. then.past i small (omega arith);
+}
+
+-- moved there and away again
+pub rest_is : (direction : Direction) (n from mid r : ℕ) → IsLowered direction n from mid
+    → IsRaised direction mid from r → IsRest direction n from r
+rest_is direction n from mid r had then = record {
+  below = then.below;
+  above = λ i high low.
+      let back : i - from + from ≡ i = omega arith in
+      then.above i high low ∙ had.inside (i - from) (omega arith) ∙ ap (chunk_bit direction n) back;
 }
 
 -- ---- a chunk of a word

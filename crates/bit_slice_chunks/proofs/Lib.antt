@@ -1,4 +1,5 @@
 pub mod ChunkLemmas
+pub mod CombineLemmas
 pub mod KnownRows
 pub mod TransferLemmas
 pub mod WholeLemmas

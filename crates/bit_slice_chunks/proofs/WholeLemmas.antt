@@ -1,6 +1,6 @@
 -- Chunks of 64 bits: of whole words, and of whole words and one more.
 use Rattle.std.proofs.Common.{◌≡◌, ℕ, ◌+◌, ◌-◌, ◌*◌, ◌/◌, ◌%◌, ◌^◌, ◌==◌, ◌<◌, ◌≤◌, Bool, List, length, get_or, set}
-use Rattle.std.proofs.Common.{bit_or, refl, sym, ap, ◌∙◌, inl, inr, arith}
+use Rattle.std.proofs.Common.{bit_or, refl, ap, ◌∙◌, inl, inr, arith}
 use Rattle.std.proofs.Math.Nat.{mul-le-mul_right}
 use Rattle.std.proofs.lemmas.Bool.{cases_lt, cases_eq}
 use Rattle.std.proofs.lemmas.List.{get_or_default}
@@ -12,7 +12,7 @@ use Rattle.bit_addressing_memory.specs.Partial.{IsStored}
 use Rattle.bit_addressing_memory.proofs.PartsLemmas.{stores_part}
 use Rattle.bit_addressing_memory.specs.declared.direction.Direction.{Direction}
 use Rattle.bit_addressing_memory.specs.Straight.{straight, Goes}
-use Rattle.bit_slice_chunks.specs.Chunk.{chunk_bit, IsChunk, ReadTo, IsLowered, IsRaised, IsCut, IsPart}
+use Rattle.bit_slice_chunks.specs.Chunk.{chunk_bit, IsChunk, ReadTo, IsLowered, IsRaised, IsPart}
 use Rattle.bit_slice_chunks.specs.Chunk.{IsPlaced}
 use Rattle.bit_slice_chunks.proofs.TransferLemmas.{or_left, or_right, part_entry, overwrites_join}
 use Rattle.bit_slice_chunks.proofs.TransferLemmas.{first_word, less_words}
@@ -146,51 +146,3 @@ scattered_more b number at direction goes before mid first k j by chunk rest w s
     ∙ ap (chunk_bit direction chunk) there)
     had
     (stores_part reading mid j x w 0 b (reading.digit w) within read (omega arith) (omega arith) some stored)
-
--- whole words with the first bits of the first kept, and the first bits of one word more
-pub written_across : {R : Type 0} (reading : Reading R) (before mid after : List R)
-    (place first by j low own up front rest chunk : ℕ) (direction : Direction)
-    → first * reading.bits + by ≡ place → 0 < by → by < 64 → j * reading.bits ≡ first * reading.bits + 64
-    → IsChunk reading before (first * reading.bits) 64 direction low → IsCut direction low by own
-    → IsRaised direction chunk by up → front ≡ bit_or own up → IsLowered direction chunk (64 - by) rest
-    → Overwrites reading before mid (first * reading.bits) 64 (chunk_bit direction front)
-    → Overwrites reading mid after (j * reading.bits + 0) (by - 0) (chunk_bit direction rest)
-    → Overwrites reading before after place 64 (chunk_bit direction chunk)
-written_across reading before mid after place first by j low own up front rest chunk direction start some index row
-    whole cut put made moved one two = record {
-      there = λ k small. elim (cases_lt (by + k) 64) [
-        | inl inside ↦
-            let here : first * reading.bits + (by + k) ≡ place + k = omega arith in
-            let back : by + k - by ≡ k = omega arith in
-            two.below (place + k) (omega arith)
-            ∙ ap (entry reading mid) (sym here)
-            ∙ one.there (by + k) inside
-            ∙ ap (λ c. chunk_bit direction c (by + k)) made
-            ∙ or_right own up (straight 64 direction (by + k)) (cut.past (by + k) (omega arith) inside)
-            ∙ put.above (by + k) (omega arith) inside
-            ∙ ap (chunk_bit direction chunk) back
-        | inr across ↦
-            let i : ℕ = k - (64 - by) in
-            let here : j * reading.bits + 0 + i ≡ place + k = omega arith in
-            let back : i + (64 - by) ≡ k = omega arith in
-            ap (entry reading after) (sym here)
-            ∙ two.there i (omega arith)
-            ∙ moved.inside i (omega arith)
-            ∙ ap (chunk_bit direction chunk) back
-      ];
-      below = λ p under. two.below p (omega arith) ∙ elim (cases_lt p (first * reading.bits)) [
-        | inl front_of ↦ one.below p front_of
-        | inr kept ↦
-            let i : ℕ = p - first * reading.bits in
-            let here : first * reading.bits + i ≡ p = omega arith in
-            ap (entry reading mid) (sym here)
-            ∙ one.there i (omega arith)
-            ∙ ap (λ c. chunk_bit direction c i) made
-            ∙ or_left own up (straight 64 direction i) (put.below i (omega arith))
-            ∙ cut.inside i (omega arith)
-            ∙ whole.inside i (omega arith)
-            ∙ ap (entry reading before) here
-      ];
-      above = λ p over. two.above p (omega arith) ∙ one.above p (omega arith);
-      words = two.words ∙ one.words;
-    }

@@ -39,6 +39,10 @@ pub record IsCut (direction : Direction) (chunk count result : ℕ) : Type 0 whe
   pub inside : (i : ℕ) → i < count → chunk_bit direction result i ≡ chunk_bit direction chunk i
   pub past : (i : ℕ) → count ≤ i → i < 64 → chunk_bit direction result i ≡ false
 
+pub record IsRest (direction : Direction) (chunk from result : ℕ) : Type 0 where
+  pub below : (i : ℕ) → i < from → chunk_bit direction result i ≡ false
+  pub above : (i : ℕ) → from ≤ i → i < 64 → chunk_bit direction result i ≡ chunk_bit direction chunk i
+
 -- the chunk has the digits of a word n of b bits from an index on
 pub record IsPart (direction : Direction) (b n from chunk : ℕ) : Type 0 where
   pub inside : (i : ℕ) → i < 64 → from + i < b → chunk_bit direction chunk i ≡ word_bit direction b n (from + i)

@@ -1,4 +1,5 @@
 pub mod Chunk
+pub mod Combined
 -- what public clauses cite of the crates below
 pub use Rattle.bit_addressing_memory.specs.BitOrder
 pub use Rattle.bit_addressing_memory.specs.BitRegister

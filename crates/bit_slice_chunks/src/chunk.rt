@@ -2,7 +2,7 @@
 
 ghost use Rattle.std.specs.Prelude.{◌≡◌, ℕ, ◌+◌, ◌-◌, ◌*◌, ◌/◌, ◌%◌, ◌^◌, ◌<◌, ◌≤◌, false};
 ghost use Rattle.bit_addressing_memory.specs.declared.direction.Direction.{Direction};
-ghost use Rattle.bit_slice_chunks.specs.Chunk.{chunk_bit, word_bit, IsLowered, IsRaised, IsPart, IsPlaced, IsCut};
+ghost use Rattle.bit_slice_chunks.specs.Chunk.{chunk_bit, word_bit, IsLowered, IsRaised, IsPart, IsPlaced, IsCut, IsRest};
 
 use bit_addressing_memory::{BitRegister, Direction};
 
@@ -39,6 +39,15 @@ pub fn first_bits(direction: Direction, chunk: u64, count: u8) -> u64
 {
     let above = 64 - count;
     lowered(direction, raised(direction, chunk, above), above)
+}
+
+/// The chunk with each bit before bit `from` made zero.
+#[inline(always)]
+pub fn last_bits(direction: Direction, chunk: u64, from: u8) -> u64
+    requires { from < 64 }
+    ensures { IsRest direction chunk from result }
+{
+    raised(direction, lowered(direction, chunk, from), from)
 }
 
 // The bits of a word from an index on, as many as a chunk has, and zeros behind them.

@@ -1,13 +1,13 @@
-//! 64 bits of a memory read as a chunk, and written: of all words but the last a compiler makes one load, or one
-//! store. A register of more than 64 bits goes by `transfer`.
+//! 64 bits of a memory read as a chunk: of all words but the last a compiler makes one load. A register of more than
+//! 64 bits goes by `transfer`.
 
 ghost use Rattle.std.specs.Prelude.{◌≡◌, ℕ, ◌+◌, ◌-◌, ◌*◌, ◌/◌, ◌^◌, ◌<◌, ◌≤◌, length, slice_set};
 ghost use Rattle.bit_addressing_memory.specs.Memory.{read_by, Overwrites};
 ghost use Rattle.bit_addressing_memory.specs.Straight.{Goes};
 ghost use Rattle.bit_slice_chunks.specs.Chunk.{chunk_bit, IsChunk};
 
-use crate::chunk::{first_bits, lowered, part, placed, raised};
-use crate::transfer::{put, read_bits, write_bits};
+use crate::chunk::{lowered, part, placed, raised};
+use crate::transfer::read_bits;
 use bit_addressing_memory::mem::bits_of;
 use bit_addressing_memory::{BitOrder, BitRegister, Direction};
 
@@ -39,7 +39,11 @@ pub fn read_chunk<R: BitRegister, O: BitOrder<R>>(
 
 // The bits of the words from one on, as many as make a chunk.
 #[inline(always)]
-fn gathered<R: BitRegister, O: BitOrder<R>>(direction: Direction, words: &[R], first: usize) -> u64
+pub(crate) fn gathered<R: BitRegister, O: BitOrder<R>>(
+    direction: Direction,
+    words: &[R],
+    first: usize,
+) -> u64
     requires goes { Goes R.BITS O.position direction }
     requires narrow { R.BITS ≤ 64 }
     requires within { first * R.BITS + 64 ≤ length words.now * R.BITS }
@@ -55,41 +59,9 @@ fn gathered<R: BitRegister, O: BitOrder<R>>(direction: Direction, words: &[R], f
     chunk
 }
 
-/// Makes the 64 bits of a memory from a place on those of a chunk, as `write_bits` does.
-#[inline(always)]
-pub fn write_chunk<R: BitRegister, O: BitOrder<R>>(
-    direction: Direction,
-    words: &mut [R],
-    place: usize,
-    chunk: u64,
-)
-    requires goes { Goes R.BITS O.position direction }
-    requires within { place + 64 ≤ length words.old * R.BITS }
-    requires ends { place + 64 < 2 ^ 64 }
-    ensures { Overwrites (read_by R.BitRegister O.position) words.old words.new place 64
-        (chunk_bit direction chunk) }
-{
-    if R::BITS > 64 {
-        write_bits::<R, O>(direction, words, place, 64, chunk);
-        return;
-    }
-    let bits = bits_of::<R>();
-    let first = place / bits;
-    let by = (place % bits) as u8;
-    if by == 0 {
-        scattered::<R, O>(direction, words, first, chunk);
-        return;
-    }
-    let own = first_bits(direction, gathered::<R, O>(direction, words, first), by);
-    let front = own | raised(direction, chunk, by);
-    scattered::<R, O>(direction, words, first, front);
-    let rest = lowered(direction, chunk, 64 - by);
-    put::<R, O>(direction, words, first + 64 / bits, 0, by, rest);
-}
-
 // Makes the bits of the words from one on, as many as make a chunk, those of a chunk.
 #[inline(always)]
-fn scattered<R: BitRegister, O: BitOrder<R>>(
+pub(crate) fn scattered<R: BitRegister, O: BitOrder<R>>(
     direction: Direction,
     words: &mut [R],
     first: usize,

@@ -1,67 +1,32 @@
 -- Stretches combined, copied and compared chunk by chunk.
-use Rattle.std.proofs.Common.{◌≡◌, ℕ, ◌+◌, ◌-◌, ◌*◌, ◌%◌, ◌==◌, ◌^◌, ◌<◌, ◌≤◌, ◌≢◌, ◌↔◌, IsTrue, Bool, ◌&&◌, ◌||◌, List}
-use Rattle.std.proofs.Common.{bit_and, bit_or, bit_xor, min, max, refl, sym, ap, ap₂, ◌∙◌, inl, inr, arith}
-use mathlib.Core.Bool.{xor}
+use Rattle.std.proofs.Common.{◌≡◌, ℕ, ◌+◌, ◌-◌, ◌*◌, ◌==◌, ◌^◌, ◌<◌, ◌≤◌, ◌≢◌, ◌↔◌, IsTrue, Bool, List}
+use Rattle.std.proofs.Common.{refl, sym, ap, ap₂, ◌∙◌, inl, inr, arith}
 use Rattle.std.specs.Int.{bit_at}
 use Rattle.std.proofs.lemmas.Bool.{cases_lt, cases_eq, eqb-true, eqb-false, eq-eqb, ne_eqb}
-use Rattle.std.proofs.lemmas.Bool.Decides.{nat_tests}
-use Rattle.std.proofs.lemmas.Nat.Bits.{bit_at_and, bit_at_or, bit_at_xor, bit_at-lt, same_from_bits_below}
+use Rattle.std.proofs.lemmas.Nat.Bits.{bit_at-lt, same_from_bits_below}
 use Rattle.bit_addressing_memory.specs.Bits.{digit_at}
 use Rattle.bit_addressing_memory.specs.Memory.{Reading, entry, Overwrites, Copies}
 use Rattle.bit_addressing_memory.proofs.PartsLemmas.{stores_as}
 use Rattle.bit_addressing_memory.specs.declared.direction.Direction.{Direction}
 use Rattle.bit_addressing_memory.specs.declared.direction.Direction.TheVariants.{Ascending, Descending}
-use Rattle.bit_addressing_memory.specs.Straight.{straight}
 use Rattle.bit_slice_chunks.specs.Chunk.{chunk_bit, IsChunk}
+use Rattle.bit_slice_chunks.specs.Combined.{Combines}
 use Rattle.bit_slice_chunks.proofs.TransferLemmas.{overwrites_join, write_none}
-use Rattle.bit_slice_paths.specs.Combined.{Combines}
-
--- ---- digits of two numbers combined
-
-both : (x y r : ℕ) → x < 2 → y < 2 → r ≡ min x y → (r == 1) ≡ ((x == 1) && (y == 1))
-both x y r low_x low_y is = grind (arith, nat_tests)
-
-either : (x y r : ℕ) → x < 2 → y < 2 → r ≡ max x y → (r == 1) ≡ ((x == 1) || (y == 1))
-either x y r low_x low_y is = grind (arith, nat_tests)
-
-one : (x y r : ℕ) → x < 2 → y < 2 → r ≡ (x + y) % 2 → (r == 1) ≡ xor (x == 1) (y == 1)
-unfolding xor
-one x y r low_x low_y is = grind (arith, nat_tests)
-
-pub and_digit : (m n p : ℕ) → digit_at (bit_and m n) p ≡ (digit_at m p && digit_at n p)
-and_digit m n p =
-    both (bit_at m p) (bit_at n p) (bit_at (bit_and m n) p) (bit_at-lt m p) (bit_at-lt n p) (bit_at_and m n p)
-
-pub or_digit : (m n p : ℕ) → digit_at (bit_or m n) p ≡ (digit_at m p || digit_at n p)
-or_digit m n p =
-    either (bit_at m p) (bit_at n p) (bit_at (bit_or m n) p) (bit_at-lt m p) (bit_at-lt n p) (bit_at_or m n p)
-
-pub xor_digit : (m n p : ℕ) → digit_at (bit_xor m n) p ≡ xor (digit_at m p) (digit_at n p)
-xor_digit m n p =
-    one (bit_at m p) (bit_at n p) (bit_at (bit_xor m n) p) (bit_at-lt m p) (bit_at-lt n p) (bit_at_xor m n p)
-
-same_digit : (x y p : ℕ) → digit_at x p ≡ digit_at y p → bit_at x p ≡ bit_at y p
-same_digit x y p same = elim (cases_eq (bit_at x p) 1) [
-  | inl one ↦ one ∙ sym (eqb-true (bit_at y p) 1 (sym same ∙ eq-eqb (bit_at x p) 1 one))
-  | inr other ↦
-      let also : bit_at y p ≢ 1 = eqb-false (bit_at y p) 1 (sym same ∙ ne_eqb (bit_at x p) 1 other) in
-      omega (arith, bit_at-lt x p, bit_at-lt y p)
-]
 
 -- ---- one chunk
 
--- chunks of two memories read, combined and written back
+-- bits combined with a chunk of another memory
 pub combines_chunk : {R Q : Type 0} (reading : Reading R) (its : Reading Q) (before after : List R) (others : List Q)
-    (place n other_place : ℕ) (how : Bool → Bool → Bool) (direction : Direction) (chunk other result : ℕ)
-    → IsChunk reading before place n direction chunk → IsChunk its others other_place n direction other
-    → ((p : ℕ) → digit_at result p ≡ how (digit_at chunk p) (digit_at other p))
-    → Overwrites reading before after place n (chunk_bit direction result)
+    (place n other_place : ℕ) (how : Bool → Bool → Bool) (direction : Direction) (other : ℕ)
+    → IsChunk its others other_place n direction other
+    → Overwrites reading before after place n
+    (λ k. how (entry reading before (place + k)) (chunk_bit direction other k))
     → Combines reading before after place n how its others other_place
-combines_chunk reading its before after others place n other_place how direction chunk other result mine theirs made
-    wrote =
-    stores_as reading before after place n (chunk_bit direction result)
+combines_chunk reading its before after others place n other_place how direction other theirs wrote =
+    stores_as reading before after place n
+    (λ k. how (entry reading before (place + k)) (chunk_bit direction other k))
     (λ k. how (entry reading before (place + k)) (entry its others (other_place + k))) wrote
-    (λ i low. made (straight 64 direction i) ∙ ap₂ how (mine.inside i low) (theirs.inside i low))
+    (λ i low. ap (how (entry reading before (place + i))) (theirs.inside i low))
 
 -- ---- chunk after chunk
 
@@ -143,6 +108,14 @@ copied_before reading before mid after source target k m len order inside had mo
 }
 
 -- ---- equality
+
+same_digit : (x y p : ℕ) → digit_at x p ≡ digit_at y p → bit_at x p ≡ bit_at y p
+same_digit x y p same = elim (cases_eq (bit_at x p) 1) [
+  | inl one ↦ one ∙ sym (eqb-true (bit_at y p) 1 (sym same ∙ eq-eqb (bit_at x p) 1 one))
+  | inr other ↦
+      let also : bit_at y p ≢ 1 = eqb-false (bit_at y p) 1 (sym same ∙ ne_eqb (bit_at x p) 1 other) in
+      omega (arith, bit_at-lt x p, bit_at-lt y p)
+]
 
 -- two numbers with the same 64 bits are equal
 pub same_chunks : (direction : Direction) (x y : ℕ) → x < 2 ^ 64 → y < 2 ^ 64

@@ -1,4 +1,3 @@
-pub mod Combined
 pub mod Steps
 -- what public clauses cite of the crates below
 pub use Rattle.bit_addressing_memory.specs.BitOrder
@@ -6,3 +5,4 @@ pub use Rattle.bit_addressing_memory.specs.BitRegister
 pub use Rattle.bit_addressing_memory.specs.Bits
 pub use Rattle.bit_addressing_memory.specs.Memory
 pub use Rattle.bit_addressing_memory.specs.Straight
+pub use Rattle.bit_slice_chunks.specs.Combined

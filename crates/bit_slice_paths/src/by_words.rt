@@ -6,34 +6,21 @@
 
 ghost use Rattle.std.specs.Prelude.{◌≡◌, ℕ, ◌+◌, ◌-◌, ◌*◌, ◌/◌, ◌^◌, ◌<◌, ◌≤◌, ◌↔◌};
 ghost use Rattle.std.specs.Prelude.{length, IsTrue, true, false};
-ghost use Rattle.bit_addressing_memory.specs.Bits.{digit_at};
 ghost use Rattle.bit_addressing_memory.specs.Memory.{entry, read_by, Copies};
 ghost use Rattle.bit_addressing_memory.specs.Straight.{Goes};
-ghost use Rattle.bit_slice_paths.specs.Combined.{combined_bit, Combines};
+ghost use Rattle.bit_slice_chunks.specs.Combined.{combined_bit, Combines};
 ghost use Rattle.bit_slice_paths.specs.Steps.{groups, Takes};
 
-use crate::combination::Combination;
 use crate::steps::Steps;
 use bit_addressing_memory::{BitOrder, BitRegister, Direction};
-use bit_slice_chunks::{read_bits, read_chunk, write_bits, write_chunk};
+use bit_slice_chunks::{
+    Combination, combine_bits, combine_chunk, read_bits, read_chunk, write_bits, write_chunk,
+};
 use std::mem;
-
-// The digits that two chunks make.
-#[inline(always)]
-fn combined(how: Combination, chunk: u64, other: u64) -> u64
-    ensures { (p : ℕ) → digit_at result p ≡ combined_bit how (digit_at chunk p) (digit_at other p) }
-{
-    match how {
-        Combination::Take => other,
-        Combination::And => chunk & other,
-        Combination::Or => chunk | other,
-        Combination::Xor => chunk ^ other,
-    }
-}
 
 // Combines 64 bits.
 #[inline(always)]
-fn combine_chunk<R: BitRegister, O: BitOrder<R>>(
+fn combine_whole<R: BitRegister, O: BitOrder<R>>(
     direction: Direction,
     how: Combination,
     words: &mut [R],
@@ -50,8 +37,7 @@ fn combine_chunk<R: BitRegister, O: BitOrder<R>>(
         (combined_bit how) (read_by R.BitRegister O.position) others.now other_place }
 {
     let other = read_chunk::<R, O>(direction, others, other_place);
-    let chunk = read_chunk::<R, O>(direction, words, place);
-    write_chunk::<R, O>(direction, words, place, combined(how, chunk, other));
+    combine_chunk::<R, O>(direction, how, words, place, other);
 }
 
 // Combines up to 64 bits.
@@ -76,8 +62,7 @@ fn combine_rest<R: BitRegister, O: BitOrder<R>>(
         (combined_bit how) (read_by R.BitRegister O.position) others.now other_place }
 {
     let other = read_bits::<R, O>(direction, others, other_place, count);
-    let chunk = read_bits::<R, O>(direction, words, place, count);
-    write_bits::<R, O>(direction, words, place, count, combined(how, chunk, other));
+    combine_bits::<R, O>(direction, how, words, place, count, other);
 }
 
 /// Combines each of `len` bits with one of another memory, a step for each 64.
@@ -140,7 +125,7 @@ fn combine_counted<R: BitRegister, O: BitOrder<R>>(
     let rest = len % 64;
     for k in 0..whole {
         let done = 64 * k;
-        combine_chunk::<R, O>(
+        combine_whole::<R, O>(
             direction,
             how,
             words,

@@ -2,8 +2,7 @@
 #![tactic(auto)]
 
 pub mod by_words;
-mod combination;
 mod steps;
 
-pub use combination::Combination;
+pub use bit_slice_chunks::Combination;
 pub use steps::Steps;

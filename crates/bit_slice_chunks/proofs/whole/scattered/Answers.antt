@@ -30,7 +30,8 @@ loop-k-preserved g c =
     let fits = word_begins b bits k size c.requires.narrow c.bits_of-bits.ensures low in
     rw c.replace.ensures (scattered_more b g.R.BitRegister.number g.O.Positions.position c.args.direction
     c.requires.goes c.args.words.now c.loop-k.words first k (first + k) (k * bits) c.args.chunk
-    c.lowered-rest.result c.placed-word.result some refl row (omega arith) within c.lowered-rest.ensures c.placed-word.ensures c.loop-k.invariant)
+    c.lowered-rest.result c.placed-word.result some refl row (omega arith) within c.lowered-rest.ensures
+    c.placed-word.ensures c.loop-k.invariant)
 
 pub returns : goal.returns
 returns g c =

@@ -1,6 +1,6 @@
 use Rattle.std.proofs.Common.{◌≡◌, ◌+◌, ◌*◌, ◌/◌, ◌%◌, arith}
 use Rattle.bit_addressing_memory.specs.Memory.{read_by}
-use Rattle.bit_slice_paths.specs.Combined.{combined_bit}
+use Rattle.bit_slice_chunks.specs.Combined.{combined_bit}
 use Rattle.bit_slice_paths.proofs.WalkLemmas.{combines_more}
 use Rattle.bit_slice_paths.proofs.StepLemmas.{takes_more}
 use Rattle.bit_slice_paths.proofs.by_words.combine_counted.Goals as goal
@@ -11,9 +11,9 @@ loop-k-preserved g c =
     let k = c.loop-k.k in
     record {
       combined =
-          combines_more reading reading c.args.words.now c.loop-k.words c.combine_chunk.new.words c.args.others.now
+          combines_more reading reading c.args.words.now c.loop-k.words c.combine_whole.new.words c.args.others.now
           c.args.place c.args.other_place (64 * k) 64 (64 * (k + 1)) (combined_bit c.args.how) (omega arith)
-          c.loop-k.invariant.combined c.combine_chunk.ensures;
+          c.loop-k.invariant.combined c.combine_whole.ensures;
       steps = takes_more _ _ _ k c.step.ensures c.loop-k.invariant.steps;
     }
 

@@ -1,6 +1,6 @@
 use Rattle.std.proofs.Common.{◌*◌}
 use Rattle.bit_addressing_memory.specs.Memory.{read_by}
-use Rattle.bit_slice_paths.specs.Combined.{combined_bit, Combines}
+use Rattle.bit_slice_chunks.specs.Combined.{combined_bit, Combines}
 use Rattle.bit_slice_paths.specs.Steps.{Takes}
 use Rattle.bit_slice_paths.proofs.by_words.combine_counted.Given as goal
 

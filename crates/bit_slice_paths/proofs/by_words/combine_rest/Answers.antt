@@ -1,11 +1,11 @@
 use Rattle.bit_addressing_memory.specs.Memory.{read_by}
-use Rattle.bit_slice_paths.specs.Combined.{combined_bit}
+use Rattle.bit_slice_chunks.specs.Combined.{combined_bit}
 use Rattle.bit_slice_paths.proofs.WalkLemmas.{combines_chunk}
 use Rattle.bit_slice_paths.proofs.by_words.combine_rest.Goals as goal
 
 pub returns : goal.returns
 returns g c =
     let reading = read_by g.R.BitRegister g.O.Positions.position in
-    combines_chunk reading reading c.args.words.now c.write_bits.new.words c.args.others.now c.args.place c.args.count
-    c.args.other_place (combined_bit c.args.how) c.args.direction c.read_bits-chunk.result c.read_bits-other.result
-    c.combined.result c.read_bits-chunk.ensures c.read_bits-other.ensures c.combined.ensures c.write_bits.ensures
+    combines_chunk reading reading c.args.words.now c.combine_bits.new.words c.args.others.now c.args.place c.args.count
+    c.args.other_place (combined_bit c.args.how) c.args.direction c.read_bits-other.result c.read_bits-other.ensures
+    c.combine_bits.ensures

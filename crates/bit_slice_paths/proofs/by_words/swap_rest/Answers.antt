@@ -7,8 +7,9 @@ returns g c =
     let reading = read_by g.R.BitRegister g.O.Positions.position in
     record {
       to_words =
-          copies_chunk reading reading c.args.words.now c.write_bits.new.words c.args.others.now c.args.place c.args.count
-          c.args.other_place c.args.direction c.read_bits-other.result c.read_bits-other.ensures c.write_bits.ensures;
+          copies_chunk reading reading c.args.words.now c.write_bits.new.words c.args.others.now c.args.place
+          c.args.count c.args.other_place c.args.direction c.read_bits-other.result c.read_bits-other.ensures
+          c.write_bits.ensures;
       to_others =
           copies_chunk reading reading c.args.others.now c.write_bits-2.new.words c.args.words.now c.args.other_place
           c.args.count c.args.place c.args.direction c.read_bits-chunk.result c.read_bits-chunk.ensures

@@ -2,8 +2,8 @@
 use Rattle.std.specs.Prelude.{ℕ, ◌+◌, Bool, ◌&&◌, ◌||◌, List}
 use Rattle.std.specs.Bool.{xor}
 use Rattle.bit_addressing_memory.specs.Memory.{Reading, entry, Overwrites}
-use Rattle.bit_slice_paths.specs.declared.combination.Combination.{Combination}
-use Rattle.bit_slice_paths.specs.declared.combination.Combination.TheVariants.{Take, And, Or, Xor}
+use Rattle.bit_slice_chunks.specs.declared.combination.Combination.{Combination}
+use Rattle.bit_slice_chunks.specs.declared.combination.Combination.TheVariants.{Take, And, Or, Xor}
 
 -- the bit that two make
 abbrev pub combined_bit : Combination → Bool → Bool → Bool

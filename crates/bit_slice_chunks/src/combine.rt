@@ -1,0 +1,102 @@
+//! Bits of a memory combined with those of a chunk, in the memory's own words: what two chunks make of a word that they
+//! share is two masked writes, and neither waits for the other.
+
+ghost use Rattle.std.specs.Prelude.{◌≡◌, ℕ, ◌+◌, ◌-◌, ◌*◌, ◌^◌, ◌<◌, ◌≤◌, length};
+ghost use Rattle.std.specs.Prelude.{slice_index_or};
+ghost use Rattle.bit_addressing_memory.specs.Memory.{entry, read_by, Overwrites};
+ghost use Rattle.bit_addressing_memory.specs.Straight.{Goes};
+ghost use Rattle.bit_slice_chunks.specs.Chunk.{chunk_bit};
+ghost use Rattle.bit_slice_chunks.specs.Combined.{combined_bit};
+
+use crate::chunk::{first_bits, last_bits, lowered, part, raised};
+use crate::combination::{Combination, combined};
+use crate::transfer::{put, read_bits, write_bits};
+use crate::whole::{gathered, scattered};
+use bit_addressing_memory::mem::bits_of;
+use bit_addressing_memory::{BitOrder, BitRegister, Direction};
+
+/// Makes each of the `count` bits of a memory from a place on, 1 to 64, what `how` makes of it and of a chunk's: entry
+/// `place + k` by bit k. Every other bit of the memory stays. The positions go in `direction`.
+pub fn combine_bits<R: BitRegister, O: BitOrder<R>>(
+    direction: Direction,
+    how: Combination,
+    words: &mut [R],
+    place: usize,
+    count: usize,
+    other: u64,
+)
+    requires goes { Goes R.BITS O.position direction }
+    requires some { 0 < count }
+    requires few { count ≤ 64 }
+    requires within { place + count ≤ length words.old * R.BITS }
+    requires ends { place + count < 2 ^ 64 }
+    ensures { Overwrites (read_by R.BitRegister O.position) words.old words.new place count
+        (λ k. combined_bit how (entry (read_by R.BitRegister O.position) words.old (place + k))
+        (chunk_bit direction other k)) }
+{
+    let chunk = read_bits::<R, O>(direction, words, place, count);
+    write_bits::<R, O>(direction, words, place, count, combined(how, chunk, other));
+}
+
+/// Makes each of the 64 bits of a memory from a place on what `how` makes of it and of a chunk's, as `combine_bits`.
+#[inline(always)]
+pub fn combine_chunk<R: BitRegister, O: BitOrder<R>>(
+    direction: Direction,
+    how: Combination,
+    words: &mut [R],
+    place: usize,
+    other: u64,
+)
+    requires goes { Goes R.BITS O.position direction }
+    requires within { place + 64 ≤ length words.old * R.BITS }
+    requires ends { place + 64 < 2 ^ 64 }
+    ensures { Overwrites (read_by R.BitRegister O.position) words.old words.new place 64
+        (λ k. combined_bit how (entry (read_by R.BitRegister O.position) words.old (place + k))
+        (chunk_bit direction other k)) }
+{
+    if R::BITS > 64 {
+        combine_bits::<R, O>(direction, how, words, place, 64, other);
+        return;
+    }
+    let bits = bits_of::<R>();
+    let first = place / bits;
+    let by = (place % bits) as u8;
+    let low = gathered::<R, O>(direction, words, first);
+    if by == 0 {
+        scattered::<R, O>(direction, words, first, combined(how, low, other));
+        return;
+    }
+    let behind = first + 64 / bits;
+    let last = part::<R>(direction, word_at(words, behind), 0);
+    let front = combined(how, low, raised(direction, other, by));
+    let back = combined(how, last, lowered(direction, other, 64 - by));
+    let kept = first_bits(direction, low, by) | last_bits(direction, front, by);
+    scattered::<R, O>(direction, words, first, kept);
+    put::<R, O>(direction, words, behind, 0, by, back);
+}
+
+// A word of a memory.
+#[inline(always)]
+fn word_at<R: BitRegister>(words: &[R], at: usize) -> R
+    requires { at < length words.now }
+    ensures { result ≡ slice_index_or words.now at result }
+{
+    words[at]
+}
+
+/// Makes the 64 bits of a memory from a place on those of a chunk, as `write_bits` does.
+#[inline(always)]
+pub fn write_chunk<R: BitRegister, O: BitOrder<R>>(
+    direction: Direction,
+    words: &mut [R],
+    place: usize,
+    chunk: u64,
+)
+    requires goes { Goes R.BITS O.position direction }
+    requires within { place + 64 ≤ length words.old * R.BITS }
+    requires ends { place + 64 < 2 ^ 64 }
+    ensures { Overwrites (read_by R.BitRegister O.position) words.old words.new place 64
+        (chunk_bit direction chunk) }
+{
+    combine_chunk::<R, O>(direction, Combination::Take, words, place, chunk);
+}

@@ -1,7 +1,7 @@
 //! The parts of a window between the places where a predicate answers true, one after another, from both ends.
 
 ghost use Rattle.std.specs.Prelude.{◌≡◌, ◌+◌, ◌-◌, ◌<◌, ◌≤◌, true, false, length, if◌then◌else◌, IfSome, Some};
-ghost use Rattle.std.specs.Iterator.{at_most, UpTo};
+ghost use Rattle.std.specs.Iterator.{at_most, MakesProgress, UpTo};
 ghost use Rattle.std.specs.Iterator.SizeHint.{IsWithinCount};
 ghost use Rattle.bit_addressing_memory.specs.Memory.{piece, read_by};
 ghost use Rattle.bit_slice_views.specs.View.{view_bits, view_head};
@@ -92,7 +92,8 @@ impl<
         requires { F.IsAlwaysCallable self.old.callee }
         ensures steps { GivesPart (view_bits (read_by T.BitRegister O.position)) view_head
             (PartsFrom T.BITS E.way F.FnMut) self.old result self.new }
-        ensures goes { F.IsAlwaysCallable self.new.callee }
+        ensures goes { MakesProgress (λ splits. F.IsAlwaysCallable splits.callee)
+            (λ s. at_most (if s.done then 0 else length s.bits + 1)) self.old result self.new }
     {
         if self.done {
             return None;

@@ -9,7 +9,7 @@ use crate::owned::{BitsOwned, apply};
 use bit_addressing_memory::{BitOrder, BitRegister, mem};
 use bit_addressing_span::MAX_BITS;
 use bit_slice_views::{BitSlice, BitViewSized, Bits};
-use bit_slice_views_mut::BitsMut;
+use bit_slice_views_mut::{BitsMut, MayWriteBeside};
 use std::marker::PhantomData;
 use std::ops::Index;
 
@@ -110,7 +110,7 @@ impl<A: BitViewSized, O: BitOrder<A::Store>> BitsMut for BitArray<A, O> {
         0
     }
 
-    fn with_words<W, F: FnOnce(&mut [A::Store]) -> W>(&mut self, f: F) -> W {
+    fn with_words<W, F: FnOnce(&mut [A::Store]) -> W>(&mut self, _key: MayWriteBeside, f: F) -> W {
         apply::<A::Store, W, F>(self.words.as_raw_mut_slice(), f)
     }
 

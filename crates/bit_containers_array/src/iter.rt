@@ -1,11 +1,11 @@
 //! The bits of an array, one after another, from both ends.
 
-ghost use Rattle.std.specs.Prelude.{◌≡◌, ⊤, length, IfSome, Some};
+ghost use Rattle.std.specs.Prelude.{◌≡◌, ◌+◌, ◌%◌, ⊤, length, min, IfSome, Some};
 ghost use Rattle.std.specs.Borrow.{Array, follows, sem};
 ghost use Rattle.std.specs.Iterator.{YieldsFirst, YieldsLast, item_count, UpTo};
 ghost use Rattle.std.specs.Iterator.SizeHint.{IsWithinCount};
 ghost use Rattle.bit_addressing_memory.specs.Memory.{piece, read_by};
-ghost use Rattle.bit_slice_views.specs.View.{view_bits};
+ghost use Rattle.bit_slice_views.specs.View.{view_bits, view_head};
 ghost use Rattle.bit_slice_views_mut.specs.ViewMut.{lent_bits, lent_lender, lent_place, lent_words};
 
 use crate::array::BitArray;
@@ -48,8 +48,10 @@ impl<A: BitViewSized, O: BitOrder<A::Store>> IntoIter<A, O> {
 
     /// The bits that are left, to read.
     pub fn as_bitslice(&self) -> BitSlice<'_, A::Store, O>
-        ensures { view_bits (read_by A.Store.BitRegister O.position) result
+        ensures bits { view_bits (read_by A.Store.BitRegister O.position) result
             ≡ left_bits (read_by A.Store.BitRegister O.position) A.words self.now }
+        ensures head { view_head result
+            ≡ left_place (read_by A.Store.BitRegister O.position) A.words self.now % A.Store.BITS }
     {
         rest_of(self.array.as_bitslice(), self.from, self.count)
     }
@@ -74,8 +76,10 @@ impl<A: BitViewSized, O: BitOrder<A::Store>> IntoIter<A, O> {
 
     /// Another name of `as_bitslice`.
     pub fn as_slice(&self) -> BitSlice<'_, A::Store, O>
-        ensures { view_bits (read_by A.Store.BitRegister O.position) result
+        ensures bits { view_bits (read_by A.Store.BitRegister O.position) result
             ≡ left_bits (read_by A.Store.BitRegister O.position) A.words self.now }
+        ensures head { view_head result
+            ≡ left_place (read_by A.Store.BitRegister O.position) A.words self.now % A.Store.BITS }
     {
         self.as_bitslice()
     }
@@ -100,8 +104,10 @@ fn rest_of<T: BitRegister, O: BitOrder<T>>(
     from: usize,
     count: usize,
 ) -> BitSlice<'_, T, O>
-    ensures { view_bits (read_by T.BitRegister O.position) result
+    ensures bits { view_bits (read_by T.BitRegister O.position) result
         ≡ piece (view_bits (read_by T.BitRegister O.position) view.entry) from count }
+    ensures head { view_head result ≡ (view_head view.entry
+        + min from (length (view_bits (read_by T.BitRegister O.position) view.entry))) % T.BITS }
 {
     let start = from.min(view.len());
     let len = count.min(view.len() - start);

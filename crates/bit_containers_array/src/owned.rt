@@ -4,7 +4,7 @@ ghost use Rattle.std.specs.Prelude.{◌≡◌, ℕ, List, length};
 ghost use Rattle.std.specs.Borrow.{Array, Lends, follows, sem};
 ghost use Rattle.std.specs.Fn.{FnOnceReturnsAtMut};
 ghost use Rattle.bit_addressing_memory.specs.Memory.{read_by};
-ghost use Rattle.bit_slice_views.specs.View.{view_bits};
+ghost use Rattle.bit_slice_views.specs.View.{view_bits, view_head};
 ghost use Rattle.bit_slice_views_mut.specs.ViewMut.{lent_bits, lent_lender, lent_place, lent_words};
 
 use bit_addressing_memory::BitRegister;
@@ -63,7 +63,8 @@ pub trait BitsOwned: BitsMut {
 
     /// Another name of `as_bitslice`.
     final fn as_slice(&self) -> BitSlice<'_, Self::Store, Self::Order>
-        ensures { view_bits (read_by Self.Store.BitRegister Self.Order.position) result ≡ Self.bits self.now }
+        ensures bits { view_bits (read_by Self.Store.BitRegister Self.Order.position) result ≡ Self.bits self.now }
+        ensures head { view_head result ≡ Self.start self.now }
     {
         self.as_bitslice()
     }

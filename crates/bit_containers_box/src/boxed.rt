@@ -7,7 +7,7 @@ ghost use Rattle.bit_addressing_span.specs.declared.span.TheConstants.{MAX_BITS}
 
 use bit_addressing_memory::{BitOrder, BitRegister};
 use bit_slice_views::{BitSlice, BitStore, Bits};
-use bit_slice_views_mut::BitsMut;
+use bit_slice_views_mut::{BitsMut, MayWriteBeside};
 use std::marker::PhantomData;
 
 /// Bits in words of their own: a list that does not grow.
@@ -64,7 +64,7 @@ impl<T: BitStore, O: BitOrder<T>> BitsMut for BitBox<T, O> {
         self.head
     }
 
-    fn with_words<A, F: FnOnce(&mut [T]) -> A>(&mut self, f: F) -> A {
+    fn with_words<A, F: FnOnce(&mut [T]) -> A>(&mut self, _key: MayWriteBeside, f: F) -> A {
         apply::<T, A, F>(self.words.as_mut_slice(), f)
     }
 

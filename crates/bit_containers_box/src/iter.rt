@@ -1,13 +1,13 @@
 //! The bits of a box, one after another, from both ends.
 
-ghost use Rattle.std.specs.Prelude.{◌≡◌, ◌+◌, ◌*◌, ◌^◌, ◌<◌, ◌≤◌, length, IfOk, IfSome, Some};
+ghost use Rattle.std.specs.Prelude.{◌≡◌, ◌+◌, ◌*◌, ◌%◌, ◌^◌, ◌<◌, ◌≤◌, length, IfOk, IfSome, Some};
 ghost use Rattle.std.specs.Borrow.{Array, follows, sem};
 ghost use Rattle.std.specs.Iterator.{YieldsFirst, YieldsLast, item_count, UpTo};
 ghost use Rattle.std.specs.Iterator.SizeHint.{IsWithinCount};
 ghost use Rattle.bit_addressing_memory.specs.Memory.{read_by};
 ghost use Rattle.bit_addressing_span.specs.declared.span.TheConstants.{MAX_BITS};
 ghost use Rattle.bit_containers_box.specs.Box.{box_bits, box_words};
-ghost use Rattle.bit_slice_views.specs.View.{view_bits};
+ghost use Rattle.bit_slice_views.specs.View.{view_bits, view_head};
 ghost use Rattle.bit_slice_views_mut.specs.ViewMut.{lent_bits, lent_lender, lent_place, lent_words};
 
 use crate::boxed::BitBox;
@@ -40,8 +40,9 @@ impl<T: BitStore, O: BitOrder<T>> IntoIter<T, O> {
 
     /// The bits that are left, to read.
     pub fn as_bitslice(&self) -> BitSlice<'_, T, O>
-        ensures { view_bits (read_by T.BitRegister O.position) result
+        ensures bits { view_bits (read_by T.BitRegister O.position) result
             ≡ left_bits (read_by T.BitRegister O.position) self.now }
+        ensures head { view_head result ≡ left_place self.now % T.BITS }
     {
         BitSlice::<T, O>::from_place(self.words.as_slice(), self.place, self.len)
     }
@@ -65,8 +66,9 @@ impl<T: BitStore, O: BitOrder<T>> IntoIter<T, O> {
 
     /// Another name of `as_bitslice`.
     pub fn as_slice(&self) -> BitSlice<'_, T, O>
-        ensures { view_bits (read_by T.BitRegister O.position) result
+        ensures bits { view_bits (read_by T.BitRegister O.position) result
             ≡ left_bits (read_by T.BitRegister O.position) self.now }
+        ensures head { view_head result ≡ left_place self.now % T.BITS }
     {
         self.as_bitslice()
     }

@@ -5,7 +5,7 @@ ghost use Rattle.std.specs.Borrow.{Array, follows, sem};
 ghost use Rattle.bit_addressing_memory.specs.Memory.{read_by};
 ghost use Rattle.bit_containers_box.specs.Box.{box_bits, box_head, box_visible};
 ghost use Rattle.bit_containers_box.specs.Lending.{with_words};
-ghost use Rattle.bit_slice_views.specs.View.{view_bits};
+ghost use Rattle.bit_slice_views.specs.View.{view_bits, view_head};
 ghost use Rattle.bit_slice_views_mut.specs.ViewMut.{lent_bits, lent_lender, lent_place, lent_words};
 
 use crate::boxed::BitBox;
@@ -54,8 +54,9 @@ impl<T: BitStore, O: BitOrder<T>> BitBox<T, O> {
 
     /// Another name of `as_bitslice`.
     pub fn as_slice(&self) -> BitSlice<'_, T, O>
-        ensures { view_bits (read_by T.BitRegister O.position) result
+        ensures bits { view_bits (read_by T.BitRegister O.position) result
             ≡ box_bits (read_by T.BitRegister O.position) self.now }
+        ensures head { view_head result ≡ box_head self.now }
     {
         self.as_bitslice()
     }

@@ -9,6 +9,7 @@ use bit_containers::array::IntoIter;
 use bit_containers::{
     BitArray, BitArrayZero, BitOrder, BitSlice, BitViewSized, Bits, BitsMut, BitsOwned, Msb0,
 };
+use bit_slice_views_mut::MayWriteBeside;
 use std::alloc::{AllocError, Global};
 use std::str::SplitWhitespace;
 
@@ -76,7 +77,10 @@ fn change<A: BitViewSized, O: BitOrder<A::Store>>(
         "default" => *array = BitArray::<A, O>::default(),
         "inner" => *array = BitArray::<A, O>::from(array.into_inner()),
         "put" => put_word::<A::Store>(array.as_raw_mut_slice(), number(call.first), word),
-        "with" => array.with_words(|words| put_word::<A::Store>(words, number(call.first), word)),
+        "with" => array.with_words(
+            MayWriteBeside,
+            |words| put_word::<A::Store>(words, number(call.first), word),
+        ),
         "at" => {
             let at = number(call.first);
             if at >= array.len() {

@@ -9,6 +9,7 @@ use crate::writes::{on_lent, put_word, write};
 use bit_addressing_sample_orders::texts::{number, read_words};
 use bit_containers::boxed::IntoIter;
 use bit_containers::{BitBox, BitOrder, BitSlice, BitStore, BitVec, Bits, BitsMut, Msb0};
+use bit_slice_views_mut::MayWriteBeside;
 use std::alloc::{AllocError, Global};
 use std::boxed::BoxedSlice;
 use std::str::SplitWhitespace;
@@ -87,7 +88,7 @@ fn fit<T: BitStore, O: BitOrder<T>>(
         "dead" => boxed.fill_uninitialized(a == 1),
         "align" => boxed.force_align(),
         "put" => put_word::<T>(boxed.as_raw_mut_slice(), a, word),
-        "with" => boxed.with_words(|words| put_word::<T>(words, a, word)),
+        "with" => boxed.with_words(MayWriteBeside, |words| put_word::<T>(words, a, word)),
         "at" if a < boxed.len() => push_bit(text, Some(boxed[a]))?,
         "raw" => push_words(text, boxed.as_raw_slice())?,
         "text" => push_texts(alloc, text, &*boxed)?,

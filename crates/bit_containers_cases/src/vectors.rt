@@ -10,6 +10,7 @@ use crate::taken::take;
 use crate::writes::{on_lent, put_swept, put_word, write};
 use bit_addressing_sample_orders::texts::number;
 use bit_containers::{BitOrder, BitSlice, BitStore, BitVec, Bits, BitsMut, Msb0, way_for};
+use bit_slice_views_mut::MayWriteBeside;
 use std::alloc::{AllocError, Global};
 use std::str::SplitWhitespace;
 
@@ -133,7 +134,7 @@ fn fit<T: BitStore, O: BitOrder<T>>(
         "set_len" if a <= 2000 && vector.first_place() + a <= most => vector.set_len(a),
         "elements" => vector.set_elements(read_word::<T>(call.first)),
         "put" => put_word::<T>(vector.as_raw_mut_slice(), a, word),
-        "with" => vector.with_words(|words| put_word::<T>(words, a, word)),
+        "with" => vector.with_words(MayWriteBeside, |words| put_word::<T>(words, a, word)),
         "swept" if a < vector.as_raw_slice().len() => {
             vector.sweep(way_for(a, a), |sweep| put_swept::<T>(sweep, a, word))
         }

@@ -11,7 +11,7 @@ ghost use Rattle.bit_containers_vector.specs.Vector.{visible};
 use bit_addressing_memory::{BitOrder, BitRegister, Lsb0, Msb0, Sweep, Way, move_in, way_for};
 use bit_containers_vector::BitVec;
 use bit_slice_views::{BitSlice, BitStore, Bits};
-use bit_slice_views_mut::BitsMut;
+use bit_slice_views_mut::{BitsMut, MayWriteBeside};
 use std::alloc::AllocError;
 use std::process::Abort;
 
@@ -129,7 +129,7 @@ fn words_are_lent_and_swept(rt: HostRuntime) -> Result<(), AllocError> {
     assert!(rt; moves(&mut bits, 0, 16, 8));
     assert!(rt; bits.as_raw_slice() == [0x12u8, 0x04, 0x12].as_slice() && bits.len() == 20);
     assert!(rt; !moves(&mut bits, 0, 17, 8));
-    bits.with_words(|words| write_word(words, 2, 0xa5));
+    bits.with_words(MayWriteBeside, |words| write_word(words, 2, 0xa5));
     assert!(rt;
         bits.as_raw_slice() == [0x12u8, 0x04, 0xa5].as_slice() && bits.last_one() == Some(18)
     );

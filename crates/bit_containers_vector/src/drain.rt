@@ -1,6 +1,6 @@
 //! Bits that were taken out of the middle of a vector.
 
-ghost use Rattle.std.specs.Prelude.{◌≡◌, ◌-◌, ◌<◌, ◌≤◌, ⊤, length, IfSome, Some};
+ghost use Rattle.std.specs.Prelude.{◌≡◌, ◌+◌, ◌-◌, ◌%◌, ◌<◌, ◌≤◌, ⊤, length, IfSome, Some};
 ghost use Rattle.std.specs.Iterator.{YieldsFirst, YieldsLast, item_count, UpTo};
 ghost use Rattle.std.specs.Iterator.SizeHint.{IsWithinCount};
 ghost use Rattle.std.specs.Borrow.{sem};
@@ -8,9 +8,9 @@ ghost use mathlib.Core.Option.{none};
 ghost use denote.Follow.{follows_so};
 ghost use Rattle.bit_addressing_memory.specs.Memory.{piece, read_by};
 ghost use Rattle.bit_addressing_span.specs.declared.span.TheConstants.{MAX_BITS};
-ghost use Rattle.bit_slice_views.specs.View.{view_bits};
-ghost use Rattle.bit_containers_vector.specs.Drained.{drain_bits, Cut, IsCut};
-ghost use Rattle.bit_containers_vector.specs.Vector.{vec_bits, vec_words};
+ghost use Rattle.bit_slice_views.specs.View.{view_bits, view_head};
+ghost use Rattle.bit_containers_vector.specs.Drained.{drain_bits, drain_head, Cut, IsCut};
+ghost use Rattle.bit_containers_vector.specs.Vector.{vec_bits, vec_head, vec_words};
 
 use crate::vector::BitVec;
 use crate::words::turn;
@@ -29,8 +29,9 @@ pub struct Drain<'a, T: BitStore, O: BitOrder<T>> {
 impl<'a, T: BitStore, O: BitOrder<T>> Drain<'a, T, O> {
     /// The bits that are left, as a window.
     pub fn as_bitslice(&self) -> BitSlice<'a, T, O>
-        ensures { view_bits (read_by T.BitRegister O.position) result
+        ensures bits { view_bits (read_by T.BitRegister O.position) result
             ≡ drain_bits (read_by T.BitRegister O.position) self.now }
+        ensures head { view_head result ≡ drain_head self.now }
     {
         let Drain { gone } = self;
         *gone
@@ -38,8 +39,9 @@ impl<'a, T: BitStore, O: BitOrder<T>> Drain<'a, T, O> {
 
     /// Another name of `as_bitslice`.
     pub fn as_slice(&self) -> BitSlice<'a, T, O>
-        ensures { view_bits (read_by T.BitRegister O.position) result
+        ensures bits { view_bits (read_by T.BitRegister O.position) result
             ≡ drain_bits (read_by T.BitRegister O.position) self.now }
+        ensures head { view_head result ≡ drain_head self.now }
     {
         self.as_bitslice()
     }
@@ -113,6 +115,12 @@ impl<T: BitStore, O: BitOrder<T>> BitVec<T, O> {
         ensures bits { drain_bits (read_by T.BitRegister O.position) result
             ≡ piece (vec_bits (read_by T.BitRegister O.position) self.old) (I.start range)
             (I.end range (length (vec_bits (read_by T.BitRegister O.position) self.old)) - I.start range) }
+
+        // They are shown behind the last bit of what stays.
+        ensures head { drain_head result ≡ (vec_head self.old
+            + (length (vec_bits (read_by T.BitRegister O.position) self.old)
+            - (I.end range (length (vec_bits (read_by T.BitRegister O.position) self.old)) - I.start range)))
+            % T.BITS }
         ensures* after { sem 𝓛 (follows_so
             (the_row T.row O.row T.BitRegister)
             (the_row T.row O.row T.BitRegister)

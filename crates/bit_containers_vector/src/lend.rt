@@ -7,7 +7,7 @@ ghost use Rattle.bit_addressing_memory.specs.Memory.{read_by};
 ghost use Rattle.bit_addressing_memory.specs.Sweep.{IsFresh, sweep_lender, sweep_words};
 ghost use Rattle.bit_containers_vector.specs.Lending.{with_words, HasWords};
 ghost use Rattle.bit_containers_vector.specs.Vector.{vec_bits, vec_head, vec_words, visible};
-ghost use Rattle.bit_slice_views.specs.View.{view_bits};
+ghost use Rattle.bit_slice_views.specs.View.{view_bits, view_head};
 ghost use Rattle.bit_slice_views_mut.specs.ViewMut.{lent_bits, lent_lender, lent_place, lent_words};
 
 use crate::vector::BitVec;
@@ -45,8 +45,9 @@ impl<T: BitStore, O: BitOrder<T>> BitVec<T, O> {
 
     /// Another name of `as_bitslice`.
     pub fn as_slice(&self) -> BitSlice<'_, T, O>
-        ensures { view_bits (read_by T.BitRegister O.position) result
+        ensures bits { view_bits (read_by T.BitRegister O.position) result
             ≡ vec_bits (read_by T.BitRegister O.position) self.now }
+        ensures head { view_head result ≡ vec_head self.now }
     {
         self.as_bitslice()
     }

@@ -7,7 +7,7 @@ ghost use Rattle.bit_addressing_span.specs.declared.span.TheConstants.{MAX_BITS}
 
 use bit_addressing_memory::{BitOrder, BitRegister};
 use bit_slice_views::{BitSlice, BitStore, Bits};
-use bit_slice_views_mut::BitsMut;
+use bit_slice_views_mut::{BitsMut, MayWriteBeside};
 use std::alloc::Global;
 use std::marker::PhantomData;
 
@@ -85,7 +85,7 @@ impl<T: BitStore, O: BitOrder<T>> BitsMut for BitVec<T, O> {
         self.head
     }
 
-    fn with_words<A, F: FnOnce(&mut [T]) -> A>(&mut self, f: F) -> A {
+    fn with_words<A, F: FnOnce(&mut [T]) -> A>(&mut self, _key: MayWriteBeside, f: F) -> A {
         apply::<T, A, F>(self.words.as_mut_slice(), f)
     }
 

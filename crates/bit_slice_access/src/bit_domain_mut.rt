@@ -7,7 +7,7 @@ ghost use Rattle.bit_slice_access.specs.Lending.{LendsPart};
 
 use bit_addressing_memory::{BitRegister, mem};
 use bit_slice_views::Bits;
-use bit_slice_views_mut::{BitsMut, BitsShown, BitsWindow};
+use bit_slice_views_mut::{BitsMut, BitsShown, BitsWindow, MayWriteBeside};
 
 /// A window cut at the borders of its words: the bits before the first border, the whole words behind it, and the bits
 /// behind the last border. A part may have no bits. One part is lent at a time.
@@ -41,7 +41,7 @@ impl<V: BitsWindow> Drop for BitDomainMut<'_, V> {
             first: _,
             body: _,
         } = self;
-        of.show(head, len);
+        of.show(MayWriteBeside, head, len);
     }
 }
 
@@ -90,7 +90,7 @@ impl<'s, V: BitsWindow> BitDomainMut<'s, V> {
     {
         let place = self.head;
         let count = self.first;
-        self.of.show(place, count);
+        self.of.show(MayWriteBeside, place, count);
         &mut *self.of
     }
 
@@ -108,7 +108,7 @@ impl<'s, V: BitsWindow> BitDomainMut<'s, V> {
     {
         let place = self.head + self.first;
         let count = self.body;
-        self.of.show(place, count);
+        self.of.show(MayWriteBeside, place, count);
         &mut *self.of
     }
 
@@ -128,7 +128,7 @@ impl<'s, V: BitsWindow> BitDomainMut<'s, V> {
         let from = self.first + self.body;
         let place = self.head + from;
         let count = self.len - from;
-        self.of.show(place, count);
+        self.of.show(MayWriteBeside, place, count);
         &mut *self.of
     }
 }

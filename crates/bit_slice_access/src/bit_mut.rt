@@ -4,6 +4,7 @@ ghost use Rattle.std.specs.Prelude.{◌≡◌, ◌<◌, length, slice_set, slice
 
 use bit_slice_views::Bits;
 use bit_slice_views_mut::BitsMut;
+use std::ops::Deref;
 
 /// One bit of a window, to write: bitvec's `BitRef` of a writable window.
 ///
@@ -79,5 +80,17 @@ impl<'s, V: BitsMut> BitMut<'s, V> {
     {
         let BitMut { of, at } = self;
         of.set(at, bit);
+    }
+}
+
+impl<V: BitsMut> Deref for BitMut<'_, V> {
+    ghost use Rattle.bit_slice_access.specs.BitMut.{bit_view, bit_index};
+
+    type Target = bool;
+
+    ghost deref_gives = { λ bit value. value ≡ slice_index_or (V.bits (bit_view bit)) (bit_index bit) false };
+
+    fn deref(&self) -> &bool {
+        if self.get() { &true } else { &false }
     }
 }

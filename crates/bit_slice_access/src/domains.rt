@@ -12,7 +12,7 @@ use crate::domain_mut::WindowDomainMut;
 use crate::halves::{Halves, split_in};
 use bit_addressing_memory::BitRegister;
 use bit_slice_views::Bits;
-use bit_slice_views_mut::{BitsMut, BitsWindow};
+use bit_slice_views_mut::{BitsMut, BitsWindow, MayWriteBeside};
 
 /// What a writable window lends by words: of every `BitsWindow`.
 pub trait BitsDomains: BitsWindow {
@@ -62,7 +62,10 @@ pub trait BitsDomains: BitsWindow {
         ensures len { length (Self.bits self.new) ≡ length (Self.bits self.old) }
     {
         let place = self.first_place() + mid;
-        self.with_words(|words| split_in::<Self::Store, A, F>(words, place, f))
+        self.with_words(
+            MayWriteBeside,
+            |words| split_in::<Self::Store, A, F>(words, place, f),
+        )
     }
 }
 

@@ -8,7 +8,7 @@ ghost use Rattle.bit_slice_views_mut.specs.Frame.{frame_of};
 
 use bit_addressing_memory::BitRegister;
 use bit_slice_views::{BitSlice, Bits};
-use bit_slice_views_mut::{BitsMut, BitsShown, BitsWindow};
+use bit_slice_views_mut::{BitsMut, BitsShown, BitsWindow, MayWriteBeside};
 
 /// Some bits of a window, as a window of its own: what a range lends.
 ///
@@ -34,7 +34,7 @@ impl<V: BitsWindow> Drop for Part<'_, V> {
             ≡ part_around (read_by V.Store.BitRegister V.Order.position) V.lender V.words self.entry }
     {
         let Part { of, head, len } = self;
-        of.show(head, len);
+        of.show(MayWriteBeside, head, len);
     }
 }
 
@@ -74,8 +74,8 @@ impl<V: BitsWindow> BitsMut for Part<'_, V> {
         self.of.first_place()
     }
 
-    fn with_words<A, F: FnOnce(&mut [V::Store]) -> A>(&mut self, f: F) -> A {
-        self.of.with_words(f)
+    fn with_words<A, F: FnOnce(&mut [V::Store]) -> A>(&mut self, key: MayWriteBeside, f: F) -> A {
+        self.of.with_words(key, f)
     }
 
     ghost window = { λ part. V.window (part_view part) };
@@ -88,8 +88,8 @@ impl<V: BitsWindow> BitsMut for Part<'_, V> {
 }
 
 impl<V: BitsWindow> BitsShown for Part<'_, V> {
-    fn show(&mut self, from: usize, count: usize) {
-        self.of.show(from, count);
+    fn show(&mut self, key: MayWriteBeside, from: usize, count: usize) {
+        self.of.show(key, from, count);
     }
 }
 
@@ -108,7 +108,7 @@ impl<'s, V: BitsWindow> Part<'s, V> {
     {
         let head = of.first_place();
         let len = of.len();
-        of.show(head + from, count);
+        of.show(MayWriteBeside, head + from, count);
         Part { of, head, len }
     }
 }

@@ -15,7 +15,7 @@ use crate::cuts::{Backward, BackwardExact, Cuts, ExactCuts, Forward, ForwardExac
 use bit_addressing_memory::BitRegister;
 use bit_slice_access::Part;
 use bit_slice_views::Bits;
-use bit_slice_views_mut::{BitsMut, BitsShown, BitsWindow};
+use bit_slice_views_mut::{BitsMut, BitsShown, BitsWindow, MayWriteBeside};
 use std::marker::PhantomData;
 
 /// The pieces of a writable window that were not lent yet, of which one is lent at a time.
@@ -65,7 +65,7 @@ impl<V: BitsWindow, C: Cuts> Drop for PiecesMut<'_, V, C> {
             taken: _,
             cuts: _,
         } = self;
-        of.show(place, len);
+        of.show(MayWriteBeside, place, len);
     }
 }
 
@@ -186,7 +186,7 @@ impl<'s, V: BitsWindow, C: Cuts> PiecesMut<'s, V, C> {
             taken: _,
             cuts: _,
         } = self;
-        of.show(head, len);
+        of.show(MayWriteBeside, head, len);
         Part::new(of, from, count)
     }
 }
@@ -267,5 +267,5 @@ pub(crate) fn show_part<V: BitsWindow>(
     ensures lender { V.lender of.new ≡ V.lender of.old }
     ensures place { V.place of.new ≡ head + start }
 {
-    of.show(head + start, size);
+    of.show(MayWriteBeside, head + start, size);
 }

@@ -1,7 +1,7 @@
 //! The parts of a window between the places where a predicate answers true, one after another, from both ends.
 
 ghost use Rattle.std.specs.Prelude.{◌≡◌, ◌+◌, ◌-◌, ◌<◌, ◌≤◌, true, false, length, if◌then◌else◌, IfSome, Some};
-ghost use Rattle.std.specs.Iterator.{at_most, UpTo};
+ghost use Rattle.std.specs.Iterator.{at_most, MakesProgress, UpTo};
 ghost use Rattle.std.specs.Iterator.SizeHint.{IsWithinCount};
 ghost use Rattle.bit_addressing_memory.specs.Memory.{piece, read_by};
 ghost use Rattle.bit_slice_views.specs.View.{view_bits, view_head};
@@ -86,6 +86,34 @@ impl<
     F: FnMut(usize, &bool) -> bool + Drop,
     A: SplitEnd,
     B: SplitEnd,
+> Splits<'a, T, O, F, A, B> {
+    // The part that comes off at an end, or nothing where none is left.
+    fn take_part<E: SplitEnd>(&mut self) -> Option<BitSlice<'a, T, O>>
+        requires { F.IsAlwaysCallable self.old.callee }
+        ensures steps { GivesPart (view_bits (read_by T.BitRegister O.position)) view_head
+            (PartsFrom T.BITS E.way F.FnMut) self.old result self.new }
+        ensures goes { MakesProgress (λ splits. F.IsAlwaysCallable splits.callee)
+            (λ s. at_most (if s.done then 0 else length s.bits + 1)) self.old result self.new }
+    {
+        if self.done {
+            return None;
+        }
+        let view = self.view;
+        let asked = asked_in::<BitSlice<'a, T, O>, F, E>(&view, &mut self.f);
+        let part = E::part(view.len(), asked);
+        self.view = view.part(part.rest, part.rest_len);
+        self.done = part.last;
+        Some(view.part(part.start, part.len))
+    }
+}
+
+impl<
+    'a,
+    T: BitRegister + 'a,
+    O: BitOrder<T>,
+    F: FnMut(usize, &bool) -> bool + Drop,
+    A: SplitEnd,
+    B: SplitEnd,
 > Iterator for Splits<'a, T, O, F, A, B> {
     type Item = BitSlice<'a, T, O>;
 
@@ -97,15 +125,7 @@ impl<
     ghost remaining = { λ s. at_most (if s.done then 0 else length s.bits + 1) };
 
     fn next(&mut self) -> Option<BitSlice<'a, T, O>> {
-        if self.done {
-            return None;
-        }
-        let view = self.view;
-        let asked = asked_in::<BitSlice<'a, T, O>, F, A>(&view, &mut self.f);
-        let part = A::part(view.len(), asked);
-        self.view = view.part(part.rest, part.rest_len);
-        self.done = part.last;
-        Some(view.part(part.start, part.len))
+        self.take_part::<A>()
     }
 
     fn size_hint(&self) -> (usize, Option<usize>)
@@ -135,14 +155,6 @@ impl<
         (PartsFrom T.BITS B.way F.FnMut) };
 
     fn next_back(&mut self) -> Option<BitSlice<'a, T, O>> {
-        if self.done {
-            return None;
-        }
-        let view = self.view;
-        let asked = asked_in::<BitSlice<'a, T, O>, F, B>(&view, &mut self.f);
-        let part = B::part(view.len(), asked);
-        self.view = view.part(part.rest, part.rest_len);
-        self.done = part.last;
-        Some(view.part(part.start, part.len))
+        self.take_part::<B>()
     }
 }

@@ -15,7 +15,7 @@ use crate::search::asked_in;
 use crate::ways::{FromBack, FromFront, InclusiveBack, InclusiveFront, Parting, SplitEnd};
 use bit_addressing_memory::BitRegister;
 use bit_slice_views::Bits;
-use bit_slice_views_mut::{BitsMut, BitsShown, BitsWindow};
+use bit_slice_views_mut::{BitsMut, BitsShown, BitsWindow, MayWriteBeside};
 use std::marker::PhantomData;
 
 /// The parts of a writable window that were not lent yet, of which one is lent at a time.
@@ -68,7 +68,7 @@ impl<V: BitsWindow, F: Drop, A, B> Drop for SplitsMut<'_, V, F, A, B> {
             most: _,
             ways: _,
         } = self;
-        of.show(head, len);
+        of.show(MayWriteBeside, head, len);
     }
 }
 
@@ -135,7 +135,7 @@ impl<'s, V: BitsWindow, F: Drop, A, B> SplitsMut<'s, V, F, A, B> {
     {
         let head = self.head + self.start;
         let size = self.size;
-        self.of.show(head, size);
+        self.of.show(MayWriteBeside, head, size);
         &mut *self.of
     }
 }
@@ -245,7 +245,7 @@ fn parted<V: BitsWindow, F: FnMut(usize, &bool) -> bool, W: SplitEnd>(
     ensures rest_within { result.rest + result.rest_len ≤ count }
     ensures shorter { count ≤ result.rest_len → result.last ≡ true }
 {
-    of.show(head + from, count);
+    of.show(MayWriteBeside, head + from, count);
     let asked = asked_in::<V, F, W>(of, f);
     W::part(count, asked)
 }

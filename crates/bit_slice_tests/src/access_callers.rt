@@ -49,6 +49,18 @@ pub fn set_where_inside<V: BitsMut>(view: &mut V, i: usize)
     }
 }
 
+/// Flips a bit, which `*` reads.
+pub fn flip_bit<V: BitsMut>(view: &mut V, i: usize)
+    requires { i < length (V.bits view.old) }
+    ensures bits { V.bits view.new
+        ≡ slice_set (V.bits view.old) i (not (slice_index_or (V.bits view.old) i false)) }
+    ensures frame { V.frame view.new ≡ V.frame view.old }
+{
+    let mut bit = BitMut::new(view, i);
+    let was = *bit;
+    bit.set(!was);
+}
+
 /// Sets the last bit.
 pub fn set_last<V: BitsMut>(view: &mut V)
     requires { 0 < length (V.bits view.old) }

@@ -3,7 +3,7 @@
 use bit_addressing_memory::{Lsb0, Msb0};
 use bit_slice_access::BitsParts;
 use bit_slice_views::{BitSlice, Bits};
-use bit_slice_views_mut::{BitSliceMut, BitsMut, BitsShown};
+use bit_slice_views_mut::{BitSliceMut, BitsMut, BitsShown, MayWriteBeside};
 use bit_slice_words::WordPaths;
 use std::cmp::Ordering;
 use std::hash::{DefaultHasher, Hash, Hasher};
@@ -41,7 +41,7 @@ fn windows_are_made(rt: HostRuntime) {
     let mut words = [0b1111_0000u8];
     let mut bits = !BitSliceMut::<u8, Lsb0>::from_place_mut(&mut words, 2, 4);
     assert!(rt; bits.first_one() == Some(0) && bits.last_one() == Some(1));
-    bits.show(4, 4);
+    bits.show(MayWriteBeside, 4, 4);
     assert!(rt; bits.len() == 4 && bits.first_one() == Some(2));
     drop(bits);
     assert!(rt; words == [0b1100_1100]);

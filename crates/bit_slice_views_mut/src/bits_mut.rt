@@ -11,6 +11,7 @@ ghost use Rattle.bit_addressing_span.specs.declared.span.TheConstants.{MAX_BITS}
 ghost use Rattle.bit_slice_views_mut.specs.Combined.{combined};
 ghost use Rattle.bit_slice_views_mut.specs.Frame.{Frame, frame_of, KeepsBeside};
 
+use crate::beside::MayWriteBeside;
 use crate::combine::{and_window, or_window, xor_window};
 use crate::paths::copy_path;
 use crate::windows::{copy_window, fill_window, move_window};
@@ -44,7 +45,9 @@ pub trait BitsMut: Bits {
         ensures small { place self.now + length (Self.bits self.now) < 2 ^ 63 };
 
     /// Lends the words to a function, which keeps how many there are.
-    fn with_words<A, F: FnOnce(&mut [Self::Store]) -> A>(&mut self, f: F) -> A
+    ///
+    /// All words, those beside the window too: it is for the crates that make windows, and `write` is for all others.
+    fn with_words<A, F: FnOnce(&mut [Self::Store]) -> A>(&mut self, key: MayWriteBeside, f: F) -> A
         requires callable { (w : _) → w.now ≡ words self.old → F.pre f w }
         requires keeps { (w : _) (r : A) (a : _) → FnOnceReturnsAtMut F.FnOnce f w r a → length a ≡ length w }
         ensures words { FnOnceReturnsAtMut F.FnOnce f (words self.old) result (words self.new) }
@@ -77,7 +80,7 @@ pub trait BitsMut: Bits {
         ensures lender { lender self.new ≡ lender self.old }
         ensures frame { frame self.new ≡ frame self.old }
     {
-        self.with_words(f)
+        self.with_words(MayWriteBeside, f)
     }
 
     // ---- change

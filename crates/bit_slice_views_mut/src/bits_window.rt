@@ -4,6 +4,7 @@ ghost use Rattle.std.specs.Prelude.{◌≡◌, ◌+◌, ◌*◌, ◌<◌, ◌≤
 ghost use Rattle.bit_addressing_span.specs.declared.span.TheConstants.{MAX_BITS};
 ghost use Rattle.bit_slice_views_mut.specs.Pair.{pair_len, pair_loan, pair_mid, pair_place, pair_view, PairLies};
 
+use crate::beside::MayWriteBeside;
 use crate::bits_mut::BitsMut;
 use crate::pair::Pair;
 use bit_addressing_memory::BitRegister;
@@ -11,11 +12,11 @@ use bit_slice_views::Bits;
 
 /// What can show any bits of its words.
 ///
-/// It is for the crates that lend parts of windows, and `bit_slice` does not show it: `show` leaves a window at other
-/// bits than those that were lent, and what is written then is beside the window.
+/// It is for the crates that lend parts of windows: `show` leaves a window at other bits than those that were lent, and
+/// what is written then is beside the window. So it asks what `bit_slice` does not show.
 pub trait BitsShown: BitsMut {
     /// Shows another window of the same words.
-    fn show(&mut self, from: usize, count: usize)
+    fn show(&mut self, key: MayWriteBeside, from: usize, count: usize)
         requires fits { from + count ≤ length (Self.words self.old) * Self.Store.BITS }
         requires short { count ≤ MAX_BITS }
         requires small { from + count < 2 ^ 63 }

@@ -1,6 +1,7 @@
 //! Windows of bits to write.
 #![tactic(auto)]
 
+mod beside;
 mod bit_view;
 mod bits_mut;
 mod bits_window;
@@ -14,6 +15,7 @@ mod sweeps;
 mod view_mut;
 mod windows;
 
+pub use beside::MayWriteBeside;
 pub use bit_view::BitView;
 pub use bits_mut::BitsMut;
 pub use bits_window::{BitsShown, BitsWindow};

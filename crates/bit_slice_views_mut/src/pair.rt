@@ -5,6 +5,7 @@ ghost use Rattle.std.specs.Borrow.{sem};
 ghost use Rattle.bit_addressing_span.specs.declared.span.TheConstants.{MAX_BITS};
 ghost use Rattle.bit_slice_views_mut.specs.Lending.{LendsHalf};
 
+use crate::beside::MayWriteBeside;
 use crate::bits_mut::BitsMut;
 use crate::bits_window::{BitsShown, BitsWindow};
 use bit_addressing_memory::BitRegister;
@@ -36,7 +37,7 @@ impl<V: BitsWindow> Drop for Pair<'_, V> {
             mid: _,
             len,
         } = self;
-        of.show(head, len);
+        of.show(MayWriteBeside, head, len);
     }
 }
 
@@ -67,7 +68,7 @@ impl<'s, V: BitsWindow> Pair<'s, V> {
     {
         let head = self.head;
         let mid = self.mid;
-        self.of.show(head, mid);
+        self.of.show(MayWriteBeside, head, mid);
         &mut *self.of
     }
 
@@ -85,7 +86,7 @@ impl<'s, V: BitsWindow> Pair<'s, V> {
     {
         let head = self.head + self.mid;
         let len = self.len - self.mid;
-        self.of.show(head, len);
+        self.of.show(MayWriteBeside, head, len);
         &mut *self.of
     }
 }

@@ -6,6 +6,7 @@ ghost use Rattle.bit_addressing_memory.specs.Memory.{memory, piece, read_by, rea
 ghost use Rattle.bit_addressing_span.specs.declared.span.TheConstants.{MAX_BITS};
 ghost use Rattle.bit_addressing_span.specs.declared.span_error.BitSpanError.TheVariants.{TooLong};
 
+use crate::beside::MayWriteBeside;
 use crate::bits_mut::BitsMut;
 use crate::bits_window::{BitsShown, BitsWindow};
 use bit_addressing_memory::{BitIdx, BitOrder, BitRegister, mem};
@@ -148,7 +149,7 @@ impl<T: BitRegister, O: BitOrder<T>> BitsMut for BitSliceMut<'_, T, O> {
         self.head
     }
 
-    fn with_words<A, F: FnOnce(&mut [T]) -> A>(&mut self, f: F) -> A {
+    fn with_words<A, F: FnOnce(&mut [T]) -> A>(&mut self, _key: MayWriteBeside, f: F) -> A {
         apply::<T, A, F>(self.words, f)
     }
 
@@ -163,7 +164,7 @@ impl<T: BitRegister, O: BitOrder<T>> BitsMut for BitSliceMut<'_, T, O> {
 
 #[tactic(auto, using(crate::proofs::FrameLemmas::frames))]
 impl<T: BitRegister, O: BitOrder<T>> BitsShown for BitSliceMut<'_, T, O> {
-    fn show(&mut self, from: usize, count: usize) {
+    fn show(&mut self, _key: MayWriteBeside, from: usize, count: usize) {
         self.head = from;
         self.len = count;
     }

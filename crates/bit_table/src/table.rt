@@ -6,7 +6,7 @@ ghost use Rattle.std.specs.Prelude.{is_some, IfOk, IsOk, OnOk, OnErr, IsOkUnless
 ghost use Rattle.bit_addressing_memory.specs.Memory.{read_by};
 ghost use Rattle.bit_containers_array.specs.Array.{array_bits};
 ghost use Rattle.bit_slice_words.specs.Steps.{groups, Takes};
-ghost use Rattle.bit_slice_views.specs.View.{view_bits};
+ghost use Rattle.bit_slice_views.specs.View.{view_bits, view_head};
 ghost use Rattle.bit_table_layout.specs.Images.{image_bytes, HasOnlyNumbers};
 ghost use Rattle.bit_table_layout.specs.declared.layout.TheConstants.{MAX_BITS, MAX_ROW_BITS};
 ghost use Rattle.bit_table_layout.specs.Layouts.{row_width};
@@ -127,16 +127,18 @@ impl<A: BitViewSized, O: WordPaths<A::Store> + Digits<A::Store>> Table<A, O> {
 
     /// The bits of all rows, end to end.
     pub fn row_bits(&self) -> BitSlice<'_, A::Store, O>
-        ensures { view_bits (read_by A.Store.BitRegister O.position) result
+        ensures bits { view_bits (read_by A.Store.BitRegister O.position) result
             ≡ table_bits self.now.shape.layout self.now.shape.rows }
+        ensures head { view_head result ≡ 0 }
     {
         self.bits.as_bitslice()
     }
 
     /// One bit a row: whether it bears the letter.
     pub fn letter_bits(&self, letter: Letter) -> BitSlice<'_, A::Store, O>
-        ensures { view_bits (read_by A.Store.BitRegister O.position) result
+        ensures bits { view_bits (read_by A.Store.BitRegister O.position) result
             ≡ map (row_bears letter) self.now.shape.rows }
+        ensures head { view_head result ≡ 0 }
     {
         self.letters.list(letter.index())
     }

@@ -7,7 +7,7 @@ ghost use Rattle.std.specs.FinSet as set;
 ghost use Rattle.bit_addressing_memory.specs.Memory.{read_by, touched};
 ghost use Rattle.bit_addressing_span.specs.declared.span.TheConstants.{MAX_BITS};
 ghost use Rattle.bit_slice_words.specs.Steps.{groups, Takes};
-ghost use Rattle.bit_slice_views.specs.View.{view_bits};
+ghost use Rattle.bit_slice_views.specs.View.{view_bits, view_head};
 ghost use Rattle.bit_table_rows.specs.Lists.{AreColumns};
 ghost use Rattle.bit_table_commands.specs.Letters.{combined};
 ghost use Rattle.bit_table_commands.specs.LetterSets.{bears, letter_count, with_letter};
@@ -81,7 +81,8 @@ impl<T: BitStore, O: WordPaths<T>> Letters<T, O> {
     /// One bit a row: whether it bears the letter.
     pub fn list(&self, letter: usize) -> BitSlice<'_, T, O>
         requires { letter < letter_count }
-        ensures { view_bits (read_by T.BitRegister O.position) result ≡ map (bears letter) self.now }
+        ensures bits { view_bits (read_by T.BitRegister O.position) result ≡ map (bears letter) self.now }
+        ensures head { view_head result ≡ 0 }
     {
         self.lists[letter].as_bitslice()
     }

@@ -12,7 +12,7 @@ returns-clause-steps g c =
     let reading = read_by g.A.Store.BitRegister g.O.Positions.position in
     let all = array_bits reading g.A.BitViewSized.words it.array in
     let n = c.len-rest.result - 1 in
-    let shown = c.as_bitslice-left.ensures in
+    let shown = c.as_bitslice-left.ensures.bits in
     let size = ap length shown in
     let some : 0 < length (piece all it.from it.count) = search (rules, arith, size) in
     left-last all it.from it.count c.bit-last.result n some (omega (arith, size, c.len-rest.ensures))

@@ -9,7 +9,7 @@ overflow_add-self g c =
     let it = c.args.self.now in
     let reading = read_by g.A.Store.BitRegister g.O.Positions.position in
     let all = array_bits reading g.A.BitViewSized.words it.array in
-    let size = ap length c.as_bitslice-left.ensures in
+    let size = ap length c.as_bitslice-left.ensures.bits in
     let some : 0 < length (piece all it.from it.count) = search (rules, arith, size) in
     let low = left_low all it.from it.count some in
     let short = first_short reading (array_words g.A.BitViewSized.words it.array) in
@@ -21,7 +21,7 @@ returns-clause-steps g c =
     let it = c.args.self.now in
     let reading = read_by g.A.Store.BitRegister g.O.Positions.position in
     let all = array_bits reading g.A.BitViewSized.words it.array in
-    let shown = c.as_bitslice-left.ensures in
+    let shown = c.as_bitslice-left.ensures.bits in
     let size = ap length shown in
     let some : 0 < length (piece all it.from it.count) = search (rules, arith, size) in
     left-first all it.from it.count c.bit-first.result (c.len.result - 1) some (omega (arith, size, c.len.ensures))

@@ -10,7 +10,7 @@ bit-last-requires g c =
     let iter = c.args.self.now in
     let reading = read_by g.T.BitRegister g.O.Positions.position in
     let size = length-window reading iter.words.items iter.place iter.len iter.fits in
-    rw (c.as_bitslice.ensures) (omega (arith, size, c.if-self-eq0.false))
+    rw (c.as_bitslice.ensures.bits) (omega (arith, size, c.if-self-eq0.false))
 
 -- the piece before the bit that was read, and the bit
 pub returns-clause-steps : goal.returns-clause-steps
@@ -19,7 +19,7 @@ returns-clause-steps g c =
     let reading = read_by g.T.BitRegister g.O.Positions.position in
     left_last reading iter.words.items iter.place iter.len c.bit-last.result iter.fits
     (omega (arith, c.if-self-eq0.false))
-    (c.bit-last.ensures ∙ ap (λ xs. get_or xs (iter.len - 1) false) c.as_bitslice.ensures)
+    (c.bit-last.ensures ∙ ap (λ xs. get_or xs (iter.len - 1) false) c.as_bitslice.ensures.bits)
 
 pub returns-clause-goes : goal.returns-clause-goes
 returns-clause-goes g c =

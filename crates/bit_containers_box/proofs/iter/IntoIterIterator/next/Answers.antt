@@ -9,7 +9,7 @@ bit-first-requires g c =
     let iter = c.args.self.now in
     let reading = read_by g.T.BitRegister g.O.Positions.position in
     let size = length-window reading iter.words.items iter.place iter.len iter.fits in
-    rw (c.as_bitslice.ensures) (omega (arith, size, c.if-self-eq0.false))
+    rw (c.as_bitslice.ensures.bits) (omega (arith, size, c.if-self-eq0.false))
 
 -- the bit that was read, and the piece behind it
 pub returns-clause-steps : goal.returns-clause-steps
@@ -18,7 +18,7 @@ returns-clause-steps g c =
     let reading = read_by g.T.BitRegister g.O.Positions.position in
     left_first reading iter.words.items iter.place iter.len c.bit-first.result iter.fits
     (omega (arith, c.if-self-eq0.false))
-    (c.bit-first.ensures ∙ ap (λ xs. get_or xs 0 false) c.as_bitslice.ensures)
+    (c.bit-first.ensures ∙ ap (λ xs. get_or xs 0 false) c.as_bitslice.ensures.bits)
 
 pub returns-clause-goes : goal.returns-clause-goes
 returns-clause-goes g c =

@@ -1,4 +1,4 @@
-use Rattle.std.proofs.Common.{◌≡◌, ◌+◌, ◌*◌, ◌<◌, ◌≤◌, ◌++◌, [], true, false, length, arith, rules, ap, refl, ◌∙◌}
+use Rattle.std.proofs.Common.{◌≡◌, ℕ, ◌+◌, ◌*◌, ◌<◌, ◌≤◌, ◌++◌, [], true, false, length, arith, rules, ap, refl, ◌∙◌}
 use Rattle.std.proofs.Math.Nat.{mul-le-mul_right}
 use Rattle.std.specs.Iterator.{size}
 use Rattle.bit_addressing_memory.specs.Memory.{memory, read_by}
@@ -28,6 +28,15 @@ loop-word-preserved g c =
     let reading = read_by g.T.BitRegister g.O.Positions.position in
     let was = c.loop-word.invariant in
     let grown = (c.in_ok-extend_from_raw_slice.ensures).ok in
+    let left : size (g.I.Iterator.remaining c.next.new.self) + 1
+    ≤ size (g.I.Iterator.remaining c.loop-word.word-iterator) = search (rules, arith) in
+    let still_few : (m : ℕ) → length (vec_bits reading c.loop-word.self)
+    + size (g.I.Iterator.remaining c.loop-word.word-iterator) * g.T.BitRegister.BITS ≤ m
+    → length (vec_bits reading c.extend_from_raw_slice.new.self)
+    + size (g.I.Iterator.remaining c.next.new.self) * g.T.BitRegister.BITS ≤ m =
+    λ m few. one_less reading (vec_bits reading c.loop-word.self) (vec_bits reading c.extend_from_raw_slice.new.self)
+    c.from_ref.result.now c.in-Some.word (size (g.I.Iterator.remaining c.loop-word.word-iterator))
+    (size (g.I.Iterator.remaining c.next.new.self)) m grown.bits c.from_ref.ensures.value left few in
     record {
       can = search rules;
       finite = search rules;
@@ -35,20 +44,8 @@ loop-word-preserved g c =
           one_word reading (vec_bits reading c.args.self.now) (vec_bits reading c.loop-word.self)
           (vec_bits reading c.extend_from_raw_slice.new.self) c.loop-word.yielded c.from_ref.result.now c.in-Some.word
           was.bits grown.bits c.from_ref.ensures.value;
-      most =
-          let less : size (g.I.Iterator.remaining c.next.new.self) + 1
-          ≤ size (g.I.Iterator.remaining c.loop-word.word-iterator) =
-          search (rules, arith) in
-          one_less reading (vec_bits reading c.loop-word.self) (vec_bits reading c.extend_from_raw_slice.new.self)
-          c.from_ref.result.now c.in-Some.word (size (g.I.Iterator.remaining c.loop-word.word-iterator))
-          (size (g.I.Iterator.remaining c.next.new.self)) MAX_BITS grown.bits c.from_ref.ensures.value less was.most;
-      few =
-          let less : size (g.I.Iterator.remaining c.next.new.self) + 1
-          ≤ size (g.I.Iterator.remaining c.loop-word.word-iterator) =
-          search (rules, arith) in
-          one_less reading (vec_bits reading c.loop-word.self) (vec_bits reading c.extend_from_raw_slice.new.self)
-          c.from_ref.result.now c.in-Some.word (size (g.I.Iterator.remaining c.loop-word.word-iterator))
-          (size (g.I.Iterator.remaining c.next.new.self)) _ grown.bits c.from_ref.ensures.value less was.few;
+      most = still_few MAX_BITS was.most;
+      few = still_few _ was.few;
       head = grown.head ∙ was.head;
       words =
           let some : 0 < g.T.BitRegister.BITS = omega (arith, g.met.T.BitRegister.least_bits) in (

@@ -21,7 +21,7 @@ invariant_of-self g c =
     let left = c.keep_rows_of-left.result.0 in
     let w = row_width t.layout.fields in
     let count : left ≡ count_by not off =
-    c.keep_rows_of-left.ensures.count ∙ ap (count_by not) c.list-marked.ensures in
+    c.keep_rows_of-left.ensures.count ∙ ap (count_by not) c.list-marked.ensures.bits in
     let size : length off ≡ t.rows = length-map t.letters (bears c.index-letter.result) ∙ h.1.marked in
     let few : left ≤ t.rows = omega (arith, count, count_by-le-length not off, size) in
     let fewer : left * w ≤ t.rows * w = mul-le-mul_right w few in (
@@ -43,8 +43,8 @@ returns-clause-shape g c =
     let h = c.self.invariant in
     let x = c.args.letter in
     let same = c.index-letter.ensures.index in
-    let count = rw (c.list-marked.ensures, same) at c.keep_rows_of-left.ensures.count in
-    let bits = rw (c.row_bits-width.ensures.bits, c.list-marked.ensures, same) at c.keep_rows_of-left.ensures.bits in
+    let count = rw (c.list-marked.ensures.bits, same) at c.keep_rows_of-left.ensures.count in
+    let bits = rw (c.row_bits-width.ensures.bits, c.list-marked.ensures.bits, same) at c.keep_rows_of-left.ensures.bits in
     let letters = rw same at c.drop_rows-letters.ensures.rows in
     shape_after _ t.layout _ _ _ c.self.view_is h.0 h.1 h.2 (Drop x) _ _
     (rows_staying t.layout _ h.1 x _ count bits letters) refl
@@ -56,7 +56,7 @@ returns-clause-moved g c =
     let off = map (bears c.index-letter.result) t.letters in
     let left = c.keep_rows_of-left.result.0 in
     let count : left ≡ count_by not off =
-    c.keep_rows_of-left.ensures.count ∙ ap (count_by not) c.list-marked.ensures in
+    c.keep_rows_of-left.ensures.count ∙ ap (count_by not) c.list-marked.ensures.bits in
     let all = length-lettered (rows_from t.layout left _) _ ∙ length-rows_from t.layout left _ in
     let marks = ap length c.drop_rows-letters.ensures.rows ∙ count-staying c.index-letter.result t.letters ∙ sym count in
     let few = rw c.row_bits-width.ensures.bits at c.keep_rows_of-left.ensures.writes in

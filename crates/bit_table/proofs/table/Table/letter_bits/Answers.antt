@@ -4,11 +4,11 @@ use Rattle.bit_table.proofs.MarkedLemmas.{bears-letters}
 use Rattle.bit_table.proofs.TableLemmas.{letters_are}
 use Rattle.bit_table.proofs.table.Table.letter_bits.Goals as goal
 
-pub returns : goal.returns
-returns g c =
+pub returns-clause-bits : goal.returns-clause-bits
+returns-clause-bits g c =
     let t = c.self.inside in
     let h = c.self.invariant in
     let x = c.args.letter in
-    c.list.ensures ∙ ap (λ k. map (bears k) t.letters) c.index.ensures.index
+    c.list.ensures.bits ∙ ap (λ k. map (bears k) t.letters) c.index.ensures.index
     ∙ ap (map (bears x)) (letters_are _ t.layout _ _ _ c.self.view_is h.0 h.1 h.2)
     ∙ bears-letters x c.args.self.now.shape.rows

@@ -6,8 +6,8 @@ use Rattle.bit_table_rows.proofs.ColumnLemmas.{column_is, column_size}
 use Rattle.bit_table_rows.proofs.MarkLemmas.{column_marked}
 use Rattle.bit_table_rows.proofs.letters.Letters.list.Goals as goal
 
-pub returns : goal.returns
-returns g c =
+pub returns-clause-bits : goal.returns-clause-bits
+returns-clause-bits g c =
     let reading = read_by g.T.BitRegister g.O.Positions.position in
     let lists = c.self.inside.lists in
     let n = c.self.inside.rows in

@@ -1,5 +1,5 @@
 use Rattle.std.proofs.Common.{rules}
-use Rattle.bit_slice_splits.proofs.splits.SplitsDoubleEndedIterator.next_back.Goals as goal
+use Rattle.bit_slice_splits.proofs.splits.Splits.take_part.Goals as goal
 
 -- the part that comes off, and where it and what is left lie
 pub returns-clause-steps : goal.returns-clause-steps

@@ -136,7 +136,8 @@ SCRIPTS = [
 ]
 
 # Rows of 257 bits, 0, 0, 0, 0 and 1.
-LOW_257, HIGH_257 = (b"%s a:u64 b:u64 c:u64 d:u64 e:u1\ninsert 0 0 0 0 0 1\nimage\n" % rule for rule in (b"low", b"high"))
+LOW_257 = b"low a:u64 b:u64 c:u64 d:u64 e:u1\ninsert 0 0 0 0 0 1\nimage\n"
+HIGH_257 = b"high" + LOW_257[3:]
 
 # Layouts of 1,024 bits.
 LOW_1024, HIGH_1024 = (b"%s %s" % (rule, worked_lines.SIXTEEN.encode()) for rule in (b"low", b"high"))
@@ -153,11 +154,14 @@ LONG_ROWS = [
         HIGH_257 + b"insert 1 0 0 0 0 1\nimage\nget 1",
         "ok\nok\n1 " + "0" * 64 + "80\nok\n2 " + "0" * 64 + "80" + "0" * 62 + "40\n0 0 0 0 1\n",
     ),
-    (LOW_1024 + b"\nload 2251799813685248 00\nload 2251799813685247 00\nimage", "ok\nrefused full\nrefused image\n0\n"),
+    (
+        LOW_1024 + b"\nload 2251799813685248 00\nload 2251799813685247 00\nimage",
+        "ok\nrefused full\nrefused image\n0\n",
+    ),
     # the last field of each row
     (
-        LOW_1024 + b"\nload 2 " + b"0" * 254 + b"80" + b"0" * 254 + b"40\nmark x p < 0\nlist x\nswap 0 1\nlist x\nset 0 a 1"
-        b"\nimage",
+        LOW_1024 + b"\nload 2 " + b"0" * 254 + b"80" + b"0" * 254 + b"40\n"
+        b"mark x p < 0\nlist x\nswap 0 1\nlist x\nset 0 a 1\nimage",
         "ok\nok\nok\n0\nok\n1\nok\n2 01" + "0" * 252 + "40" + "0" * 254 + "80\n",
     ),
 ]

@@ -1,6 +1,6 @@
 -- Names as numbers, and fields whose names are new.
 use Rattle.std.proofs.Common.{◌≡◌, inl, inr, ℕ, ◌+◌, ◌*◌, ◌^◌, ◌<◌, ◌≤◌, ◌==◌, not, ◌&&◌, ◌||◌, leb, Bool, true, false}
-use Rattle.std.proofs.Common.{List, [], ◌∷◌, ◌++◌, length, drop, get_or, arith, refl, sym, ap, ◌∙◌}
+use Rattle.std.proofs.Common.{List, [], ◌∷◌, ◌++◌, length, arith, refl, sym, ap, ◌∙◌}
 use Rattle.std.specs.Prelude.{slice_index}
 use Rattle.std.specs.Char.{is_ascii_lowercase}
 use Rattle.std.specs.List.{list_all}
@@ -9,7 +9,6 @@ use Rattle.std.proofs.Math.Nat.{pow-le-pow_right}
 use Rattle.std.proofs.lemmas.Bool.{and_parts, leb-true, eq-eqb, eqb-true, cases_Bool, false≢true}
 use Rattle.std.proofs.lemmas.Slice.Eq.{bytes_eq-Decides}
 use Rattle.std.proofs.Math.Bool.{or-false}
-use Rattle.std.proofs.lemmas.List.{drop_more}
 use Rattle.std.proofs.lemmas.List.Folds.{list_any-append}
 use Rattle.bit_table_layout.specs.Fields.{FieldShape, is_name, is_name_byte, is_field}
 use Rattle.bit_table_layout.specs.Layouts.{has_name}
@@ -36,11 +35,6 @@ name_bytes name is =
     let some = and_parts (leb 1 (length name)) _ is in
     let few = and_parts (leb (length name) 16) _ some.1 in
     (and_parts (is_ascii_lowercase (slice_index name 0)) _ few.1).1
-
--- the number of a name from one byte on
-pub name_number-drop : (name : List ℕ) (k : ℕ) → k < length name
-    → name_number (drop k name) ≡ 256 * name_number (drop (k + 1) name) + get_or name k 0
-name_number-drop name k below = ap name_number (drop_more name k 0 below)
 
 -- names with the same number are the same
 same_names : (xs ys : List ℕ) → list_all is_name_byte xs ≡ true → list_all is_name_byte ys ≡ true

@@ -5,7 +5,8 @@ use Rattle.bit_table_layout.proofs.field_word.name_number.Goals as goal
 pub overflow_mul-number : goal.overflow_mul-number
 overflow_mul-number c =
     let short = name-short c.args.name.now c.requires in
-    let fits = number-fits c.loop-place.place c.loop-place.number 0 (omega arith) c.loop-place.invariant.below (omega arith) in
+    let fits =
+    number-fits c.loop-place.place c.loop-place.number 0 (omega arith) c.loop-place.invariant.below (omega arith) in
     omega arith
 
 pub overflow_add-number : goal.overflow_add-number

@@ -52,5 +52,5 @@ fn windows_are_made(rt: HostRuntime) {
     assert!(rt; matches!(shared, Ok(bits) if bits.len() == 8));
     let bits = BitSliceMut::<u8, Lsb0>::from_slice_mut(&mut words);
     assert!(rt; bits.bit_domain().enclave().is_none());
-    assert!(rt; <Lsb0 as WordPaths<u8>>::SPAN == 1 && <Msb0 as WordPaths<u64>>::SPAN == 1);
+    assert!(rt; <Lsb0 as WordPaths<u8>>::SPAN == 64 && <Msb0 as WordPaths<u64>>::SPAN == 64);
 }

@@ -1,6 +1,7 @@
 //! Arrays of bits: the list of a word or of an array of words, owned; and what an array lends.
 #![tactic(auto)]
 
+mod access;
 mod array;
 mod compare;
 mod convert;

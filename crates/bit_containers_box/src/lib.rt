@@ -1,6 +1,7 @@
 //! Bits that do not grow: a list of bits in words of its own.
 #![tactic(auto)]
 
+mod access;
 mod boxed;
 mod compare;
 mod convert;

@@ -117,3 +117,14 @@ last_gone reading words f t x some low fits is =
     ∙ ap (λ ys. piece m f (t - 1 - f) ++ ys)
     (piece_one m (t - 1) (omega (arith, length-memory reading words))
     ∙ ap (λ y. y ∷ []) (entry_memory reading words (t - 1) some ∙ sym is))
+
+-- the bits that are gone stand behind those that stay
+pub gone_place : {T O : Type 0} {g : _} (reading : Reading T) (from upto : ℕ) (old new : BitVec T O g) → from ≤ upto
+    → upto ≤ length (vec_bits reading old) → new.head + new.len ≤ length new.words.items * reading.bits
+    → Cut reading from upto old new
+    → new.head + new.len ≡ old.head + (length (vec_bits reading old) - (upto - from))
+gone_place reading from upto old new ordered within fits cut =
+    let xs = vec_bits reading old in
+    let low : from ≤ length xs = omega arith in
+    let left : length (take from xs ++ drop upto xs) ≡ from + (length xs - upto) = grind (arith, places) in
+    omega (arith, length-bits reading new fits, ap length cut.cut.bits, left, cut.cut.head)

@@ -1,6 +1,7 @@
 //! Bits that grow: a list of bits in a vector of words.
 #![tactic(auto)]
 
+mod access;
 mod compare;
 mod convert;
 mod drain;

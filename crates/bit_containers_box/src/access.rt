@@ -1,0 +1,65 @@
+//! Bits of a box by their indices, to write.
+
+ghost use Rattle.std.specs.Prelude.{◌≡◌, ◌+◌, ◌<◌, ◌↔◌, IfSome, IsSome, length};
+ghost use Rattle.std.specs.Borrow.{RestsIfNone, sem};
+ghost use Rattle.bit_addressing_memory.specs.Memory.{read_by};
+ghost use Rattle.bit_containers_box.specs.Box.{box_bits};
+ghost use Rattle.bit_slice_access.specs.BitMut.{bit_index, bit_loan, bit_view};
+
+use crate::boxed::BitBox;
+use bit_addressing_memory::BitOrder;
+use bit_slice_access::BitMut;
+use bit_slice_views::{BitStore, Bits};
+
+/// The calls of `BitsAccess`, which here say too that a box without such a bit stays as it was.
+impl<T: BitStore, O: BitOrder<T>> BitBox<T, O> {
+    ghost use Rattle.bit_containers_box.specs.contracts.boxed.BitBox.{the_row};
+
+    /// The bit at an index, or `None` where it does not lie in the box.
+    pub fn get_mut(&mut self, i: usize) -> Option<BitMut<'_, BitBox<T, O>>>
+        ensures variant { IsSome result ↔ (i < length (box_bits (read_by T.BitRegister O.position) self.old)) }
+        ensures same_reference { IfSome result (λ bit. bit_loan bit ≡ self.entry.ghost_name) }
+        ensures value { IfSome result (λ bit. bit_view bit ≡ self.old) }
+        ensures index { IfSome result (λ bit. bit_index bit ≡ i) }
+        ensures* rests { sem 𝓛 (RestsIfNone (the_row T.row O.row T.BitRegister) self.entry bit_loan result
+            (λ n. n ≡ self.old)) }
+    {
+        if i < self.len() {
+            Some(BitMut::new(self, i))
+        } else {
+            None
+        }
+    }
+
+    /// The first bit, or `None` of a box without bits.
+    pub fn first_mut(&mut self) -> Option<BitMut<'_, BitBox<T, O>>>
+        ensures variant { IsSome result ↔ (0 < length (box_bits (read_by T.BitRegister O.position) self.old)) }
+        ensures same_reference { IfSome result (λ bit. bit_loan bit ≡ self.entry.ghost_name) }
+        ensures value { IfSome result (λ bit. bit_view bit ≡ self.old) }
+        ensures index { IfSome result (λ bit. bit_index bit ≡ 0) }
+        ensures* rests { sem 𝓛 (RestsIfNone (the_row T.row O.row T.BitRegister) self.entry bit_loan result
+            (λ n. n ≡ self.old)) }
+    {
+        if self.len() == 0 {
+            return None;
+        }
+        Some(BitMut::new(self, 0))
+    }
+
+    /// The last bit, or `None` of a box without bits.
+    pub fn last_mut(&mut self) -> Option<BitMut<'_, BitBox<T, O>>>
+        ensures variant { IsSome result ↔ (0 < length (box_bits (read_by T.BitRegister O.position) self.old)) }
+        ensures same_reference { IfSome result (λ bit. bit_loan bit ≡ self.entry.ghost_name) }
+        ensures value { IfSome result (λ bit. bit_view bit ≡ self.old) }
+        ensures index { IfSome result (λ bit. bit_index bit + 1
+            ≡ length (box_bits (read_by T.BitRegister O.position) self.old)) }
+        ensures* rests { sem 𝓛 (RestsIfNone (the_row T.row O.row T.BitRegister) self.entry bit_loan result
+            (λ n. n ≡ self.old)) }
+    {
+        let len = self.len();
+        if len == 0 {
+            return None;
+        }
+        Some(BitMut::new(self, len - 1))
+    }
+}

@@ -1,4 +1,4 @@
-use Rattle.std.proofs.Common.{map, sym, ap, ◌∙◌}
+use Rattle.std.proofs.Common.{map, sym, ap, ◌∙◌, arith}
 use Rattle.bit_addressing_memory.specs.Memory.{read_by}
 use Rattle.bit_containers_vector.specs.Vector.{vec_bits}
 use Rattle.bit_table_commands.specs.LetterSets.{bears}
@@ -18,3 +18,10 @@ returns-clause-bits g c =
     ∙ sym (column_marked (map (vec_bits reading) lists) n x c.requires
     (column_size reading n lists c.self.invariant x c.requires))
     ∙ ap (map (bears x)) c.self.view_is
+
+-- each list begins in its first word
+pub returns-clause-head : goal.returns-clause-head
+returns-clause-head g c =
+    let h = c.self.invariant in
+    let d = c.index-self-letter.result in
+    c.as_bitslice.ensures.head ∙ (h.each c.args.letter d (omega (arith, h.count, c.requires))).head

@@ -59,7 +59,7 @@ image
 """
 
 # 47 bytes, whose answer has 16; the last line has no line end.
-SMALL = b"low a:u3 b:i4\ninsert 0 5 -1\ninsert 1 2 3\nimage"
+SMALL = b"high a:u3 b:i4\ninsert 0 5 -1\ninsert 1 2 3\nimage"
 
 
 def told(script):

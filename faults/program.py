@@ -17,7 +17,7 @@ from plain import answers
 PROGRAM, SHIM = sys.argv[1:3]
 NO_SEPARATOR = [bytes([byte]) for byte in range(256) if byte not in b"\n \t\r"]
 
-# Each command, and each cause but `full`.
+# Each command, and each cause.
 ALL = b"""high
 low a:u3 b:i4 c:u17
 insert 0 5 -1 70000
@@ -49,7 +49,8 @@ back
 list x
 load 1 000000
 load 0
-load 1 0000ff
+load 1 ff
+load 99999999999999999 00
 back
 delete 0 1
 what

@@ -21,7 +21,7 @@ ORDERS = {
     "lsb0": lambda bits, i: i,
     "msb0": lambda bits, i: bits - 1 - i,
     "hilo": lambda bits, i: i ^ 4,
-    "third": lambda bits, i: (3 * i + 1) % bits,
+    "fifth": lambda bits, i: (5 * i + 3) % bits,
 }
 STORAGES = [(word, order) for word in WORDS if word != "usize" for order in ORDERS]
 MEMORIES = [(word, order) for word in WORDS for order in ORDERS]

@@ -301,7 +301,7 @@ TABLES = [
 
 # Both letters of an operation, and one alone: 29 rows bear both, 41 exactly one. Seventy rows are two steps where a step
 # carries 64 bits, and seventy where it carries one.
-STEPS = {"lsb0": 2, "msb0": 2, "hilo": 70, "third": 70}
+STEPS = {"lsb0": 2, "msb0": 2, "hilo": 70, "fifth": 70}
 COMBINED = [
     (
         SEVENTY[0] + b"!and x y\ncount x\ncount y\n!and y y\ncount y",

@@ -2,7 +2,7 @@
 
 use crate::digits::{digits_case, image_case, row_case};
 use crate::moves::{keep_case, move_case};
-use crate::order::ThirdStep;
+use crate::order::StepsOfFive;
 use crate::text::cut;
 use bit_addressing_sample_orders::texts;
 use bit_addressing_sample_orders::texts::push_word;
@@ -29,7 +29,7 @@ fn in_words<R: BitStore>(alloc: Global, kind: &str, rest: &str) -> Result<String
         "lsb0" => in_order::<R, Lsb0>(alloc, kind, rest),
         "msb0" => in_order::<R, Msb0>(alloc, kind, rest),
         "hilo" => in_order::<R, HiLo>(alloc, kind, rest),
-        "third" => in_order::<R, ThirdStep>(alloc, kind, rest),
+        "fifth" => in_order::<R, StepsOfFive>(alloc, kind, rest),
         _ => "no such order".to_string(alloc),
     }
 }

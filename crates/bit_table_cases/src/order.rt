@@ -8,40 +8,40 @@ use bit_table::{
     digits_by_bits, mask_from_at, select_from_at,
 };
 
-/// Goes by steps of three from position 1, round the word.
+/// Goes by steps of five from position 3, round the word, as `FifthStep` of `bit_addressing_sample_orders` does.
 #[derive(Clone, Copy)]
-pub struct ThirdStep;
+pub struct StepsOfFive;
 
-impl<R: BitRegister> Positions<R> for ThirdStep {
-    ghost position = { λ i. (3 * i + 1) % R.BITS };
+impl<R: BitRegister> Positions<R> for StepsOfFive {
+    ghost position = { λ i. (5 * i + 3) % R.BITS };
 
     fn position_of(index: u8) -> u8 {
-        ((3 * index as u16 + 1) % R::BITS as u16) as u8
+        ((5 * index as u16 + 3) % R::BITS as u16) as u8
     }
 }
 
-impl<R: BitRegister> OrderCandidate<R> for ThirdStep {
-    ghost selector = { selectors_from (λ i. (3 * i + 1) % R.BITS) };
+impl<R: BitRegister> OrderCandidate<R> for StepsOfFive {
+    ghost selector = { selectors_from (λ i. (5 * i + 3) % R.BITS) };
 
-    ghost masked = { masks_from R.BITS (λ i. (3 * i + 1) % R.BITS) };
+    ghost masked = { masks_from R.BITS (λ i. (5 * i + 3) % R.BITS) };
 
     fn selector_of(index: u8) -> R {
-        select_from_at::<R, ThirdStep>(index)
+        select_from_at::<R, StepsOfFive>(index)
     }
 
     fn mask_of(from: Option<u8>, upto: Option<u8>) -> R {
-        mask_from_at::<R, ThirdStep>(from, upto)
+        mask_from_at::<R, StepsOfFive>(from, upto)
     }
 }
 
-impl<R: BitRegister> BitOrder<R> for ThirdStep {
+impl<R: BitRegister> BitOrder<R> for StepsOfFive {
     ghost use Rattle.std.specs.Prelude.{refl};
     ghost use Rattle.bit_table.specs.OrderLaws.{lawful_by_steps};
 
-    ghost lawful = { lawful_by_steps R.BITS 3 1 R.size refl };
+    ghost lawful = { lawful_by_steps R.BITS 5 3 R.size refl };
 }
 
-impl<R: BitRegister> WordPaths<R> for ThirdStep {
+impl<R: BitRegister> WordPaths<R> for StepsOfFive {
     ghost use Rattle.bit_table.specs.PathLaws.{one_span, span_of_one};
 
     ghost SPAN = { 1 };
@@ -56,7 +56,7 @@ impl<R: BitRegister> WordPaths<R> for ThirdStep {
         len: usize,
         steps: &mut Steps,
     ) -> bool {
-        by_bits::equal::<R, ThirdStep>(words, place, others, other_place, len, steps)
+        by_bits::equal::<R, StepsOfFive>(words, place, others, other_place, len, steps)
     }
 
     fn copy(
@@ -67,7 +67,7 @@ impl<R: BitRegister> WordPaths<R> for ThirdStep {
         len: usize,
         steps: &mut Steps,
     ) {
-        by_bits::copy::<R, ThirdStep>(words, place, others, other_place, len, steps);
+        by_bits::copy::<R, StepsOfFive>(words, place, others, other_place, len, steps);
     }
 
     fn swap(
@@ -78,11 +78,11 @@ impl<R: BitRegister> WordPaths<R> for ThirdStep {
         len: usize,
         steps: &mut Steps,
     ) {
-        by_bits::swap::<R, ThirdStep>(words, place, others, other_place, len, steps);
+        by_bits::swap::<R, StepsOfFive>(words, place, others, other_place, len, steps);
     }
 
     fn copy_over(words: &mut [R], source: usize, target: usize, len: usize, steps: &mut Steps) {
-        by_bits::copy_over::<R, ThirdStep>(words, source, target, len, steps);
+        by_bits::copy_over::<R, StepsOfFive>(words, source, target, len, steps);
     }
 
     fn and(
@@ -93,7 +93,7 @@ impl<R: BitRegister> WordPaths<R> for ThirdStep {
         len: usize,
         steps: &mut Steps,
     ) {
-        by_bits::and::<R, ThirdStep>(words, place, others, other_place, len, steps);
+        by_bits::and::<R, StepsOfFive>(words, place, others, other_place, len, steps);
     }
 
     fn or(
@@ -104,7 +104,7 @@ impl<R: BitRegister> WordPaths<R> for ThirdStep {
         len: usize,
         steps: &mut Steps,
     ) {
-        by_bits::or::<R, ThirdStep>(words, place, others, other_place, len, steps);
+        by_bits::or::<R, StepsOfFive>(words, place, others, other_place, len, steps);
     }
 
     fn xor(
@@ -115,7 +115,7 @@ impl<R: BitRegister> WordPaths<R> for ThirdStep {
         len: usize,
         steps: &mut Steps,
     ) {
-        by_bits::xor::<R, ThirdStep>(words, place, others, other_place, len, steps);
+        by_bits::xor::<R, StepsOfFive>(words, place, others, other_place, len, steps);
     }
 
     ghost least_span = { one_span };
@@ -123,7 +123,7 @@ impl<R: BitRegister> WordPaths<R> for ThirdStep {
     ghost most_span = { span_of_one };
 }
 
-impl<R: BitRegister> Digits<R> for ThirdStep {
+impl<R: BitRegister> Digits<R> for StepsOfFive {
     ghost LOW_WORDS = { false };
 
     const LOW_WORDS: bool = false;
@@ -133,7 +133,7 @@ impl<R: BitRegister> Digits<R> for ThirdStep {
     const HIGH_WORDS: bool = false;
 
     fn load_low_at(words: &[R], place: usize, width: u32, signed: bool, steps: &mut Steps) -> i128 {
-        digits_by_bits::load_low_at::<R, ThirdStep>(words, place, width, signed, steps)
+        digits_by_bits::load_low_at::<R, StepsOfFive>(words, place, width, signed, steps)
     }
 
     fn load_high_at(
@@ -143,10 +143,10 @@ impl<R: BitRegister> Digits<R> for ThirdStep {
         signed: bool,
         steps: &mut Steps,
     ) -> i128 {
-        digits_by_bits::load_high_at::<R, ThirdStep>(words, place, width, signed, steps)
+        digits_by_bits::load_high_at::<R, StepsOfFive>(words, place, width, signed, steps)
     }
 
-    fn store_low_at<V: BitsMut<Store = R, Order = ThirdStep>>(
+    fn store_low_at<V: BitsMut<Store = R, Order = StepsOfFive>>(
         view: &mut V,
         at: usize,
         width: u32,
@@ -156,7 +156,7 @@ impl<R: BitRegister> Digits<R> for ThirdStep {
         digits_by_bits::store_low_at::<V>(view, at, width, value, steps);
     }
 
-    fn store_high_at<V: BitsMut<Store = R, Order = ThirdStep>>(
+    fn store_high_at<V: BitsMut<Store = R, Order = StepsOfFive>>(
         view: &mut V,
         at: usize,
         width: u32,

@@ -3,7 +3,7 @@
 ghost use Rattle.std.specs.Prelude.{◌*◌, ◌≤◌};
 ghost use Rattle.bit_table.specs.LayoutLimits.{MAX_ROW_BITS};
 
-use crate::order::ThirdStep;
+use crate::order::StepsOfFive;
 use crate::scripts::run_case;
 use crate::tables::table_case;
 use crate::text::cut;
@@ -31,7 +31,7 @@ fn in_words<A: BitViewSized>(alloc: Global, kind: &str, rest: &str) -> Result<St
         "lsb0" => in_order::<A, Lsb0>(alloc, kind, rest),
         "msb0" => in_order::<A, Msb0>(alloc, kind, rest),
         "hilo" => in_order::<A, HiLo>(alloc, kind, rest),
-        "third" => in_order::<A, ThirdStep>(alloc, kind, rest),
+        "fifth" => in_order::<A, StepsOfFive>(alloc, kind, rest),
         _ => "no such order".to_string(alloc),
     }
 }

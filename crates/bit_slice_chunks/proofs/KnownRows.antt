@@ -25,3 +25,7 @@ first_down = refl
 
 last_down : chunk_bit Descending 0x1 63 ≡ true
 last_down = refl
+
+-- the chunk that begins 0 1 0 0 1 in the other direction
+second_turned : chunk_bit Descending 0x4800000000000000 1 ≡ chunk_bit Ascending 0x12 1
+second_turned = refl

@@ -1,7 +1,7 @@
 -- Chunks: numbers of 64 digits, their bits counted up from the lowest digit or down from the highest.
 --
 -- A bit: `chunk_bit`. What a chunk of a memory is: `IsChunk`. The steps: the other records.
-use Rattle.std.specs.Prelude.{ℕ, ◌+◌, ◌-◌, ◌<◌, ◌≤◌, ◌≡◌, Bool, false, List}
+use Rattle.std.specs.Prelude.{ℕ, ◌+◌, ◌-◌, ◌<◌, ◌≤◌, ◌≡◌, ◌≢◌, Bool, false, List}
 use Rattle.bit_addressing_memory.specs.Bits.{digit_at}
 use Rattle.bit_addressing_memory.specs.Memory.{Reading, entry}
 use Rattle.bit_addressing_memory.specs.declared.direction.Direction.{Direction}
@@ -42,6 +42,21 @@ pub record IsCut (direction : Direction) (chunk count result : ℕ) : Type 0 whe
 pub record IsRest (direction : Direction) (chunk from result : ℕ) : Type 0 where
   pub below : (i : ℕ) → i < from → chunk_bit direction result i ≡ false
   pub above : (i : ℕ) → from ≤ i → i < 64 → chunk_bit direction result i ≡ chunk_bit direction chunk i
+
+-- the bits of a chunk in a direction are those of another in a direction of its own
+abbrev pub IsFaced : Direction → Direction → ℕ → ℕ → Type 0
+IsFaced from to chunk result = (i : ℕ) → i < 64 → chunk_bit to result i ≡ chunk_bit from chunk i
+
+-- the first bits of a chunk are those of another, the last of them first
+abbrev pub IsTurned : Direction → ℕ → ℕ → ℕ → Type 0
+IsTurned direction chunk count result =
+    (i : ℕ) → i < count → chunk_bit direction result i ≡ chunk_bit direction chunk (count - 1 - i)
+
+-- two chunks have the same bits before bit `at`, where they have not; at 64, all the same
+pub record AgreeTo (direction : Direction) (chunk other at : ℕ) : Type 0 where
+  pub most : at ≤ 64
+  pub same : (i : ℕ) → i < at → chunk_bit direction chunk i ≡ chunk_bit direction other i
+  pub differ : at < 64 → chunk_bit direction chunk at ≢ chunk_bit direction other at
 
 -- the chunk has the digits of a word n of b bits from an index on
 pub record IsPart (direction : Direction) (b n from chunk : ℕ) : Type 0 where

@@ -3,6 +3,7 @@
 ghost use Rattle.std.specs.Prelude.{◌≡◌, ℕ, ◌+◌, ◌-◌, ◌*◌, ◌/◌, ◌%◌, ◌^◌, ◌<◌, ◌≤◌, false};
 ghost use Rattle.bit_addressing_memory.specs.declared.direction.Direction.{Direction};
 ghost use Rattle.bit_slice_chunks.specs.Chunk.{chunk_bit, word_bit, IsLowered, IsRaised, IsPart, IsPlaced, IsCut, IsRest};
+ghost use Rattle.bit_slice_chunks.specs.Chunk.{IsFaced, IsTurned};
 
 use bit_addressing_memory::{BitRegister, Direction};
 
@@ -48,6 +49,28 @@ pub fn last_bits(direction: Direction, chunk: u64, from: u8) -> u64
     ensures { IsRest direction chunk from result }
 {
     raised(direction, lowered(direction, chunk, from), from)
+}
+
+/// The chunk of the direction `to` that has the bits of a chunk of the direction `from`, in the same places.
+#[inline(always)]
+pub fn faced(from: Direction, to: Direction, chunk: u64) -> u64
+    ensures { IsFaced from to chunk result }
+{
+    if from == to {
+        chunk
+    } else {
+        chunk.reverse_bits()
+    }
+}
+
+/// The chunk whose first `count` bits, 1 to 64, are those of another in reverse.
+#[inline(always)]
+pub fn turned(direction: Direction, chunk: u64, count: u8) -> u64
+    requires some { 0 < count }
+    requires few { count ≤ 64 }
+    ensures { IsTurned direction chunk count result }
+{
+    lowered(direction, chunk.reverse_bits(), 64 - count)
 }
 
 // The bits of a word from an index on, as many as a chunk has, and zeros behind them.

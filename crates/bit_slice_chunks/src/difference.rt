@@ -1,0 +1,20 @@
+//! Where two chunks differ.
+
+ghost use Rattle.std.specs.Prelude.{◌≡◌, ℕ};
+ghost use Rattle.bit_addressing_memory.specs.declared.direction.Direction.{Direction};
+ghost use Rattle.bit_slice_chunks.specs.Chunk.{AgreeTo};
+
+use crate::chunk::faced;
+use bit_addressing_memory::Direction;
+
+/// The first bit in which two chunks differ: 64 where they have the same bits.
+#[inline(always)]
+pub fn first_difference(direction: Direction, chunk: u64, other: u64) -> usize
+    ensures { AgreeTo direction chunk other result }
+{
+    let differ = faced(direction, Direction::Ascending, chunk ^ other);
+    if differ == 0 {
+        return 64;
+    }
+    differ.trailing_zeros() as usize
+}

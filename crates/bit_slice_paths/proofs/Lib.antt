@@ -1,2 +1,4 @@
+pub mod AcrossLemmas
+pub mod MirrorLemmas
 pub mod StepLemmas
 pub mod WalkLemmas

@@ -1,3 +1,5 @@
+pub mod Agrees
+pub mod Mirrored
 pub mod Steps
 -- what public clauses cite of the crates below
 pub use Rattle.bit_addressing_memory.specs.BitOrder

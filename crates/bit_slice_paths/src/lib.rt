@@ -1,7 +1,9 @@
 //! Word paths by chunks, a step a chunk, and the count of steps.
 #![tactic(auto)]
 
+pub mod across;
 pub mod by_words;
+pub mod mirror;
 mod steps;
 
 pub use bit_slice_chunks::Combination;

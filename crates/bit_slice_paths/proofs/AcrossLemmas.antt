@@ -1,0 +1,51 @@
+-- How far two stretches are the same, chunk by chunk.
+use Rattle.std.proofs.Common.{◌≡◌, ℕ, ◌+◌, ◌<◌, ◌≤◌, List, min, refl, sym, ◌∙◌, arith}
+use Rattle.bit_addressing_memory.specs.Memory.{Reading, entry}
+use Rattle.bit_addressing_memory.specs.declared.direction.Direction.{Direction}
+use Rattle.bit_slice_chunks.specs.Chunk.{IsChunk, AgreeTo}
+use Rattle.bit_slice_paths.specs.Agrees.{Agrees}
+use Rattle.bit_slice_paths.proofs.WalkLemmas.{equal_more}
+
+-- the first bit in which the chunks of two memories differ, among the first n
+pub agrees_chunk : {R Q : Type 0} (reading : Reading R) (its : Reading Q) (words : List R) (others : List Q)
+    (place other_place n : ℕ) (direction : Direction) (x y at r : ℕ) → n ≤ 64
+    → IsChunk reading words place n direction x → IsChunk its others other_place n direction y
+    → AgreeTo direction x y at → r ≡ min at n → Agrees reading words place its others other_place n r
+agrees_chunk reading its words others place other_place n direction x y at r few mine theirs agree least = record {
+  most = omega arith;
+  same = λ k low.
+      sym (mine.inside k (omega arith))
+      ∙ agree.same k (omega arith)
+      ∙ theirs.inside k (omega arith);
+  differ = λ low same.
+      let is : r ≡ at = omega arith in
+      agree.differ (omega arith) (
+      rw is at (mine.inside r low ∙ same ∙ sym (theirs.inside r low))
+      );
+}
+
+-- stretches that are the same for n bits, and how far the m bits behind them are
+pub agrees_more : {R Q : Type 0} (reading : Reading R) (its : Reading Q) (words : List R) (others : List Q)
+    (place other_place n m all at : ℕ) → n + m ≤ all → (n + at < all → at < m)
+    → ((k : ℕ) → k < n → entry reading words (place + k) ≡ entry its others (other_place + k))
+    → Agrees reading words (place + n) its others (other_place + n) m at
+    → Agrees reading words place its others other_place all (n + at)
+agrees_more reading its words others place other_place n m all at inside behind had more =
+    let here : place + n + at ≡ place + (n + at) = omega arith in
+    let there : other_place + n + at ≡ other_place + (n + at) = omega arith in
+    record {
+      most = omega (arith, more.most);
+      same = λ k low. equal_more reading its words others place other_place n at (n + at) refl had more.same k low;
+      differ = λ low same. more.differ (behind low) (rw (here, there) same);
+    }
+
+-- stretches that are the same throughout
+pub agrees_all : {R Q : Type 0} (reading : Reading R) (its : Reading Q) (words : List R) (others : List Q)
+    (place other_place n : ℕ)
+    → ((k : ℕ) → k < n → entry reading words (place + k) ≡ entry its others (other_place + k))
+    → Agrees reading words place its others other_place n n
+agrees_all reading its words others place other_place n same = record {
+  most = omega arith;
+  same = same;
+  differ = λ low. absurd (omega arith);
+}

@@ -1,0 +1,11 @@
+use Rattle.bit_addressing_memory.specs.Memory.{read_by}
+use Rattle.bit_slice_paths.proofs.MirrorLemmas.{mirrored_chunks}
+use Rattle.bit_slice_paths.proofs.mirror.turn_ends.Goals as goal
+
+pub returns : goal.returns
+returns g c =
+    mirrored_chunks (read_by g.R.BitRegister g.O.Positions.position) c.args.words.now c.write_bits.new.words
+    c.write_bits-2.new.words c.args.first c.args.second c.args.count c.args.direction c.read_bits-front.result
+    c.read_bits-back.result c.turned-new_back.result c.turned-new_front.result c.requires.apart
+    c.read_bits-front.ensures c.read_bits-back.ensures c.turned-new_back.ensures c.turned-new_front.ensures
+    c.write_bits.ensures c.write_bits-2.ensures

@@ -1,0 +1,253 @@
+//! Walks between two memories by chunks of 64 bits. Each goes straight in a direction of its own: a chunk of the other
+//! one is turned to the direction of the first.
+
+ghost use Rattle.std.specs.Prelude.{◌≡◌, ℕ, ◌+◌, ◌*◌, ◌^◌, ◌<◌, ◌≤◌, length};
+ghost use Rattle.bit_addressing_memory.specs.Memory.{read_by};
+ghost use Rattle.bit_addressing_memory.specs.Straight.{Goes};
+ghost use Rattle.bit_slice_chunks.specs.Chunk.{IsChunk};
+ghost use Rattle.bit_slice_chunks.specs.Combined.{combined_bit, Combines};
+ghost use Rattle.bit_slice_paths.specs.Agrees.{Agrees};
+
+use bit_addressing_memory::{BitOrder, BitRegister, Direction};
+use bit_slice_chunks::{
+    Combination, combine_bits, combine_chunk, faced, first_difference, read_bits, read_chunk,
+};
+
+// The 64 bits of a memory from a place on, as a chunk of another direction.
+#[inline(always)]
+fn whole_facing<R: BitRegister, O: BitOrder<R>>(
+    from: Direction,
+    to: Direction,
+    words: &[R],
+    place: usize,
+) -> u64
+    requires goes { Goes R.BITS O.position from }
+    requires within { place + 64 ≤ length words.now * R.BITS }
+    requires ends { place + 64 < 2 ^ 64 }
+    ensures { IsChunk (read_by R.BitRegister O.position) words.now place 64 to result }
+{
+    faced(from, to, read_chunk::<R, O>(from, words, place))
+}
+
+// Up to 64 bits of a memory from a place on, as a chunk of another direction.
+#[inline(always)]
+fn rest_facing<R: BitRegister, O: BitOrder<R>>(
+    from: Direction,
+    to: Direction,
+    words: &[R],
+    place: usize,
+    count: usize,
+) -> u64
+    requires goes { Goes R.BITS O.position from }
+    requires some { 0 < count }
+    requires few { count ≤ 64 }
+    requires within { place + count ≤ length words.now * R.BITS }
+    requires ends { place + count < 2 ^ 64 }
+    ensures { IsChunk (read_by R.BitRegister O.position) words.now place count to result }
+{
+    faced(from, to, read_bits::<R, O>(from, words, place, count))
+}
+
+// Combines 64 bits.
+#[inline(always)]
+fn combine_whole<R: BitRegister, O: BitOrder<R>, Q: BitRegister, P: BitOrder<Q>>(
+    direction: Direction,
+    other_direction: Direction,
+    how: Combination,
+    words: &mut [R],
+    place: usize,
+    others: &[Q],
+    other_place: usize,
+)
+    requires goes { Goes R.BITS O.position direction }
+    requires other_goes { Goes Q.BITS P.position other_direction }
+    requires within { place + 64 ≤ length words.old * R.BITS }
+    requires ends { place + 64 < 2 ^ 64 }
+    requires other_within { other_place + 64 ≤ length others.now * Q.BITS }
+    requires other_ends { other_place + 64 < 2 ^ 64 }
+    ensures { Combines (read_by R.BitRegister O.position) words.old words.new place 64
+        (combined_bit how) (read_by Q.BitRegister P.position) others.now other_place }
+{
+    let other = whole_facing::<Q, P>(other_direction, direction, others, other_place);
+    combine_chunk::<R, O>(direction, how, words, place, other);
+}
+
+// Combines up to 64 bits.
+#[inline(never)]
+fn combine_rest<R: BitRegister, O: BitOrder<R>, Q: BitRegister, P: BitOrder<Q>>(
+    direction: Direction,
+    other_direction: Direction,
+    how: Combination,
+    words: &mut [R],
+    place: usize,
+    others: &[Q],
+    other_place: usize,
+    count: usize,
+)
+    requires goes { Goes R.BITS O.position direction }
+    requires other_goes { Goes Q.BITS P.position other_direction }
+    requires some { 0 < count }
+    requires few { count ≤ 64 }
+    requires within { place + count ≤ length words.old * R.BITS }
+    requires ends { place + count < 2 ^ 64 }
+    requires other_within { other_place + count ≤ length others.now * Q.BITS }
+    requires other_ends { other_place + count < 2 ^ 64 }
+    ensures { Combines (read_by R.BitRegister O.position) words.old words.new place count
+        (combined_bit how) (read_by Q.BitRegister P.position) others.now other_place }
+{
+    let other = rest_facing::<Q, P>(other_direction, direction, others, other_place, count);
+    combine_bits::<R, O>(direction, how, words, place, count, other);
+}
+
+/// Combines each of `len` bits with one of another memory; by `Combination::Take` it is a copy.
+#[inline(always)]
+pub fn combine<R: BitRegister, O: BitOrder<R>, Q: BitRegister, P: BitOrder<Q>>(
+    direction: Direction,
+    other_direction: Direction,
+    how: Combination,
+    words: &mut [R],
+    place: usize,
+    others: &[Q],
+    other_place: usize,
+    len: usize,
+)
+    requires goes { Goes R.BITS O.position direction }
+    requires other_goes { Goes Q.BITS P.position other_direction }
+    requires within { place + len ≤ length words.old * R.BITS }
+    requires ends { place + len < 2 ^ 64 }
+    requires other_within { other_place + len ≤ length others.now * Q.BITS }
+    requires other_ends { other_place + len < 2 ^ 64 }
+    ensures { Combines (read_by R.BitRegister O.position) words.old words.new place len
+        (combined_bit how) (read_by Q.BitRegister P.position) others.now other_place }
+{
+    let whole = len / 64;
+    let rest = len % 64;
+    for k in 0..whole {
+        let done = 64 * k;
+        combine_whole::<R, O, Q, P>(
+            direction,
+            other_direction,
+            how,
+            words,
+            place + done,
+            others,
+            other_place + done,
+        );
+    }
+    if rest > 0 {
+        let done = 64 * whole;
+        combine_rest::<R, O, Q, P>(
+            direction,
+            other_direction,
+            how,
+            words,
+            place + done,
+            others,
+            other_place + done,
+            rest,
+        );
+    }
+}
+
+// The first of 64 bits that differ.
+#[inline(always)]
+fn difference_of_whole<R: BitRegister, O: BitOrder<R>, Q: BitRegister, P: BitOrder<Q>>(
+    direction: Direction,
+    other_direction: Direction,
+    words: &[R],
+    place: usize,
+    others: &[Q],
+    other_place: usize,
+) -> usize
+    requires goes { Goes R.BITS O.position direction }
+    requires other_goes { Goes Q.BITS P.position other_direction }
+    requires within { place + 64 ≤ length words.now * R.BITS }
+    requires ends { place + 64 < 2 ^ 64 }
+    requires other_within { other_place + 64 ≤ length others.now * Q.BITS }
+    requires other_ends { other_place + 64 < 2 ^ 64 }
+    ensures { Agrees (read_by R.BitRegister O.position) words.now place
+        (read_by Q.BitRegister P.position) others.now other_place 64 result }
+{
+    let chunk = read_chunk::<R, O>(direction, words, place);
+    let other = whole_facing::<Q, P>(other_direction, direction, others, other_place);
+    first_difference(direction, chunk, other)
+}
+
+// The first of up to 64 bits that differ.
+#[inline(never)]
+fn difference_of_rest<R: BitRegister, O: BitOrder<R>, Q: BitRegister, P: BitOrder<Q>>(
+    direction: Direction,
+    other_direction: Direction,
+    words: &[R],
+    place: usize,
+    others: &[Q],
+    other_place: usize,
+    count: usize,
+) -> usize
+    requires goes { Goes R.BITS O.position direction }
+    requires other_goes { Goes Q.BITS P.position other_direction }
+    requires some { 0 < count }
+    requires few { count ≤ 64 }
+    requires within { place + count ≤ length words.now * R.BITS }
+    requires ends { place + count < 2 ^ 64 }
+    requires other_within { other_place + count ≤ length others.now * Q.BITS }
+    requires other_ends { other_place + count < 2 ^ 64 }
+    ensures { Agrees (read_by R.BitRegister O.position) words.now place
+        (read_by Q.BitRegister P.position) others.now other_place count result }
+{
+    let chunk = read_bits::<R, O>(direction, words, place, count);
+    let other = rest_facing::<Q, P>(other_direction, direction, others, other_place, count);
+    first_difference(direction, chunk, other).min(count)
+}
+
+/// The first of `len` bits that is not as that of another memory: `len` where none is.
+#[inline(always)]
+pub fn difference<R: BitRegister, O: BitOrder<R>, Q: BitRegister, P: BitOrder<Q>>(
+    direction: Direction,
+    other_direction: Direction,
+    words: &[R],
+    place: usize,
+    others: &[Q],
+    other_place: usize,
+    len: usize,
+) -> usize
+    requires goes { Goes R.BITS O.position direction }
+    requires other_goes { Goes Q.BITS P.position other_direction }
+    requires within { place + len ≤ length words.now * R.BITS }
+    requires ends { place + len < 2 ^ 64 }
+    requires other_within { other_place + len ≤ length others.now * Q.BITS }
+    requires other_ends { other_place + len < 2 ^ 64 }
+    ensures { Agrees (read_by R.BitRegister O.position) words.now place
+        (read_by Q.BitRegister P.position) others.now other_place len result }
+{
+    let whole = len / 64;
+    let rest = len % 64;
+    for k in 0..whole {
+        let done = 64 * k;
+        let same = difference_of_whole::<R, O, Q, P>(
+            direction,
+            other_direction,
+            words,
+            place + done,
+            others,
+            other_place + done,
+        );
+        if same < 64 {
+            return done + same;
+        }
+    }
+    if rest == 0 {
+        return len;
+    }
+    let done = 64 * whole;
+    let same = difference_of_rest::<R, O, Q, P>(
+        direction,
+        other_direction,
+        words,
+        place + done,
+        others,
+        other_place + done,
+        rest,
+    );
+    done + same
+}

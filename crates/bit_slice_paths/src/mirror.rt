@@ -1,0 +1,112 @@
+//! Bits of one memory in reverse, by chunks of 64: one from each end at a time, each of them turned round.
+
+ghost use Rattle.std.specs.Prelude.{ℕ, ◌+◌, ◌-◌, ◌*◌, ◌^◌, ◌<◌, ◌≤◌, length};
+ghost use Rattle.bit_addressing_memory.specs.Memory.{entry, read_by, Overwrites};
+ghost use Rattle.bit_addressing_memory.specs.Straight.{Goes};
+ghost use Rattle.bit_slice_paths.specs.Mirrored.{Mirrored};
+
+use bit_addressing_memory::{BitOrder, BitRegister, Direction};
+use bit_slice_chunks::{read_bits, read_chunk, turned, write_bits, write_chunk};
+
+// Exchanges 64 bits with 64 behind them, both in reverse.
+#[inline(always)]
+fn turn_wholes<R: BitRegister, O: BitOrder<R>>(
+    direction: Direction,
+    words: &mut [R],
+    first: usize,
+    second: usize,
+)
+    requires goes { Goes R.BITS O.position direction }
+    requires apart { first + 64 ≤ second }
+    requires within { second + 64 ≤ length words.old * R.BITS }
+    requires ends { second + 64 < 2 ^ 64 }
+    ensures { Mirrored (read_by R.BitRegister O.position) words.old words.new first
+        (second + 64 - first) 64 }
+{
+    let front = read_chunk::<R, O>(direction, words, first);
+    let back = read_chunk::<R, O>(direction, words, second);
+    write_chunk::<R, O>(direction, words, first, turned(direction, back, 64));
+    write_chunk::<R, O>(direction, words, second, turned(direction, front, 64));
+}
+
+// Exchanges up to 64 bits with as many behind them, both in reverse.
+#[inline(never)]
+fn turn_ends<R: BitRegister, O: BitOrder<R>>(
+    direction: Direction,
+    words: &mut [R],
+    first: usize,
+    second: usize,
+    count: usize,
+)
+    requires goes { Goes R.BITS O.position direction }
+    requires some { 0 < count }
+    requires few { count ≤ 64 }
+    requires apart { first + count ≤ second }
+    requires within { second + count ≤ length words.old * R.BITS }
+    requires ends { second + count < 2 ^ 64 }
+    ensures { Mirrored (read_by R.BitRegister O.position) words.old words.new first
+        (second + count - first) count }
+{
+    let front = read_bits::<R, O>(direction, words, first, count);
+    let back = read_bits::<R, O>(direction, words, second, count);
+    let new_front = turned(direction, back, count as u8);
+    let new_back = turned(direction, front, count as u8);
+    write_bits::<R, O>(direction, words, first, count, new_front);
+    write_bits::<R, O>(direction, words, second, count, new_back);
+}
+
+// Turns up to 64 bits round.
+#[inline(never)]
+fn turn_rest<R: BitRegister, O: BitOrder<R>>(
+    direction: Direction,
+    words: &mut [R],
+    place: usize,
+    count: usize,
+)
+    requires goes { Goes R.BITS O.position direction }
+    requires some { 0 < count }
+    requires few { count ≤ 64 }
+    requires within { place + count ≤ length words.old * R.BITS }
+    requires ends { place + count < 2 ^ 64 }
+    ensures { Overwrites (read_by R.BitRegister O.position) words.old words.new place count
+        (λ k. entry (read_by R.BitRegister O.position) words.old (place + (count - 1 - k))) }
+{
+    let chunk = read_bits::<R, O>(direction, words, place, count);
+    let round = turned(direction, chunk, count as u8);
+    write_bits::<R, O>(direction, words, place, count, round);
+}
+
+/// Turns `len` bits round: the last comes first.
+#[inline(always)]
+pub fn reverse<R: BitRegister, O: BitOrder<R>>(
+    direction: Direction,
+    words: &mut [R],
+    place: usize,
+    len: usize,
+)
+    requires goes { Goes R.BITS O.position direction }
+    requires within { place + len ≤ length words.old * R.BITS }
+    requires ends { place + len < 2 ^ 64 }
+    ensures { Overwrites (read_by R.BitRegister O.position) words.old words.new place len
+        (λ k. entry (read_by R.BitRegister O.position) words.old (place + (len - 1 - k))) }
+{
+    let whole = len / 128;
+    for k in 0..whole {
+        let done = 64 * k;
+        turn_wholes::<R, O>(direction, words, place + done, place + (len - done - 64));
+    }
+    let done = 64 * whole;
+    let left = len % 128;
+    if left > 64 {
+        let half = left / 2;
+        turn_ends::<R, O>(
+            direction,
+            words,
+            place + done,
+            place + (len - done - half),
+            half,
+        );
+    } else if left > 1 {
+        turn_rest::<R, O>(direction, words, place + done, left);
+    }
+}

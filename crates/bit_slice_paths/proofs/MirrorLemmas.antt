@@ -8,9 +8,9 @@ use Rattle.bit_slice_chunks.specs.Chunk.{chunk_bit, IsChunk, IsTurned}
 use Rattle.bit_slice_paths.specs.Mirrored.{Mirrored}
 
 -- before the first exchange
-pub mirrored_none : {R : Type 0} (reading : Reading R) (words : List R) (place n i : ℕ) → i ≡ 0
-    → Mirrored reading words words place n i
-mirrored_none reading words place n i none = record {
+pub mirrored_none : {R : Type 0} (reading : Reading R) (words : List R) (place n : ℕ)
+    → Mirrored reading words words place n 0
+mirrored_none reading words place n = record {
   front = λ k h. absurd (omega arith);
   back = λ k h. absurd (omega arith);
   others = λ p h g. refl;

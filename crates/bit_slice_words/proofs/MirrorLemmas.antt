@@ -1,19 +1,10 @@
--- A stretch turned round, by exchanges from its two ends.
-use Rattle.std.proofs.Common.{◌≡◌, ℕ, ◌+◌, ◌-◌, ◌/◌, ◌<◌, ◌≤◌, List, refl, sym, ap, ◌∙◌, inl, inr, arith}
+-- A stretch turned round bit by bit, by exchanges from its two ends.
+use Rattle.std.proofs.Common.{◌≡◌, ℕ, ◌+◌, ◌-◌, ◌/◌, ◌<◌, ◌≤◌, List, sym, ap, ◌∙◌, inl, inr, arith}
 use Rattle.std.proofs.Common.{below_more}
 use Rattle.std.proofs.lemmas.Bool.{cases_lt}
-use Rattle.bit_addressing_memory.specs.Memory.{Reading, entry, Overwrites, Swaps}
-use Rattle.bit_slice_words.specs.Edits.{Mirrored}
-
--- before the first exchange
-pub mirrored_none : {R : Type 0} (reading : Reading R) (words : List R) (place n : ℕ)
-    → Mirrored reading words words place n 0
-mirrored_none reading words place n = record {
-  front = λ k h. absurd (omega arith);
-  back = λ k h. absurd (omega arith);
-  others = λ p h g. refl;
-  words = refl;
-}
+use Rattle.bit_addressing_memory.specs.Memory.{Reading, entry, Swaps}
+use Rattle.bit_slice_paths.specs.Mirrored.{Mirrored}
+use Rattle.bit_slice_paths.proofs.MirrorLemmas.{mirrored_none, mirrored_all}
 
 -- one more exchange
 pub mirrored_more : {R : Type 0} (reading : Reading R) (before now after : List R) (place n i : ℕ)
@@ -52,26 +43,5 @@ mirrored_more reading before now after place n i low had swapped =
       | inl inside ↦ let near = g inside in omega arith
       | inr out ↦ omega arith
     ]
-
--- all of them
-pub mirrored_all : {R : Type 0} (reading : Reading R) (before after : List R) (place n i : ℕ) → i ≡ n / 2
-    → Mirrored reading before after place n i
-    → Overwrites reading before after place n (λ k. entry reading before (place + (n - 1 - k)))
-mirrored_all reading before after place n i half had = record {
-  there = λ k small. elim (cases_lt k i) [
-    | inl front ↦ had.front k front
-    | inr later ↦ elim (cases_lt (n - 1 - k) i) [
-      | inl back ↦
-          let twice : place + (n - 1 - (n - 1 - k)) ≡ place + k = omega arith in
-          ap (entry reading after) (sym twice) ∙ had.back (n - 1 - k) back
-      | inr middle ↦
-          let same : place + k ≡ place + (n - 1 - k) = omega arith in
-          had.others (place + k) (λ le. omega arith) (λ lt. omega arith) ∙ ap (entry reading before) same
-    ]
-  ];
-  below = λ p low. had.others p (λ le. omega arith) (λ lt. omega arith);
-  above = λ p high. had.others p (λ le. omega arith) (λ lt. omega arith);
-  words = had.words;
-}
 
 pub ruleset mirror_steps = (mirrored_none, mirrored_more, mirrored_all)

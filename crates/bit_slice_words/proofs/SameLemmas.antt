@@ -1,12 +1,13 @@
 -- Tests and answers: `differ_tested`, `answers_yes`, `answers_no`. Bits of two memories: `windows_equal`,
--- `windows_differ`. One list in another: `holds_empty`, `holds_here`, `holds_none`, `holds_short`.
-use Rattle.std.proofs.Common.{◌≡◌, ◌≢◌, ℕ, ◌+◌, ◌*◌, ◌<◌, ◌≤◌, ◌↔◌, Bool, true, false, not, IsTrue, List, [], ◌∷◌}
-use Rattle.std.proofs.Common.{length, get_or, refl, sym, ap, ◌∙◌, arith}
+-- `windows_differ`, `windows_agree`. One list in another: `holds_empty`, `holds_here`, `holds_none`, `holds_short`.
+use Rattle.std.proofs.Common.{◌≡◌, ◌≢◌, ℕ, ◌+◌, ◌*◌, ◌<◌, ◌≤◌, ◌↔◌, ◌==◌, IsTrue}
+use Rattle.std.proofs.Common.{Bool, true, false, not, List, [], ◌∷◌, length, get_or, refl, sym, ap, ◌∙◌, inl, inr, arith}
 use Rattle.std.proofs.Math.Bool.{beq}
-use Rattle.std.proofs.lemmas.Bool.{false≢true}
+use Rattle.std.proofs.lemmas.Bool.{cases_lt, eqb-true, eq-eqb, false≢true}
 use Rattle.bit_addressing_memory.specs.Memory.{Reading, entry, memory, piece}
 use Rattle.bit_addressing_memory.proofs.MemoryLemmas.{piece_none, piece_piece}
 use Rattle.bit_addressing_memory.proofs.WindowLemmas.{length-window, window_bit, window_is}
+use Rattle.bit_slice_paths.specs.Agrees.{Agrees}
 use Rattle.bit_slice_words.specs.Holds.{Holds}
 
 -- ---- what a test of two bits tells, and what an answer does
@@ -51,6 +52,24 @@ windows_differ reading words its others place other_place len k x y some its_som
     ∙ window_bit its others other_place len k its_some low
     ∙ sym is_y
     )
+
+-- how far they agree tells whether they are equal
+pub windows_agree : {R Q : Type 0} (reading : Reading R) (words : List R) (its : Reading Q) (others : List Q)
+    (place other_place len at : ℕ) → 0 < reading.bits → 0 < its.bits → place + len ≤ length words * reading.bits
+    → other_place + len ≤ length others * its.bits → Agrees reading words place its others other_place len at
+    → IsTrue (at == len) ↔ (piece (memory reading words) place len ≡ piece (memory its others) other_place len)
+windows_agree reading words its others place other_place len at some its_some fits its_fit agree = (
+  λ test.
+      let all : at ≡ len = eqb-true at len test in
+      windows_equal reading words its others place other_place len some its_some fits its_fit
+      (λ k low. agree.same k (omega arith)),
+  λ same. elim (cases_lt at len) [
+    | inl low ↦
+        absurd (windows_differ reading words its others place other_place len at (entry reading words (place + at))
+        (entry its others (other_place + at)) some its_some low refl refl (agree.differ low) same)
+    | inr past ↦ eq-eqb at len (omega (arith, agree.most))
+  ],
+)
 
 -- ---- one list in another
 

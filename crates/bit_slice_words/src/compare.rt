@@ -5,6 +5,7 @@ ghost use Rattle.std.specs.Cmp.Lexicographic.{slice_cmp};
 ghost use Rattle.std.specs.Ordering.{bool_cmp};
 ghost use Rattle.bit_addressing_memory.specs.Memory.{memory, piece, read_by};
 
+use crate::agree::agree_in;
 use bit_addressing_memory::{BitOrder, BitRegister, read_entry};
 use std::cmp::Ordering;
 
@@ -28,12 +29,12 @@ pub fn compare_in<R: BitRegister, O: BitOrder<R>, Q: BitRegister, P: BitOrder<Q>
     ensures { result ≡ slice_cmp bool_cmp (piece (memory (read_by R.BitRegister O.position) words.now) place len)
         (piece (memory (read_by Q.BitRegister P.position) others.now) other_place other_len) }
 {
-    for i in 0..len.min(other_len) {
-        let bit = read_entry::<R, O>(words, place + i);
-        let other = read_entry::<Q, P>(others, other_place + i);
-        if bit != other {
-            return bit.cmp(&other);
-        }
+    let shorter = len.min(other_len);
+    let same = agree_in::<R, O, Q, P>(words, place, others, other_place, shorter);
+    if same < shorter {
+        let bit = read_entry::<R, O>(words, place + same);
+        let other = read_entry::<Q, P>(others, other_place + same);
+        return bit.cmp(&other);
     }
     len.cmp(&other_len)
 }

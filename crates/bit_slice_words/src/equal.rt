@@ -3,7 +3,8 @@
 ghost use Rattle.std.specs.Prelude.{◌≡◌, ◌+◌, ◌*◌, ◌^◌, ◌<◌, ◌≤◌, ◌↔◌, length, IsTrue};
 ghost use Rattle.bit_addressing_memory.specs.Memory.{memory, piece, read_by};
 
-use bit_addressing_memory::{BitOrder, BitRegister, read_entry};
+use crate::agree::agree_in;
+use bit_addressing_memory::{BitOrder, BitRegister};
 
 /// Whether the `len` bits of the memory `words` from a place on are those of the memory `others` from another place
 /// on, in order. No bits are equal to no bits.
@@ -23,11 +24,5 @@ pub fn equal_in<R: BitRegister, O: BitOrder<R>, Q: BitRegister, P: BitOrder<Q>>(
     ensures { IsTrue result ↔ (piece (memory (read_by R.BitRegister O.position) words.now) place len
         ≡ piece (memory (read_by Q.BitRegister P.position) others.now) other_place len) }
 {
-    for i in 0..len {
-        let bit = read_entry::<R, O>(words, place + i);
-        if bit != read_entry::<Q, P>(others, other_place + i) {
-            return false;
-        }
-    }
-    true
+    agree_in::<R, O, Q, P>(words, place, others, other_place, len) == len
 }

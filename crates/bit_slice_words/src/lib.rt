@@ -1,11 +1,13 @@
 //! Work on stretches of bits in words, for every order: scans, changes, and word paths, which an order may make quick.
 #![tactic(auto)]
 
+mod agree;
 pub mod by_bits;
 mod change;
 mod combine;
 mod compare;
 mod contains;
+mod copy;
 mod count;
 mod edges;
 mod equal;
@@ -19,11 +21,13 @@ mod paths;
 mod reverse;
 mod rotate;
 mod shift;
+mod straight;
 
 pub use bit_slice_paths::Steps;
 pub use combine::{and_in, or_in, xor_in};
 pub use compare::compare_in;
 pub use contains::contains_in;
+pub use copy::copy_in;
 pub use count::{count_ones_in, count_zeros_in};
 pub use edges::{Edges, between, edges_of};
 pub use equal::equal_in;

@@ -1,8 +1,8 @@
 use Rattle.std.proofs.Common.{◌≡◌, ℕ, ◌+◌, ◌<◌}
 use Rattle.bit_addressing_memory.specs.Memory.{entry, read_by}
-use Rattle.bit_slice_words.proofs.equal.equal_in.Given as goal
+use Rattle.bit_slice_words.proofs.agree.agree_by_bits.Given as goal
 
--- the bits so far are equal
+-- the bits so far are the same
 abbrev pub invariant-loop-i : goal.invariant-loop-i
 invariant-loop-i g l =
     (k : ℕ) → k < l.i

@@ -1,6 +1,6 @@
 use Rattle.bit_addressing_memory.specs.Memory.{read_by}
-use Rattle.bit_slice_words.specs.Edits.{Mirrored}
-use Rattle.bit_slice_words.proofs.reverse.reverse_in.Given as goal
+use Rattle.bit_slice_paths.specs.Mirrored.{Mirrored}
+use Rattle.bit_slice_words.proofs.reverse.reverse_by_bits.Given as goal
 
 abbrev pub invariant-loop-k : goal.invariant-loop-k
 invariant-loop-k g l =

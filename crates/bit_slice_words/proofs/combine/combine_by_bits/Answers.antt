@@ -1,7 +1,7 @@
 use Rattle.bit_addressing_memory.specs.Memory.{read_by}
 use Rattle.bit_slice_paths.specs.Combined.{combined_bit}
 use Rattle.bit_slice_words.proofs.ChangedStretchLemmas.{combines_more}
-use Rattle.bit_slice_words.proofs.combine.combine_in.Goals as goal
+use Rattle.bit_slice_words.proofs.combine.combine_by_bits.Goals as goal
 
 pub loop-k-preserved : goal.loop-k-preserved
 loop-k-preserved g c =

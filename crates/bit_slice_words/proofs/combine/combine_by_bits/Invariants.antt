@@ -1,6 +1,6 @@
 use Rattle.bit_addressing_memory.specs.Memory.{read_by}
 use Rattle.bit_slice_paths.specs.Combined.{combined_bit, Combines}
-use Rattle.bit_slice_words.proofs.combine.combine_in.Given as goal
+use Rattle.bit_slice_words.proofs.combine.combine_by_bits.Given as goal
 
 abbrev pub invariant-loop-k : goal.invariant-loop-k
 invariant-loop-k g l =

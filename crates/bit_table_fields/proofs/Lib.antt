@@ -3,3 +3,5 @@ pub mod CallerLemmas
 mod KnownNumbers
 pub mod FieldLemmas
 mod CountLemmas
+mod TurnLemmas
+mod ChunkLemmas

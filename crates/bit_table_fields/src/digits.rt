@@ -11,12 +11,13 @@ ghost use Rattle.bit_table_fields.specs.Windows.{most_for, number_held};
 ghost use Rattle.bit_table_layout.specs.Rows.{field_bits};
 ghost use Rattle.bit_table_layout.specs.declared.layout.Rule.TheVariants.{Low, High};
 
-use crate::digits_by_bits;
 use crate::hi_lo::HiLo;
-use bit_addressing_memory::{BitOrder, BitRegister, Lsb0, Msb0};
+use crate::{digits_by_bits, digits_by_chunks};
+use bit_addressing_memory::{BitOrder, BitRegister, Direction, Lsb0, Msb0};
 use bit_slice_views::{BitSlice, Bits};
 use bit_slice_views_mut::BitsMut;
 use bit_slice_words::Steps;
+use bit_table_layout::Rule;
 
 /// What an order does to move a number into a window and back: the digits lie in it from the lowest on, or from the
 /// highest on. A window has 1 to 64 bits, whatever the words and wherever it begins.
@@ -169,7 +170,15 @@ impl<R: BitRegister> Digits<R> for Lsb0 {
     const HIGH_WORDS: bool = false;
 
     fn load_low_at(words: &[R], place: usize, width: u32, signed: bool, steps: &mut Steps) -> i128 {
-        digits_by_bits::load_low_at::<R, Lsb0>(words, place, width, signed, steps)
+        digits_by_chunks::load::<R, Lsb0>(
+            Rule::Low,
+            Direction::Ascending,
+            words,
+            place,
+            width,
+            signed,
+            steps,
+        )
     }
 
     fn load_high_at(
@@ -179,7 +188,15 @@ impl<R: BitRegister> Digits<R> for Lsb0 {
         signed: bool,
         steps: &mut Steps,
     ) -> i128 {
-        digits_by_bits::load_high_at::<R, Lsb0>(words, place, width, signed, steps)
+        digits_by_chunks::load::<R, Lsb0>(
+            Rule::High,
+            Direction::Ascending,
+            words,
+            place,
+            width,
+            signed,
+            steps,
+        )
     }
 
     fn store_low_at<V: BitsMut<Store = R, Order = Lsb0>>(
@@ -189,7 +206,15 @@ impl<R: BitRegister> Digits<R> for Lsb0 {
         value: i128,
         steps: &mut Steps,
     ) {
-        digits_by_bits::store_low_at::<V>(view, at, width, value, steps);
+        digits_by_chunks::store::<V>(
+            Rule::Low,
+            Direction::Ascending,
+            view,
+            at,
+            width,
+            value,
+            steps,
+        );
     }
 
     fn store_high_at<V: BitsMut<Store = R, Order = Lsb0>>(
@@ -199,7 +224,15 @@ impl<R: BitRegister> Digits<R> for Lsb0 {
         value: i128,
         steps: &mut Steps,
     ) {
-        digits_by_bits::store_high_at::<V>(view, at, width, value, steps);
+        digits_by_chunks::store::<V>(
+            Rule::High,
+            Direction::Ascending,
+            view,
+            at,
+            width,
+            value,
+            steps,
+        );
     }
 }
 
@@ -213,7 +246,15 @@ impl<R: BitRegister> Digits<R> for Msb0 {
     const HIGH_WORDS: bool = false;
 
     fn load_low_at(words: &[R], place: usize, width: u32, signed: bool, steps: &mut Steps) -> i128 {
-        digits_by_bits::load_low_at::<R, Msb0>(words, place, width, signed, steps)
+        digits_by_chunks::load::<R, Msb0>(
+            Rule::Low,
+            Direction::Descending,
+            words,
+            place,
+            width,
+            signed,
+            steps,
+        )
     }
 
     fn load_high_at(
@@ -223,7 +264,15 @@ impl<R: BitRegister> Digits<R> for Msb0 {
         signed: bool,
         steps: &mut Steps,
     ) -> i128 {
-        digits_by_bits::load_high_at::<R, Msb0>(words, place, width, signed, steps)
+        digits_by_chunks::load::<R, Msb0>(
+            Rule::High,
+            Direction::Descending,
+            words,
+            place,
+            width,
+            signed,
+            steps,
+        )
     }
 
     fn store_low_at<V: BitsMut<Store = R, Order = Msb0>>(
@@ -233,7 +282,15 @@ impl<R: BitRegister> Digits<R> for Msb0 {
         value: i128,
         steps: &mut Steps,
     ) {
-        digits_by_bits::store_low_at::<V>(view, at, width, value, steps);
+        digits_by_chunks::store::<V>(
+            Rule::Low,
+            Direction::Descending,
+            view,
+            at,
+            width,
+            value,
+            steps,
+        );
     }
 
     fn store_high_at<V: BitsMut<Store = R, Order = Msb0>>(
@@ -243,7 +300,15 @@ impl<R: BitRegister> Digits<R> for Msb0 {
         value: i128,
         steps: &mut Steps,
     ) {
-        digits_by_bits::store_high_at::<V>(view, at, width, value, steps);
+        digits_by_chunks::store::<V>(
+            Rule::High,
+            Direction::Descending,
+            view,
+            at,
+            width,
+            value,
+            steps,
+        );
     }
 }
 

@@ -105,7 +105,7 @@ fn digit_at(value: i128, place: u32) -> bool
 }
 
 // The number of `width` digits that are those of another number, the highest of them the sign's where it has one.
-fn number_of(digits: u128, width: u32, signed: bool) -> i128
+pub(crate) fn number_of(digits: u128, width: u32, signed: bool) -> i128
     requires some { 1 ≤ width }
     requires narrow { width ≤ 64 }
     requires small { digits < 2 ^ 64 }

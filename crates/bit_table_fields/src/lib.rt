@@ -3,9 +3,11 @@
 
 mod digits;
 pub mod digits_by_bits;
+mod digits_by_chunks;
 mod hi_lo;
 mod numbers;
 mod rows;
+mod turned;
 
 pub use digits::Digits;
 pub use hi_lo::HiLo;

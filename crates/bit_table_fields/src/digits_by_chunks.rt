@@ -1,0 +1,143 @@
+//! Numbers in windows by chunks: what an order does whose positions go straight with the indices. A call counts one
+//! step a bit, as `digits_by_bits` does.
+
+ghost use Rattle.std.specs.Prelude.{◌≡◌, ℕ, ◌+◌, ◌*◌, ◌^◌, ◌<◌, ◌≤◌, length};
+ghost use Rattle.bit_addressing_memory.specs.Bits.{digit_at};
+ghost use Rattle.bit_addressing_memory.specs.Memory.{memory, piece, read_by, with_piece};
+ghost use Rattle.bit_addressing_memory.specs.Straight.{Goes};
+ghost use Rattle.bit_slice_views_mut.specs.Frame.{KeepsBeside};
+ghost use Rattle.bit_slice_words.specs.Steps.{Takes};
+ghost use Rattle.bit_table_fields.specs.Chunks.{digits_in, rule_way, ChunkOf};
+ghost use Rattle.bit_table_fields.specs.Windows.{number_held};
+ghost use Rattle.bit_table_layout.specs.Digits.{has_digit};
+ghost use Rattle.bit_table_layout.specs.Rows.{field_bits};
+
+use crate::digits_by_bits::number_of;
+use crate::turned::faced;
+use bit_addressing_memory::{BitOrder, BitRegister, Direction};
+use bit_slice_chunks::{read_bits, write_bits};
+use bit_slice_views_mut::BitsMut;
+use bit_slice_words::Steps;
+use bit_table_layout::Rule;
+
+/// `Digits::load_low_at` or `Digits::load_high_at`, as the rule says.
+pub(crate) fn load<R: BitRegister, O: BitOrder<R>>(
+    rule: Rule,
+    direction: Direction,
+    words: &[R],
+    place: usize,
+    width: u32,
+    signed: bool,
+    steps: &mut Steps,
+) -> i128
+    requires goes { Goes R.BITS O.position direction }
+    requires some { 1 ≤ width }
+    requires narrow { width ≤ 64 }
+    requires within { place + width ≤ length words.now * R.BITS }
+    requires ends { place + width < 2 ^ 64 }
+    ensures value { result ≡ number_held rule signed width
+        (piece (memory (read_by R.BitRegister O.position) words.now) place width) }
+    ensures steps { Takes steps.old steps.new width width }
+{
+    let chunk = read_bits::<R, O>(direction, words, place, width as usize);
+    let turned = faced(direction, way_of(rule), chunk);
+    let digits = digits_of(rule, turned, width);
+    steps.many(width as usize);
+    number_of(u128::from(digits), width, signed)
+}
+
+/// `Digits::store_low_at` or `Digits::store_high_at`, as the rule says.
+pub(crate) fn store<V: BitsMut>(
+    rule: Rule,
+    direction: Direction,
+    view: &mut V,
+    at: usize,
+    width: u32,
+    value: i128,
+    steps: &mut Steps,
+)
+    requires goes { Goes V.Store.BITS V.Order.position direction }
+    requires some { 1 ≤ width }
+    requires narrow { width ≤ 64 }
+    requires within { at + width ≤ length (V.bits view.old) }
+    ensures bits { V.bits view.new ≡ with_piece (V.bits view.old) at (field_bits rule width value) }
+    ensures len { length (V.bits view.new) ≡ length (V.bits view.old) }
+    ensures frame { V.frame view.new ≡ V.frame view.old }
+    ensures steps { Takes steps.old steps.new width width }
+{
+    let place = view.first_place();
+    let all = view.len();
+    view.write(|words| {
+        write_number::<V::Store, V::Order>(rule, direction, words, place, all, at, width, value)
+    });
+    steps.many(width as usize);
+}
+
+// Makes the `width` bits from `at` on of a window digits of a number.
+fn write_number<R: BitRegister, O: BitOrder<R>>(
+    rule: Rule,
+    direction: Direction,
+    words: &mut [R],
+    place: usize,
+    all: usize,
+    at: usize,
+    width: u32,
+    value: i128,
+)
+    requires goes { Goes R.BITS O.position direction }
+    requires some { 1 ≤ width }
+    requires narrow { width ≤ 64 }
+    requires within { place + all ≤ length words.old * R.BITS }
+    requires ends { place + all < 2 ^ 64 }
+    requires target { at + width ≤ all }
+    ensures list { piece (memory (read_by R.BitRegister O.position) words.new) place all
+        ≡ with_piece (piece (memory (read_by R.BitRegister O.position) words.old) place all) at
+        (field_bits rule width value) }
+    ensures beside { KeepsBeside (read_by R.BitRegister O.position) words.old words.new place all }
+{
+    let chunk = chunk_of(rule, value, width);
+    let turned = faced(way_of(rule), direction, chunk);
+    write_bits::<R, O>(direction, words, place + at, width as usize, turned);
+}
+
+// The direction in which the digits of a rule lie in a chunk as they do in a number.
+fn way_of(rule: Rule) -> Direction
+    ensures { result ≡ rule_way rule }
+{
+    match rule {
+        Rule::Low => Direction::Ascending,
+        Rule::High => Direction::Descending,
+    }
+}
+
+// The number whose digits the first bits of a chunk are, and zeros behind them.
+fn digits_of(rule: Rule, chunk: u64, width: u32) -> u64
+    requires some { 1 ≤ width }
+    requires narrow { width ≤ 64 }
+    ensures { result ≡ digits_in rule width chunk }
+{
+    match rule {
+        Rule::Low => chunk,
+        Rule::High => chunk >> (64 - width),
+    }
+}
+
+// The chunk whose first bits are digits of a number.
+fn chunk_of(rule: Rule, value: i128, width: u32) -> u64
+    requires some { 1 ≤ width }
+    requires narrow { width ≤ 64 }
+    ensures { ChunkOf rule width value result }
+{
+    let digits = lowest_digits(value);
+    match rule {
+        Rule::Low => digits,
+        Rule::High => digits << (64 - width),
+    }
+}
+
+// The 64 lowest digits of a number.
+fn lowest_digits(value: i128) -> u64
+    ensures { (k : ℕ) → k < 64 → digit_at result k ≡ has_digit value k }
+{
+    (value.cast_unsigned() % (1 << 64)) as u64
+}

@@ -1,6 +1,6 @@
 use Rattle.std.proofs.Common.{◌≤◌, ◌-◌, ◌^◌, arith}
 use Rattle.bit_table_layout.proofs.NumeralLemmas.{number-more}
-use Rattle.bit_table_layout.proofs.numerals.number_up_to.Goals as goal
+use Rattle.bit_table_layout.proofs.numerals.long_number_up_to.Goals as goal
 
 pub loop-byte-preserved : goal.loop-byte-preserved
 loop-byte-preserved c =

@@ -41,11 +41,10 @@ impl Reply {
         let mut text = match self {
             Reply::Done => Vec::from_slice(alloc, b"ok")?,
             Reply::Numbers(numbers) => spaced(alloc, numbers.as_slice())?,
-            Reply::Count(count) => Vec::from_slice(alloc, count.to_string(alloc)?.as_bytes())?,
+            Reply::Count(count) => count.to_string(alloc)?.into_bytes(),
             Reply::Rows(rows) => row_numbers(alloc, rows.as_slice())?,
             Reply::Image { rows, bytes } => {
-                let line = image::line(alloc, *rows, bytes.as_slice())?;
-                Vec::from_slice(alloc, line.as_bytes())?
+                image::line(alloc, *rows, bytes.as_slice())?.into_bytes()
             }
         };
         text.push(b'\n')?;
@@ -69,14 +68,13 @@ fn spaced<T: fmt::Display>(alloc: Global, items: &[T]) -> Result<Vec<u8>, AllocE
     ensures { (shown : T → List ℕ) → ((item : T) → T.output item ≡ Some (shown item))
         → IfOk result (λ text. text.items ≡ join_with_byte 32 (map shown items.now)) }
 {
-    let mut text = Vec::new(alloc);
+    let mut text = String::new(alloc);
     let Some((first, rest)) = items.split_first() else {
-        return Ok(text);
+        return Ok(text.into_bytes());
     };
-    text.extend_from_slice(first.to_string(alloc)?.as_bytes())?;
+    write!(text, "{first}")?;
     for item in rest {
-        text.push(b' ')?;
-        text.extend_from_slice(item.to_string(alloc)?.as_bytes())?;
+        write!(text, " {item}")?;
     }
-    Ok(text)
+    Ok(text.into_bytes())
 }

@@ -6,4 +6,4 @@ use Rattle.bit_table_commands.proofs.reply.spaced.Given as goal
 abbrev pub invariant-loop-item : goal.invariant-loop-item
 invariant-loop-item g l =
     (shown : g.row.T.Denot → List ℕ) → ((item : g.row.T.Denot) → g.T.Display.output item ≡ Some (shown item))
-    → l.text.items ≡ l.initial.text.items ++ behind_spaces shown (take l.item-index l.rest)
+    → l.text.bytes.items ≡ l.initial.text.bytes.items ++ behind_spaces shown (take l.item-index l.rest)

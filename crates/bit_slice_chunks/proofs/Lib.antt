@@ -1,5 +1,6 @@
 pub mod ChunkLemmas
 pub mod CombineLemmas
+mod ExchangeLemmas
 pub mod KnownRows
 pub mod TransferLemmas
 pub mod TurnLemmas

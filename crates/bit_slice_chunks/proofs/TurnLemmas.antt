@@ -1,11 +1,10 @@
 -- Chunks in another direction, and where two differ.
-use Rattle.std.proofs.Common.{◌≡◌, ℕ, zero, suc, ◌+◌, ◌-◌, ◌*◌, ◌/◌, ◌%◌, ◌^◌, ◌==◌, ◌<◌, ◌≤◌, ◌≢◌}
-use Rattle.std.proofs.Common.{Bool, true, false, List, bit_xor, refl, sym, ap, ◌∙◌, inl, inr, arith}
+use Rattle.std.proofs.Common.{◌≡◌, ℕ, ◌+◌, ◌-◌, ◌^◌, ◌==◌, ◌<◌, ◌≤◌, ◌≢◌}
+use Rattle.std.proofs.Common.{Bool, true, false, List, bit_xor, refl, sym, ap, ◌∙◌, arith}
 use denote.Enum.Bare.{sameb}
 use mathlib.Core.Bool.{xor}
-use Rattle.std.specs.Int.{bit_at, reverse_bits_onto, trailing_zeros, w64}
-use Rattle.std.proofs.lemmas.Bool.{cases_lt}
-use Rattle.std.proofs.lemmas.Nat.Bits.{bit_at-suc, bit_at-zero, bit_at_lowest, bit_at_cat_high, bit_at-trailing_zeros}
+use Rattle.std.specs.Int.{trailing_zeros, w64}
+use Rattle.std.proofs.lemmas.Nat.Bits.{bit_at-zero, bit_at-trailing_zeros}
 use Rattle.bit_addressing_memory.specs.Bits.{digit_at}
 use Rattle.bit_addressing_memory.specs.Memory.{Reading}
 use Rattle.bit_addressing_memory.specs.declared.direction.Direction.{Direction}
@@ -17,39 +16,8 @@ use Rattle.bit_slice_chunks.proofs.CombineLemmas.{xor_digit}
 
 -- ---- the digits of a number, the last first
 
--- what was there before them
-reversed_high : (k n a i : ℕ) → k ≤ i → bit_at (reverse_bits_onto k n a) i ≡ bit_at a (i - k)
-unfolding reverse_bits_onto
-reversed_high zero n a i high = ap (bit_at a) (omega arith)
-reversed_high (suc k) n a i high =
-    let next : i - k ≡ suc (i - suc k) = omega arith in
-    let low : n % 2 < 2 ^ 1 = omega arith in
-    let one : i - k - 1 ≡ i - suc k = omega arith in
-    reversed_high k (n / 2) (a * 2 + n % 2) i (omega arith)
-    ∙ bit_at_cat_high a 1 (n % 2) (i - k) low (omega arith)
-    ∙ ap (bit_at a) one
-
-reversed_low : (k n a i : ℕ) → i < k → bit_at (reverse_bits_onto k n a) i ≡ bit_at n (k - 1 - i)
-unfolding reverse_bits_onto
-reversed_low zero n a i low = absurd (omega arith)
-reversed_low (suc k) n a i low = elim (cases_lt i k) [
-  | inl less ↦
-      let next : suc (k - 1 - i) ≡ suc k - 1 - i = omega arith in
-      reversed_low k (n / 2) (a * 2 + n % 2) i less
-      ∙ sym (bit_at-suc n (k - 1 - i))
-      ∙ ap (bit_at n) next
-  | inr last ↦
-      let none : i - k ≡ 0 = omega arith in
-      let first : 0 ≡ suc k - 1 - i = omega arith in
-      reversed_high k (n / 2) (a * 2 + n % 2) i last
-      ∙ ap (bit_at (a * 2 + n % 2)) none
-      ∙ bit_at_lowest (a * 2 + n % 2)
-      ∙ omega (arith, bit_at_lowest n)
-      ∙ ap (bit_at n) first
-]
-
-turned_digit : (n i : ℕ) → i < 64 → digit_at (reverse_bits_onto 64 n 0) i ≡ digit_at n (64 - 1 - i)
-turned_digit n i small = ap (λ d. d == 1) (reversed_low 64 n 0 i small)
+abbrev AreReversed : ℕ → ℕ → Type 0
+AreReversed n r = (i : ℕ) → i < 64 → digit_at r i ≡ digit_at n (63 - i)
 
 -- ---- a chunk in another direction
 
@@ -59,14 +27,14 @@ faced_same Descending Descending n same i small = refl
 faced_same Ascending Descending n same i small = cc
 faced_same Descending Ascending n same i small = cc
 
-pub faced_other : (from to : Direction) (n r : ℕ) → sameb the_type from to ≡ false → r ≡ reverse_bits_onto 64 n 0
+pub faced_other : (from to : Direction) (n r : ℕ) → sameb the_type from to ≡ false → AreReversed n r
     → IsFaced from to n r
 faced_other Ascending Ascending n r other is i small = cc
 faced_other Descending Descending n r other is i small = cc
-faced_other Descending Ascending n r other is i small = ap (λ m. digit_at m i) is ∙ turned_digit n i small
+faced_other Descending Ascending n r other is i small = is i small
 faced_other Ascending Descending n r other is i small =
-    let back : 64 - 1 - (64 - 1 - i) ≡ i = omega arith in
-    ap (λ m. digit_at m (64 - 1 - i)) is ∙ turned_digit n (64 - 1 - i) (omega arith) ∙ ap (digit_at n) back
+    let back : 63 - (64 - 1 - i) ≡ i = omega arith in
+    is (64 - 1 - i) (omega arith) ∙ ap (digit_at n) back
 
 -- a chunk of a memory, in another direction
 pub faced_chunk : {R : Type 0} (reading : Reading R) (words : List R) (place n : ℕ) (from to : Direction)
@@ -80,18 +48,17 @@ faced_chunk reading words place n from to chunk result few had same = record {
 -- ---- the first bits of a chunk, the last of them first
 
 -- all 64 of them
-turned_bit : (direction : Direction) (n i : ℕ) → i < 64
-    → chunk_bit direction (reverse_bits_onto 64 n 0) i ≡ chunk_bit direction n (64 - 1 - i)
-turned_bit Ascending n i small = turned_digit n i small
-turned_bit Descending n i small = turned_digit n (64 - 1 - i) (omega arith)
+turned_bit : (direction : Direction) (n r i : ℕ) → i < 64 → AreReversed n r
+    → chunk_bit direction r i ≡ chunk_bit direction n (64 - 1 - i)
+turned_bit Ascending n r i small is = is i small
+turned_bit Descending n r i small is = is (64 - 1 - i) (omega arith)
 
 pub turned_is : (direction : Direction) (n mid count by r : ℕ) → 0 < count → count ≤ 64 → by ≡ 64 - count
-    → mid ≡ reverse_bits_onto 64 n 0 → IsLowered direction mid by r → IsTurned direction n count r
+    → AreReversed n mid → IsLowered direction mid by r → IsTurned direction n count r
 turned_is direction n mid count by r some few is turned moved i low =
     let at : 64 - 1 - (i + by) ≡ count - 1 - i = omega arith in
     moved.inside i (omega arith)
-    ∙ ap (λ m. chunk_bit direction m (i + by)) turned
-    ∙ turned_bit direction n (i + by) (omega arith)
+    ∙ turned_bit direction n mid (i + by) (omega arith) turned
     ∙ ap (chunk_bit direction n) at
 
 -- ---- where two chunks differ

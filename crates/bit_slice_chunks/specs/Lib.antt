@@ -1,5 +1,6 @@
 pub mod Chunk
 pub mod Combined
+pub mod Exchanges
 -- what public clauses cite of the crates below
 pub use Rattle.bit_addressing_memory.specs.BitOrder
 pub use Rattle.bit_addressing_memory.specs.BitRegister

@@ -5,6 +5,7 @@ ghost use Rattle.bit_addressing_memory.specs.declared.direction.Direction.{Direc
 ghost use Rattle.bit_slice_chunks.specs.Chunk.{chunk_bit, word_bit, IsLowered, IsRaised, IsPart, IsPlaced, IsCut, IsRest};
 ghost use Rattle.bit_slice_chunks.specs.Chunk.{IsFaced, IsTurned};
 
+use crate::reversed::reversed;
 use bit_addressing_memory::{BitRegister, Direction};
 
 /// The chunk whose bits are those of another from bit `by` on, and then zeros.
@@ -56,11 +57,7 @@ pub fn last_bits(direction: Direction, chunk: u64, from: u8) -> u64
 pub fn faced(from: Direction, to: Direction, chunk: u64) -> u64
     ensures { IsFaced from to chunk result }
 {
-    if from == to {
-        chunk
-    } else {
-        chunk.reverse_bits()
-    }
+    if from == to { chunk } else { reversed(chunk) }
 }
 
 /// The chunk whose first `count` bits, 1 to 64, are those of another in reverse.
@@ -70,7 +67,7 @@ pub fn turned(direction: Direction, chunk: u64, count: u8) -> u64
     requires few { count ≤ 64 }
     ensures { IsTurned direction chunk count result }
 {
-    lowered(direction, chunk.reverse_bits(), 64 - count)
+    lowered(direction, reversed(chunk), 64 - count)
 }
 
 // The bits of a word from an index on, as many as a chunk has, and zeros behind them.

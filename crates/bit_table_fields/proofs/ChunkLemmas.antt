@@ -87,15 +87,6 @@ held_digits High reading words place n chunk some within any few fits is =
     (rw turned (small_from_digits r n (omega arith) few (λ i high small.
     bit_at_shr chunk (64 - n) i ∙ bit_at_above chunk 64 (i + (64 - n)) fits (omega arith))))
 
--- the same bits in another direction
-pub faced_chunk : {R : Type 0} (reading : Reading R) (words : List R) (place n : ℕ) (from to : Direction)
-    (chunk result : ℕ) → n ≤ 64 → IsChunk reading words place n from chunk
-    → ((i : ℕ) → i < 64 → chunk_bit to result i ≡ chunk_bit from chunk i) → IsChunk reading words place n to result
-faced_chunk reading words place n from to chunk result few had same = record {
-  inside = λ i low. same i (omega arith) ∙ had.inside i low;
-  past = λ i high small. same i small ∙ had.past i high small;
-}
-
 -- ---- written
 
 -- the 64 lowest digits of a number

@@ -3,5 +3,4 @@ pub mod CallerLemmas
 mod KnownNumbers
 pub mod FieldLemmas
 mod CountLemmas
-mod TurnLemmas
 mod ChunkLemmas

@@ -13,9 +13,8 @@ ghost use Rattle.bit_table_layout.specs.Digits.{has_digit};
 ghost use Rattle.bit_table_layout.specs.Rows.{field_bits};
 
 use crate::digits_by_bits::number_of;
-use crate::turned::faced;
 use bit_addressing_memory::{BitOrder, BitRegister, Direction};
-use bit_slice_chunks::{read_bits, write_bits};
+use bit_slice_chunks::{faced, read_bits, write_bits};
 use bit_slice_views_mut::BitsMut;
 use bit_slice_words::Steps;
 use bit_table_layout::Rule;

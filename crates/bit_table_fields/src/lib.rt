@@ -7,7 +7,6 @@ mod digits_by_chunks;
 mod hi_lo;
 mod numbers;
 mod rows;
-mod turned;
 
 pub use digits::Digits;
 pub use hi_lo::HiLo;

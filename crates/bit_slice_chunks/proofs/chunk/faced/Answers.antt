@@ -7,5 +7,5 @@ returns-then-eq c = faced_same c.args.from c.args.to c.args.chunk (sym c.eq.ensu
 
 pub returns-else-eq : goal.returns-else-eq
 returns-else-eq c =
-    faced_other c.args.from c.args.to c.args.chunk c.reverse_bits.result (sym c.eq.ensures ∙ c.if-eq.false)
-    c.reverse_bits.ensures
+    faced_other c.args.from c.args.to c.args.chunk c.reversed.result (sym c.eq.ensures ∙ c.if-eq.false)
+    c.reversed.ensures

@@ -4,7 +4,8 @@ use Rattle.std.proofs.lemmas.Int.{to_z-of_z}
 use Rattle.bit_addressing_memory.specs.Memory.{read_by}
 use Rattle.bit_slice_chunks.specs.Chunk.{IsChunk}
 use Rattle.bit_table_layout.specs.Readings.{number_from_digits}
-use Rattle.bit_table_fields.proofs.ChunkLemmas.{faced_chunk, held_digits}
+use Rattle.bit_slice_chunks.proofs.TurnLemmas.{faced_chunk}
+use Rattle.bit_table_fields.proofs.ChunkLemmas.{held_digits}
 use Rattle.bit_table_fields.proofs.digits_by_chunks.load.Goals as goal
 
 pub returns-clause-value : goal.returns-clause-value

@@ -1,4 +1,4 @@
--- The digits of a number turned round.
+-- The digits of a number in reverse, by exchanges of groups.
 use Rattle.std.proofs.Common.{◌≡◌, ℕ, ◌+◌, ◌-◌, ◌*◌, ◌/◌, ◌%◌, ◌^◌, ◌==◌, ◌<◌, ◌≤◌, Bool, true, false, not, ◌&&◌, ◌||◌}
 use Rattle.std.proofs.Common.{bit_and, refl, sym, ap, ◌∙◌, inl, inr, arith}
 use Rattle.std.specs.Prelude.{if◌then◌else◌, nat_le, nat_lt}
@@ -8,7 +8,7 @@ use Rattle.std.proofs.lemmas.Nat.Bits.{bit_at_and, bit_at_or, bit_at-lt}
 use Rattle.bit_addressing_memory.specs.Bits.{digit_at}
 use Rattle.bit_addressing_memory.proofs.ShiftLemmas.{bit_at_shr, bit_at_cut, bit_at_shl_low, bit_at_shl_high}
 use Rattle.bit_slice_chunks.proofs.TransferLemmas.{no_digit}
-use Rattle.bit_table_fields.specs.Turns.{exchange}
+use Rattle.bit_slice_chunks.specs.Exchanges.{exchange}
 
 -- the digit that an exchange takes digit p from, where `lower` tells whether p is one of a lower group
 abbrev partner : ℕ → Bool → ℕ → ℕ
@@ -121,11 +121,11 @@ after_all p =
     from_of 1 ones (from_of 2 twos (from_of 4 fours
     (from_of 8 eights (from_of 16 sixteens (from_of 32 halves p)))))
 
-pub turned_digit : (x a b c d e r : ℕ) → a ≡ exchange 1 ones x → b ≡ exchange 2 twos a
+pub reversed_digit : (x a b c d e r : ℕ) → a ≡ exchange 1 ones x → b ≡ exchange 2 twos a
     → c ≡ exchange 4 fours b → d ≡ exchange 8 eights c
     → e ≡ exchange 16 sixteens d → r ≡ exchange 32 halves e
     → (p : ℕ) → p < 64 → digit_at r p ≡ digit_at x (63 - p)
-turned_digit x a b c d e r is_a is_b is_c is_d is_e is_r p small =
+reversed_digit x a b c d e r is_a is_b is_c is_d is_e is_r p small =
     let p5 = from_of 32 halves p in
     let in5 = from_within 32 halves refl p small in
     let p4 = from_of 16 sixteens p5 in

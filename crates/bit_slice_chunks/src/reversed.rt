@@ -1,30 +1,13 @@
-//! Chunks turned round, which makes the first bit the last.
+//! Numbers of 64 digits with the digits in reverse.
 
 ghost use Rattle.std.specs.Prelude.{◌≡◌, ℕ, ◌-◌, ◌<◌};
 ghost use Rattle.bit_addressing_memory.specs.Bits.{digit_at};
-ghost use Rattle.bit_addressing_memory.specs.declared.direction.Direction.{Direction};
-ghost use Rattle.bit_slice_chunks.specs.Chunk.{chunk_bit};
-ghost use Rattle.bit_table_fields.specs.Turns.{exchange};
-
-use bit_addressing_memory::Direction;
-
-// The chunk of the direction `to` whose bits are those of a chunk of the direction `from`.
-#[inline(always)]
-pub(crate) fn faced(from: Direction, to: Direction, chunk: u64) -> u64
-    ensures { (i : ℕ) → i < 64 → chunk_bit to result i ≡ chunk_bit from chunk i }
-{
-    match (from, to) {
-        (Direction::Ascending, Direction::Ascending) => chunk,
-        (Direction::Descending, Direction::Descending) => chunk,
-        (Direction::Ascending, Direction::Descending) => turned(chunk),
-        (Direction::Descending, Direction::Ascending) => turned(chunk),
-    }
-}
+ghost use Rattle.bit_slice_chunks.specs.Exchanges.{exchange};
 
 // The number of 64 digits with those of another from the last to the first: neighbours are exchanged, then groups of
 // two, of four, and so on. `u64::reverse_bits` goes digit by digit.
 #[inline(always)]
-fn turned(number: u64) -> u64
+pub(crate) fn reversed(number: u64) -> u64
     ensures { (i : ℕ) → i < 64 → digit_at result i ≡ digit_at number (63 - i) }
 {
     let ones = exchanged(number, 1, 0x5555_5555_5555_5555);

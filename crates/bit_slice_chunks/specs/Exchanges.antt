@@ -1,4 +1,4 @@
--- Numbers of 64 digits turned round. No public clause cites this module.
+-- Numbers of 64 digits with groups of them exchanged. No public clause cites this module.
 use Rattle.std.specs.Prelude.{ℕ, bit_and, bit_or, ◌*◌, ◌/◌, ◌%◌, ◌^◌}
 
 -- each group of `by` digits exchanged with the one above; the digits of `lower` are those of the lower groups

@@ -6,8 +6,8 @@ ghost use Rattle.bit_addressing_memory.specs.Memory.{memory, piece, read_by, tou
 ghost use Rattle.bit_addressing_memory.specs.Moves.{changed};
 ghost use Rattle.bit_slice_views_mut.specs.Frame.{KeepsBeside};
 
-use bit_addressing_memory::{BitOrder, BitRegister, copy_between};
-use bit_slice_words::{fill_in, move_words};
+use bit_addressing_memory::{BitOrder, BitRegister};
+use bit_slice_words::{copy_in, fill_in, move_words};
 
 // Makes each bit of a window `bit`.
 #[tactic(auto, using(crate::proofs::FrameLemmas::frames, bit_slice_words::proofs::ListLemmas::filled_list))]
@@ -35,12 +35,14 @@ pub(crate) fn copy_window<R: BitRegister, O: BitOrder<R>, Q: BitRegister, P: Bit
     len: usize,
 )
     requires within { place + len ≤ length words.old * R.BITS }
+    requires ends { place + len < 2 ^ 64 }
     requires source_within { source + len ≤ length others.now * Q.BITS }
+    requires source_ends { source + len < 2 ^ 64 }
     ensures list { piece (memory (read_by R.BitRegister O.position) words.new) place len
         ≡ piece (memory (read_by Q.BitRegister P.position) others.now) source len }
     ensures beside { KeepsBeside (read_by R.BitRegister O.position) words.old words.new place len }
 {
-    copy_between::<Q, P, R, O>(others, source, words, place, len);
+    copy_in::<Q, P, R, O>(others, source, words, place, len);
 }
 
 // Moves bits inside a window, and answers how many words it wrote.

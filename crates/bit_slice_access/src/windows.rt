@@ -4,8 +4,8 @@ ghost use Rattle.std.specs.Prelude.{◌≡◌, ◌+◌, ◌*◌, ◌^◌, ◌<�
 ghost use Rattle.bit_addressing_memory.specs.Memory.{memory, piece, read_by, with_piece};
 ghost use Rattle.bit_slice_views_mut.specs.Frame.{KeepsBeside};
 
-use bit_addressing_memory::{BitOrder, BitRegister, copy_between, swap_within};
-use bit_slice_words::rotate_left_in;
+use bit_addressing_memory::{BitOrder, BitRegister, swap_within};
+use bit_slice_words::{copy_in, rotate_left_in};
 
 // Writes bits of another memory over those of a window from `at` on.
 pub(crate) fn write_window<R: BitRegister, O: BitOrder<R>, Q: BitRegister, P: BitOrder<Q>>(
@@ -21,12 +21,13 @@ pub(crate) fn write_window<R: BitRegister, O: BitOrder<R>, Q: BitRegister, P: Bi
     requires ends { place + all < 2 ^ 64 }
     requires target { at + len ≤ all }
     requires source_within { source + len ≤ length others.now * Q.BITS }
+    requires source_ends { source + len < 2 ^ 64 }
     ensures list { piece (memory (read_by R.BitRegister O.position) words.new) place all
         ≡ with_piece (piece (memory (read_by R.BitRegister O.position) words.old) place all) at
         (piece (memory (read_by Q.BitRegister P.position) others.now) source len) }
     ensures beside { KeepsBeside (read_by R.BitRegister O.position) words.old words.new place all }
 {
-    copy_between::<Q, P, R, O>(others, source, words, place + at, len);
+    copy_in::<Q, P, R, O>(others, source, words, place + at, len);
 }
 
 // Exchanges two parts of a window.

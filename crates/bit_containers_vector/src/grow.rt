@@ -1,7 +1,7 @@
 //! A vector of bits that grows at its end.
 
 ghost use Rattle.std.specs.Prelude.{◌≡◌, ◌+◌, ◌-◌, ◌*◌, ◌<◌, ◌≤◌, ◌↔◌, ◌∷◌, ◌++◌, [], length, IsOk, OnOk, OnErr};
-ghost use Rattle.std.specs.Prelude.{IsSome, IfSome};
+ghost use Rattle.std.specs.Prelude.{◌^◌, IsSome, IfSome};
 ghost use Rattle.bit_addressing_memory.specs.Memory.{memory, piece, read_by};
 ghost use Rattle.bit_addressing_span.specs.declared.span.TheConstants.{MAX_BITS};
 ghost use Rattle.bit_containers_vector.specs.Grown.{Extends, Lengthened};
@@ -105,6 +105,7 @@ impl<T: BitStore, O: BitOrder<T>> BitVec<T, O> {
     ) -> Result<(), AllocError>
         requires most { length (vec_bits (read_by T.BitRegister O.position) self.old) + len ≤ MAX_BITS }
         requires within { head + len ≤ length words.now * Q.BITS }
+        requires ends { head + len < 2 ^ 64 }
         ensures ok { OnOk result (Extends (read_by T.BitRegister O.position) self.old self.new
             (piece (memory (read_by Q.BitRegister P.position) words.now) head len)) }
         ensures err { OnErr result (IsAsBefore (read_by T.BitRegister O.position) self.old self.new) }

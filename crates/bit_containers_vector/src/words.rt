@@ -7,9 +7,9 @@ ghost use Rattle.bit_addressing_memory.specs.Moves.{Moves};
 ghost use Rattle.bit_slice_words.specs.Rotations.{rotated_from};
 ghost use Rattle.bit_containers_vector.specs.Count.{words_for};
 
-use bit_addressing_memory::{BitOrder, BitRegister, copy_between, mem, write_entry};
+use bit_addressing_memory::{BitOrder, BitRegister, mem, write_entry};
 use bit_slice_views::BitStore;
-use bit_slice_words::{fill_in, move_words, not_in, rotate_left_in};
+use bit_slice_words::{copy_in, fill_in, move_words, not_in, rotate_left_in};
 use std::alloc::AllocError;
 
 // How many words so many bits take.
@@ -73,12 +73,14 @@ pub(crate) fn copy<T: BitStore, O: BitOrder<T>, Q: BitRegister, P: BitOrder<Q>>(
     len: usize,
 )
     requires within { place + len ≤ length words.old.items * T.BITS }
+    requires ends { place + len < 2 ^ 64 }
     requires source_within { source + len ≤ length others.now * Q.BITS }
+    requires source_ends { source + len < 2 ^ 64 }
     ensures copied { Copies (read_by T.BitRegister O.position) words.old.items words.new.items
         (read_by Q.BitRegister P.position) others.now source place len }
     ensures capacity { vec_capacity words.new ≡ vec_capacity words.old }
 {
-    copy_between::<Q, P, T, O>(others, source, words.as_mut_slice(), place, len);
+    copy_in::<Q, P, T, O>(others, source, words.as_mut_slice(), place, len);
 }
 
 // Makes `len` bits from `target` on what those from `source` on were.

@@ -1,4 +1,5 @@
 pub mod WeightLemmas
+mod PieceLemmas
 pub mod WholeLemmas
 pub mod DigitsLemmas
 pub mod CallerLemmas

@@ -33,6 +33,17 @@ of_bit b h n i some inside =
     let at : (h + i) / b * b + (h + i) % b ≡ h + i = div-add-mod' (h + i) b in
     in_segment b h n i ((h + i) / b * b) (omega arith) (omega arith) inside
 
+-- a bit of the segment of bit s lies in the same word
+pub same_segment : (b h n s k : ℕ) → 0 < b → s < n → s ≤ k → k < segment_end b h n s → (h + k) / b ≡ (h + s) / b
+same_segment b h n s k some inside from upto =
+    let f = of_bit b h n s some inside in
+    let p : ℕ = (h + s) / b * b in
+    let r : ℕ = h + k - p in
+    let low : p ≤ h + k = omega (arith, f.low, f.from) in
+    let high : h + k < p + b = omega (arith, f.high) in
+    let at : p + r ≡ h + k = omega arith in
+    rw (← at) (div-mul-add ((h + s) / b) b r (omega arith))
+
 -- ---- in window order
 
 -- the first bit weighs least

@@ -1,16 +1,19 @@
-//! The digits of a number and the bits of a window, one by one.
+//! The digits of a number and the bits of a window, piece by piece: a piece lies in one segment, or is the whole window
+//! where all its bits weigh in turn, and is read and written as a chunk.
 
-ghost use Rattle.std.specs.Prelude.{◌≡◌, ℕ, ◌+◌, ◌-◌, ◌*◌, ◌^◌, ◌<◌, ◌≤◌, length, cond, bit_or};
-ghost use Rattle.bit_addressing_memory.specs.Bits.{bits_in_order, digit_at};
+ghost use Rattle.std.specs.Prelude.{◌≡◌, ℕ, ◌+◌, ◌-◌, ◌*◌, ◌%◌, ◌^◌, ◌<◌, ◌≤◌, length, bit_or};
+ghost use Rattle.bit_addressing_memory.specs.Bits.{bits_in_order};
 ghost use Rattle.bit_addressing_memory.specs.Memory.{memory, piece, read_by};
 ghost use Rattle.bit_slice_fields.specs.Digits.{cut_weight, HasDigits};
-ghost use Rattle.bit_slice_fields.specs.Number.{field_bits};
+ghost use Rattle.bit_slice_fields.specs.Number.{field_bits, CountsFrom};
+ghost use Rattle.bit_slice_fields.specs.Pieces.{way_for, digits_in, least_bit, ChunkOf, EndsInSegment, IsPiece};
 ghost use Rattle.bit_slice_fields.specs.Whole.{FitsIn};
 ghost use Rattle.bit_slice_views.specs.View.{view_bits};
 ghost use Rattle.bit_slice_views_mut.specs.Frame.{KeepsBeside};
 
 use crate::integral::Integral;
-use bit_addressing_memory::{BitOrder, BitRegister, mem, write_entry};
+use bit_addressing_memory::{BitOrder, BitRegister, Direction, mem};
+use bit_slice_chunks::{read_bits, write_bits};
 use bit_slice_views::{BitSlice, Bits};
 
 // How the bits of a window weigh: which end of a word counts lowest, whether the first segment does, and the index of
@@ -20,6 +23,13 @@ pub(crate) struct Cut {
     pub low: bool,
     pub le: bool,
     pub head: usize,
+}
+
+// A part of a window whose bits weigh one more each: how many they are, and what the least of them weighs.
+#[derive(Clone, Copy)]
+struct Piece {
+    len: usize,
+    weight: usize,
 }
 
 // The weight of bit i, of n bits in words of `bits` bits.
@@ -41,51 +51,122 @@ fn weight_of(cut: Cut, bits: usize, n: usize, i: usize) -> usize
     lower + inner
 }
 
-// The number with one digit.
-#[tactic(auto, using(crate::proofs::WholeLemmas::one_digit))]
-fn one_at(weight: usize) -> u128
-    requires { weight < 128 }
-    ensures { result ≡ 2 ^ weight }
+// The bit before which a piece ends that begins at bit `from`: at most 64 bits on, and where the weights of segments go
+// against those in a segment, at the segment's end.
+#[tactic(auto, using(crate::proofs::WeightLemmas::of_bit))]
+fn piece_end(cut: Cut, bits: usize, n: usize, from: usize) -> usize
+    requires some { 0 < bits }
+    requires few { bits ≤ 128 }
+    requires head { cut.head < bits }
+    requires short { n ≤ 128 }
+    requires inside { from < n }
+    ensures behind { from < result }
+    ensures within { result ≤ n }
+    ensures few { result ≤ from + 64 }
+    ensures segment { EndsInSegment cut bits n from result }
 {
-    1 << weight
+    let most = n.min(from + 64);
+    if cut.low == cut.le {
+        return most;
+    }
+    let first = (cut.head + from) / bits * bits;
+    most.min(first + bits - cut.head)
 }
 
-// A number with a digit set where `bit` holds.
-fn with_one(digits: u128, bit: bool, weight: usize) -> u128
-    requires { weight < 128 }
-    ensures { result ≡ cond bit (bit_or digits (2 ^ weight)) digits }
+// The bit of a piece that weighs least.
+fn least_of(low: bool, from: usize, end: usize) -> usize
+    requires { from < end }
+    ensures value { result ≡ least_bit low from end }
+    ensures within { result < end }
 {
-    if bit { digits | one_at(weight) } else { digits }
+    if low { from } else { end - 1 }
 }
 
-// A digit of a number.
-fn digit_of(digits: u128, weight: usize) -> bool
-    requires { weight < 128 }
-    ensures { result ≡ digit_at digits weight }
+// The longest piece of a window from a bit on, of 64 bits at most, whose bits weigh one more each.
+fn piece_of(cut: Cut, bits: usize, n: usize, from: usize) -> Piece
+    requires some { 0 < bits }
+    requires few { bits ≤ 128 }
+    requires head { cut.head < bits }
+    requires short { n ≤ 128 }
+    requires inside { from < n }
+    ensures { IsPiece (cut_weight cut bits n) n (way_for cut.low) from result.len result.weight }
 {
-    (digits >> weight) % 2 == 1
+    let end = piece_end(cut, bits, n, from);
+    let least = least_of(cut.low, from, end);
+    let weight = weight_of(cut, bits, n, least);
+    Piece {
+        len: end - from,
+        weight,
+    }
+}
+
+// The direction in which the bits of a word weigh.
+fn way_of(low: bool) -> Direction
+    ensures { result ≡ way_for low }
+{
+    if low {
+        Direction::Ascending
+    } else {
+        Direction::Descending
+    }
+}
+
+// The digits that the first bits of a chunk are, and zeros behind them.
+fn digits_of(chunk: u64, low: bool, len: usize) -> u128
+    requires some { 0 < len }
+    requires few { len ≤ 64 }
+    ensures { result ≡ digits_in (way_for low) len chunk }
+{
+    if low {
+        u128::from(chunk)
+    } else {
+        u128::from(chunk >> (64 - len))
+    }
+}
+
+// The chunk whose first bits are the digits of a number from the digit `weight` on.
+fn chunk_of(digits: u128, low: bool, weight: usize, len: usize) -> u64
+    requires some { 0 < len }
+    requires few { len ≤ 64 }
+    requires within { weight < 128 }
+    ensures { ChunkOf (way_for low) digits weight len result }
+{
+    let lowest = ((digits >> weight) % (1 << 64)) as u64;
+    if low { lowest } else { lowest << (64 - len) }
+}
+
+// A number with the digits of a piece put in.
+fn with_piece(digits: u128, piece: u128, weight: usize) -> u128
+    requires { weight < 128 }
+    ensures { result ≡ bit_or digits (piece * 2 ^ weight % 2 ^ 128) }
+{
+    digits | piece << weight
 }
 
 // The number that a window holds.
 pub(crate) fn gathered<T: BitRegister, O: BitOrder<T>>(view: BitSlice<'_, T, O>, cut: Cut) -> u128
+    requires counts { CountsFrom cut.low T.BITS O.position }
     requires head { cut.head < T.BITS }
     requires short { length (view_bits (read_by T.BitRegister O.position) view) ≤ 128 }
     ensures { HasDigits (cut_weight cut T.BITS (length (view_bits (read_by T.BitRegister O.position) view.entry)))
         (view_bits (read_by T.BitRegister O.position) view.entry) result }
 {
     let bits = mem::bits_of::<T>();
-    let len = view.len();
+    let way = way_of(cut.low);
+    let (words, head, len) = view.parts();
     let mut digits = 0u128;
-    for i in 0..len {
-        let weight = weight_of(cut, bits, len, i);
-        let bit = view.bit(i);
-        digits = with_one(digits, bit, weight);
+    let mut from = 0;
+    while from < len {
+        let piece = piece_of(cut, bits, len, from);
+        let chunk = read_bits::<T, O>(way, words, head as usize + from, piece.len);
+        let more = digits_of(chunk, cut.low, piece.len);
+        digits = with_piece(digits, more, piece.weight);
+        from += piece.len;
     }
     digits
 }
 
 // Makes the `len` bits from a place on the digits of a number.
-#[tactic(auto, using(bit_slice_words::proofs::ChangedStretchLemmas::stretch_steps))]
 pub(crate) fn scatter<T: BitRegister, O: BitOrder<T>>(
     words: &mut [T],
     place: usize,
@@ -93,6 +174,7 @@ pub(crate) fn scatter<T: BitRegister, O: BitOrder<T>>(
     digits: u128,
     cut: Cut,
 )
+    requires counts { CountsFrom cut.low T.BITS O.position }
     requires within { place + len ≤ length words.old * T.BITS }
     requires ends { place + len < 2 ^ 63 }
     requires head { cut.head < T.BITS }
@@ -102,9 +184,13 @@ pub(crate) fn scatter<T: BitRegister, O: BitOrder<T>>(
     ensures beside { KeepsBeside (read_by T.BitRegister O.position) words.old words.new place len }
 {
     let bits = mem::bits_of::<T>();
-    for i in 0..len {
-        let bit = digit_of(digits, weight_of(cut, bits, len, i));
-        write_entry::<T, O>(words, place + i, bit);
+    let way = way_of(cut.low);
+    let mut from = 0;
+    while from < len {
+        let piece = piece_of(cut, bits, len, from);
+        let chunk = chunk_of(digits, cut.low, piece.weight, piece.len);
+        write_bits::<T, O>(way, words, place + from, piece.len, chunk);
+        from += piece.len;
     }
 }
 
@@ -113,6 +199,7 @@ pub(crate) fn load_window<T: BitRegister, O: BitOrder<T>, M: Integral>(
     view: BitSlice<'_, T, O>,
     cut: Cut,
 ) -> M
+    requires counts { CountsFrom cut.low T.BITS O.position }
     requires head { cut.head < T.BITS }
     requires some { 0 < length (view_bits (read_by T.BitRegister O.position) view) }
     requires room { length (view_bits (read_by T.BitRegister O.position) view) ≤ M.BITS }
@@ -132,6 +219,7 @@ pub(crate) fn store_window<T: BitRegister, O: BitOrder<T>, M: Integral>(
     value: M,
     cut: Cut,
 )
+    requires counts { CountsFrom cut.low T.BITS O.position }
     requires within { place + len ≤ length words.old * T.BITS }
     requires ends { place + len < 2 ^ 63 }
     requires head { cut.head < T.BITS }

@@ -1,16 +1,53 @@
-use Rattle.std.proofs.Common.{◌<◌, ◌∙◌, ap, arith}
+use Rattle.std.proofs.Common.{◌≡◌, ◌+◌, ◌<◌, length, refl, arith}
 use Rattle.bit_addressing_memory.specs.Memory.{read_by}
 use Rattle.bit_slice_views.specs.View.{view_bits}
 use Rattle.bit_slice_fields.specs.Digits.{cut_weight}
-use Rattle.bit_slice_fields.proofs.DigitsLemmas.{gathered_more}
+use Rattle.bit_slice_fields.specs.Pieces.{way_for}
+use Rattle.bit_slice_fields.proofs.DigitsLemmas.{gathered_none, gathered_all}
+use Rattle.bit_slice_fields.proofs.PieceLemmas.{goes_for, piece_digits, gathered_more}
 use Rattle.bit_slice_fields.proofs.digits.gathered.Goals as goal
 
-pub loop-i-preserved : goal.loop-i-preserved
-loop-i-preserved g c =
+pub loop-from-init : goal.loop-from-init
+loop-from-init g c =
     let shown = view_bits (read_by g.T.BitRegister g.O.Positions.position) c.args.view in
+    record {
+      digits = gathered_none (cut_weight c.args.cut g.T.BitRegister.BITS (length shown)) shown;
+      upto = omega arith;
+    }
+
+pub read_bits-chunk-requires-clause-goes : goal.read_bits-chunk-requires-clause-goes
+read_bits-chunk-requires-clause-goes g c =
+    rw c.way_of-way.ensures
+    (goes_for c.args.cut.low g.T.BitRegister.BITS g.O.Positions.position c.requires.counts)
+
+pub loop-from-preserved : goal.loop-from-preserved
+loop-from-preserved g c =
+    let reading = read_by g.T.BitRegister g.O.Positions.position in
+    let shown = view_bits reading c.args.view in
     let cut = c.args.cut in
+    let from = c.loop-from.from in
+    let len = c.parts-head.result.2 in
+    let piece = c.piece_of-piece.result in
     let some : 0 < g.T.BitRegister.BITS = omega (arith, g.met.T.BitRegister.least_bits) in
-    gathered_more cut.low cut.le g.T.BitRegister.BITS cut.head c.len-len.result c.loop-i.i c.loop-i.digits
-    c.with_one-digits.result c.weight_of-weight.result shown c.bit-bit.result some c.len-len.ensures
-    (omega (arith, c.loop-i-test.true)) (c.weight_of-weight.ensures.value
-    ∙ ap (λ b. cut_weight cut b c.len-len.result c.loop-i.i) c.bits_of-bits.ensures) c.bit-bit.ensures c.with_one-digits.ensures c.loop-i.invariant
+    let is = c.piece_of-piece.ensures in
+    let chunk = rw c.way_of-way.ensures at c.read_bits-chunk.ensures in
+    let has =
+    piece_digits (way_for cut.low) reading c.parts-head.result.0.now c.parts-head.result.1 len from piece.len
+    (c.parts-head.result.1 + from) c.read_bits-chunk.result c.digits_of-more.result shown some is.inside is.some is.few refl
+    c.parts-head.ensures.bits c.read_bits-chunk.type_inv c.digits_of-more.ensures chunk in
+    record {
+      digits =
+          gathered_more cut.low cut.le g.T.BitRegister.BITS c.bits_of-bits.result cut.head (length shown) len from
+          piece.len piece.weight c.loop-from.digits c.digits_of-more.result c.with_piece-digits.result (from + piece.len)
+          shown (way_for cut.low) some c.requires.short c.bits_of-bits.ensures c.parts-head.ensures.len refl is has
+          c.with_piece-digits.ensures refl c.loop-from.invariant.digits;
+      upto = omega (arith, is.inside);
+    }
+
+pub returns : goal.returns
+returns g c =
+    let shown = view_bits (read_by g.T.BitRegister g.O.Positions.position) c.args.view in
+    let all : c.loop-from.from ≡ length shown =
+    omega (arith, c.loop-from-test.false, c.loop-from.invariant.upto, c.parts-head.ensures.len) in
+    gathered_all (cut_weight c.args.cut g.T.BitRegister.BITS (length shown)) shown c.loop-from.from c.loop-from.digits
+    all c.loop-from.invariant.digits

@@ -34,6 +34,7 @@ struct Piece {
 
 // The weight of bit i, of n bits in words of `bits` bits.
 #[tactic(auto, using(crate::proofs::WeightLemmas::weight_within, crate::proofs::WeightLemmas::of_bit))]
+#[inline(always)]
 fn weight_of(cut: Cut, bits: usize, n: usize, i: usize) -> usize
     requires some { 0 < bits }
     requires few { bits ≤ 128 }
@@ -54,6 +55,7 @@ fn weight_of(cut: Cut, bits: usize, n: usize, i: usize) -> usize
 // The bit before which a piece ends that begins at bit `from`: at most 64 bits on, and where the weights of segments go
 // against those in a segment, at the segment's end.
 #[tactic(auto, using(crate::proofs::WeightLemmas::of_bit))]
+#[inline(always)]
 fn piece_end(cut: Cut, bits: usize, n: usize, from: usize) -> usize
     requires some { 0 < bits }
     requires few { bits ≤ 128 }
@@ -74,6 +76,7 @@ fn piece_end(cut: Cut, bits: usize, n: usize, from: usize) -> usize
 }
 
 // The bit of a piece that weighs least.
+#[inline(always)]
 fn least_of(low: bool, from: usize, end: usize) -> usize
     requires { from < end }
     ensures value { result ≡ least_bit low from end }
@@ -83,6 +86,7 @@ fn least_of(low: bool, from: usize, end: usize) -> usize
 }
 
 // The longest piece of a window from a bit on, of 64 bits at most, whose bits weigh one more each.
+#[inline(always)]
 fn piece_of(cut: Cut, bits: usize, n: usize, from: usize) -> Piece
     requires some { 0 < bits }
     requires few { bits ≤ 128 }
@@ -101,6 +105,7 @@ fn piece_of(cut: Cut, bits: usize, n: usize, from: usize) -> Piece
 }
 
 // The direction in which the bits of a word weigh.
+#[inline(always)]
 fn way_of(low: bool) -> Direction
     ensures { result ≡ way_for low }
 {
@@ -112,6 +117,7 @@ fn way_of(low: bool) -> Direction
 }
 
 // The digits that the first bits of a chunk are, and zeros behind them.
+#[inline(always)]
 fn digits_of(chunk: u64, low: bool, len: usize) -> u128
     requires some { 0 < len }
     requires few { len ≤ 64 }
@@ -125,6 +131,7 @@ fn digits_of(chunk: u64, low: bool, len: usize) -> u128
 }
 
 // The chunk whose first bits are the digits of a number from the digit `weight` on.
+#[inline(always)]
 fn chunk_of(digits: u128, low: bool, weight: usize, len: usize) -> u64
     requires some { 0 < len }
     requires few { len ≤ 64 }
@@ -136,6 +143,7 @@ fn chunk_of(digits: u128, low: bool, weight: usize, len: usize) -> u64
 }
 
 // A number with the digits of a piece put in.
+#[inline(always)]
 fn with_piece(digits: u128, piece: u128, weight: usize) -> u128
     requires { weight < 128 }
     ensures { result ≡ bit_or digits (piece * 2 ^ weight % 2 ^ 128) }
@@ -144,6 +152,7 @@ fn with_piece(digits: u128, piece: u128, weight: usize) -> u128
 }
 
 // The number that a window holds.
+#[inline(always)]
 pub(crate) fn gathered<T: BitRegister, O: BitOrder<T>>(view: BitSlice<'_, T, O>, cut: Cut) -> u128
     requires counts { CountsFrom cut.low T.BITS O.position }
     requires head { cut.head < T.BITS }
@@ -167,6 +176,7 @@ pub(crate) fn gathered<T: BitRegister, O: BitOrder<T>>(view: BitSlice<'_, T, O>,
 }
 
 // Makes the `len` bits from a place on the digits of a number.
+#[inline(always)]
 pub(crate) fn scatter<T: BitRegister, O: BitOrder<T>>(
     words: &mut [T],
     place: usize,
@@ -195,6 +205,7 @@ pub(crate) fn scatter<T: BitRegister, O: BitOrder<T>>(
 }
 
 // The number that a window holds, in a type that has as many bits at least.
+#[inline(always)]
 pub(crate) fn load_window<T: BitRegister, O: BitOrder<T>, M: Integral>(
     view: BitSlice<'_, T, O>,
     cut: Cut,
@@ -212,6 +223,7 @@ pub(crate) fn load_window<T: BitRegister, O: BitOrder<T>, M: Integral>(
 }
 
 // Stores as many of a number's lowest digits as the window has bits.
+#[inline(always)]
 pub(crate) fn store_window<T: BitRegister, O: BitOrder<T>, M: Integral>(
     words: &mut [T],
     place: usize,

@@ -1,6 +1,6 @@
 -- The digits of a number and the bits of a window.
 --
--- Gathered: `gathered_none`, `gathered_all`, and by `PieceLemmas` a piece more. What the gathered number is: `held_bits`.
+-- Gathered: `gathered_none`, `gathered_all`; a piece more by `PieceLemmas`. What the gathered number is: `held_bits`.
 -- What the digits that were written are: `stored_bits`. One list of bits tells one number: `same_digits`. A digit of a
 -- part of a number: `low_digit`; told by its truth value: `same_digit`.
 use Rattle.std.proofs.Common.{◌≡◌, ◌≢◌, ℕ, ◌/◌, ◌%◌, ◌^◌, ◌<◌, ◌≤◌, Bool, false, List, get_or, length}

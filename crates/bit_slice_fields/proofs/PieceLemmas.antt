@@ -84,7 +84,9 @@ pub piece_is : (low le : Bool) (b h n s e w : ℕ) → 0 < b → s < e → e ≤
     → IsPiece (weight low le b h n) n (way_for low) s (e - s) w
 piece_is low le b h n s e w some order inside few ends is =
     let each : (i : ℕ) → i < e - s → weight low le b h n (s + i) ≡ w + straight (e - s) (way_for low) i =
-    λ i lower. turns low le b h n s e i some inside ends lower ∙ ap (λ u. u + straight (e - s) (way_for low) i) (sym is) in
+    λ i lower.
+    turns low le b h n s e i some inside ends lower
+    ∙ ap (λ u. u + straight (e - s) (way_for low) i) (sym is) in
     let most = most_bit low (e - s) (omega arith) in
     let top = each most.0 most.1 in
     let below = weight_within low le b h n (s + most.0) some (omega (arith, most.1)) in

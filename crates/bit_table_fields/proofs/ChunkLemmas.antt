@@ -1,9 +1,10 @@
 -- Numbers and the chunks that hold their digits.
 --
--- A number of a list of bits, from the digits of a chunk: `held_digits`. A chunk of a number: `low_of`, `high_of`.
+-- Read: `held_digits`, a number from a chunk of its bits; `faced_chunk`, that chunk in another direction. Written:
+-- `lowest_digit`, `chunk_of_low`, `chunk_of_high`, the chunk of a number; `number_written`, it in a window.
 use Rattle.std.proofs.Common.{◌≡◌, ℕ, suc, ◌+◌, ◌-◌, ◌*◌, ◌/◌, ◌%◌, ◌^◌, ◌==◌, ◌<◌, ◌≤◌, Bool, true, false}
-use Rattle.std.proofs.Common.{List, [], ◌∷◌, length, get_or, reverse, cond, refl, sym, ap, ◌∙◌, inl, inr, arith, pow-suc}
-use Rattle.std.proofs.Common.{ℤ, SFits}
+use Rattle.std.proofs.Common.{List, [], ◌∷◌, length, get_or, reverse, cond, refl, sym, ap, ◌∙◌, inl, inr, arith}
+use Rattle.std.proofs.Common.{pow-suc, ℤ, SFits}
 use mir.Syntax.{w128}
 use Rattle.std.proofs.Math.Pow.{pow_pos}
 use Rattle.std.proofs.lemmas.Bool.{cases_lt, eqb-true}

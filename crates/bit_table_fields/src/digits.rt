@@ -1,7 +1,8 @@
 //! Numbers in windows of bits by a digit rule.
 //!
 //! An order writes the calls that end in `_at`, which have no body here: one whose two constants are false calls the
-//! functions of the same names in `digits_by_bits`. Users make the calls over windows.
+//! functions of the same names in `digits_by_bits`, but for `Lsb0` and `Msb0`, which go by chunks. Users make the calls
+//! over windows.
 
 ghost use Rattle.std.specs.Prelude.{◌≡◌, ℕ, ◌+◌, ◌*◌, ◌^◌, ◌<◌, ◌≤◌, Bool, true, false, length};
 ghost use Rattle.bit_addressing_memory.specs.Memory.{memory, piece, read_by, with_piece};

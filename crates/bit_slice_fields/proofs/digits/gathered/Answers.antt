@@ -26,20 +26,21 @@ loop-from-preserved g c =
     let shown = view_bits reading c.args.view in
     let cut = c.args.cut in
     let from = c.loop-from.from in
+    let head = c.parts-head.result.1 in
     let len = c.parts-head.result.2 in
     let piece = c.piece_of-piece.result in
     let some : 0 < g.T.BitRegister.BITS = omega (arith, g.met.T.BitRegister.least_bits) in
     let is = c.piece_of-piece.ensures in
     let chunk = rw c.way_of-way.ensures at c.read_bits-chunk.ensures in
     let has =
-    piece_digits (way_for cut.low) reading c.parts-head.result.0.now c.parts-head.result.1 len from piece.len
-    (c.parts-head.result.1 + from) c.read_bits-chunk.result c.digits_of-more.result shown some is.inside is.some is.few refl
+    piece_digits (way_for cut.low) reading c.parts-head.result.0.now head len from piece.len (head + from)
+    c.read_bits-chunk.result c.digits_of-more.result shown some is.inside is.some is.few refl
     c.parts-head.ensures.bits c.read_bits-chunk.type_inv c.digits_of-more.ensures chunk in
     record {
       digits =
           gathered_more cut.low cut.le g.T.BitRegister.BITS c.bits_of-bits.result cut.head (length shown) len from
-          piece.len piece.weight c.loop-from.digits c.digits_of-more.result c.with_piece-digits.result (from + piece.len)
-          shown (way_for cut.low) some c.requires.short c.bits_of-bits.ensures c.parts-head.ensures.len refl is has
+          piece.len piece.weight c.loop-from.digits c.digits_of-more.result c.with_piece-digits.result
+          (from + piece.len) shown (way_for cut.low) some c.requires.short c.bits_of-bits.ensures c.parts-head.ensures.len refl is has
           c.with_piece-digits.ensures refl c.loop-from.invariant.digits;
       upto = omega (arith, is.inside);
     }

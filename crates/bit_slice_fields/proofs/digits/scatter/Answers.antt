@@ -49,8 +49,9 @@ returns-clause-list g c =
     (λ k. digit_at c.args.digits (weighs k)) (bits_in_order weighs c.args.len c.args.digits)
     (length-bits_in_order weighs c.args.len c.args.digits)
     (λ k low. sym (get_or-bits_in_order weighs c.args.len c.args.digits k false low))
-    (subst (λ n. Overwrites reading c.args.words.now c.loop-from.words c.args.place n (λ k. digit_at c.args.digits (weighs k)))
-    all c.loop-from.invariant.written)
+    (subst
+    (λ n. Overwrites reading c.args.words.now c.loop-from.words c.args.place n
+    (λ k. digit_at c.args.digits (weighs k))) all c.loop-from.invariant.written)
 
 pub returns-clause-beside : goal.returns-clause-beside
 returns-clause-beside g c =

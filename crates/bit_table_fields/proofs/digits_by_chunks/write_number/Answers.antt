@@ -13,7 +13,9 @@ returns-clause-list g c =
     let reading = read_by g.R.BitRegister g.O.Positions.position in
     let some : 0 < g.R.BitRegister.BITS = omega (arith, g.met.R.BitRegister.least_bits) in
     let same =
-    subst (λ way. (i : _) → i < 64 → chunk_bit c.args.direction c.faced-turned.result i ≡ chunk_bit way c.chunk_of-chunk.result i)
+    subst
+    (λ way. (i : _) → i < 64
+    → chunk_bit c.args.direction c.faced-turned.result i ≡ chunk_bit way c.chunk_of-chunk.result i)
     c.way_of.ensures c.faced-turned.ensures in
     let held =
     subst (λ v. ChunkOf c.args.rule c.args.width v c.chunk_of-chunk.result) (to_z-of_z w128 c.args.value c.ranges.value)

@@ -1,6 +1,6 @@
 -- Numbers and the chunks that hold their digits.
 --
--- Read: `held_digits`, a number from a chunk of its bits; `faced_chunk`, that chunk in another direction. Written:
+-- Read: `held_digits`, a number from a chunk of its bits. Written:
 -- `lowest_digit`, `chunk_of_low`, `chunk_of_high`, the chunk of a number; `number_written`, it in a window.
 use Rattle.std.proofs.Common.{◌≡◌, ℕ, suc, ◌+◌, ◌-◌, ◌*◌, ◌/◌, ◌%◌, ◌^◌, ◌==◌, ◌<◌, ◌≤◌, Bool, true, false}
 use Rattle.std.proofs.Common.{List, [], ◌∷◌, length, get_or, reverse, cond, refl, sym, ap, ◌∙◌, inl, inr, arith}

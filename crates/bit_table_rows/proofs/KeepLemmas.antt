@@ -1,12 +1,13 @@
 -- Bits filled in one after another by a sweep that goes up.
 --
--- What stands at a place: `filled_inside`, `filled_before`, `filled_behind`, `filled_more`.
--- One bit: `word_begun`, `word_made`, `filled_within`, `filled_put`. Several: `fills_none`, `fills_more`.
--- All of them: `rest_none`, `rest_put`.
+-- What stands at a place: `filled_inside`, `filled_before`, `filled_behind`, `filled_added`, `filled_beside`.
+-- More bits in one word: `word_begun`, `word_made` (a bit), `word_moved` (several), `filled_within`, `filled_put`; by a sweep
+-- `fills_within`, `fills_put`. A row: `fills_none`, `fills_more`, `fills_bit`, `fills_part`. All of them: `rest_none`,
+-- `rest_put`.
 use Rattle.std.proofs.Common.{◌≡◌, ◌≢◌, ◌⊎◌, ℕ, suc, ◌+◌, ◌-◌, ◌*◌, ◌/◌, ◌%◌, ◌<◌, ◌≤◌}
 use Rattle.std.proofs.Common.{◌++◌, Bool, false, List, []}
 use Rattle.std.proofs.Common.{◌∷◌, Option, length, get_or, set, refl, sym, ap, ◌∙◌, inl, inr, arith, length-append}
-use Rattle.std.proofs.Common.{mul-le-mul_right}
+use Rattle.std.proofs.Common.{add-mul, mul-le-mul_right}
 use Rattle.std.proofs.lemmas.Bool.{cases_eq, cases_lt}
 use Rattle.std.proofs.lemmas.Bool.Decides.{nat_tests}
 use Rattle.std.proofs.lemmas.List.{get_or_append_left, get_or-append_right, append_assoc, append-nil, length-set}
@@ -15,12 +16,15 @@ use Rattle.bit_addressing_memory.proofs.EntryLemmas.{entry_read, entry-set_same,
 use Rattle.bit_addressing_memory.proofs.EntryLemmas.{indexed_other}
 use Rattle.bit_addressing_memory.proofs.Changes.{changed-set}
 use Rattle.bit_addressing_memory.proofs.MemoryLemmas.{piece_join}
-use Rattle.bit_addressing_memory.proofs.WindowLemmas.{length-window, window_is}
+use Rattle.bit_addressing_memory.proofs.ShiftedWords.{place_at}
+use Rattle.bit_addressing_memory.proofs.WindowLemmas.{length-window, window_bit, window_is, window_same}
 use Rattle.bit_addressing_memory.specs.Bits.{with_digit}
 use Rattle.bit_addressing_memory.specs.BitOrder.{IsLawful}
 use Rattle.bit_addressing_memory.specs.Memory.{Overwrites, Reading, entry, indexed, memory, piece, reading_in}
 use Rattle.bit_addressing_memory.specs.Memory.{touched}
+use Rattle.bit_addressing_memory.specs.MoveSteps.{BeginsWith}
 use Rattle.bit_addressing_memory.specs.Moves.{changed}
+use Rattle.bit_addressing_memory.specs.Partial.{IsStored}
 use Rattle.bit_addressing_memory.specs.Sweep.{SameButReads, edge_of, sweep_lender, sweep_words, way_of, writes_of}
 use Rattle.bit_addressing_memory.specs.declared.sweep.Sweep.{Sweep}
 use Rattle.bit_table_rows.specs.KeepSteps.{Filled, Fills, IsFilledWord, filled_bit}
@@ -42,58 +46,69 @@ pub filled_behind : {R : Type 0} (reading : Reading R) (before : List R) (first 
 unfolding filled_bit
 filled_behind reading before first bits p high = grind (arith, nat_tests)
 
--- one more bit changes the place behind the others alone
-pub filled_next : {R : Type 0} (reading : Reading R) (before : List R) (first : ℕ) (bits : List Bool) (bit : Bool)
-    → filled_bit reading before first (bits ++ bit ∷ []) (first + length bits) ≡ bit
-filled_next reading before first bits bit =
-    let size : length (bits ++ bit ∷ []) ≡ length bits + 1 = simp length-append (omega arith) in
-    let at : first + length bits - first ≡ length bits = omega arith in
-    let own : length bits - length bits ≡ 0 = omega arith in
-    filled_inside reading before first (bits ++ bit ∷ []) (first + length bits) (omega arith) (omega arith)
-    ∙ ap (λ i. get_or (bits ++ bit ∷ []) i false) at
-    ∙ get_or-append_right bits (bit ∷ []) (length bits) (length bits) false refl (omega arith)
-    ∙ ap (λ i. get_or (bit ∷ []) i false) own
+-- more bits change the places behind the others alone
+pub filled_added : {R : Type 0} (reading : Reading R) (before : List R) (first : ℕ) (bits more : List Bool) (k : ℕ)
+    → k < length more → filled_bit reading before first (bits ++ more) (first + length bits + k) ≡ get_or more k false
+filled_added reading before first bits more k low =
+    let size : length (bits ++ more) ≡ length bits + length more = length-append bits more in
+    let at : first + length bits + k - first ≡ length bits + k = omega arith in
+    let own : length bits + k - length bits ≡ k = omega arith in
+    filled_inside reading before first (bits ++ more) (first + length bits + k) (omega arith) (omega arith)
+    ∙ ap (λ i. get_or (bits ++ more) i false) at
+    ∙ get_or-append_right bits more (length bits) (length bits + k) false refl (omega arith)
+    ∙ ap (λ i. get_or more i false) own
 
-pub filled_more : {R : Type 0} (reading : Reading R) (before : List R) (first : ℕ) (bits : List Bool) (bit : Bool)
-    (p : ℕ) → p ≢ first + length bits
-    → filled_bit reading before first (bits ++ bit ∷ []) p ≡ filled_bit reading before first bits p
-filled_more reading before first bits bit p ne =
-    let size : length (bits ++ bit ∷ []) ≡ length bits + 1 = simp length-append (omega arith) in
+pub filled_beside : {R : Type 0} (reading : Reading R) (before : List R) (first : ℕ) (bits more : List Bool) (p : ℕ)
+    → (first + length bits ≤ p → first + length bits + length more ≤ p)
+    → filled_bit reading before first (bits ++ more) p ≡ filled_bit reading before first bits p
+filled_beside reading before first bits more p beside =
+    let size : length (bits ++ more) ≡ length bits + length more = length-append bits more in
     elim (cases_lt p first) [
       | inl low ↦
-          filled_before reading before first (bits ++ bit ∷ []) p low
+          filled_before reading before first (bits ++ more) p low
           ∙ sym (filled_before reading before first bits p low)
       | inr high ↦ elim (cases_lt p (first + length bits)) [
         | inl inside ↦
-            filled_inside reading before first (bits ++ bit ∷ []) p high (omega arith)
-            ∙ get_or_append_left bits (bit ∷ []) false (p - first) (omega arith)
+            filled_inside reading before first (bits ++ more) p high (omega arith)
+            ∙ get_or_append_left bits more false (p - first) (omega arith)
             ∙ sym (filled_inside reading before first bits p high inside)
         | inr past ↦
-            filled_behind reading before first (bits ++ bit ∷ []) p (omega arith)
+            let far = beside past in
+            filled_behind reading before first (bits ++ more) p (omega arith)
             ∙ sym (filled_behind reading before first bits p past)
       ]
     ]
 
 -- ---- the word of the next place
 
-next_inside : (b to : ℕ) → to % b + 1 < b → (to + 1) / b ≡ to / b
-next_inside b to low =
-    let is : to / b * b + (to % b + 1) ≡ to + 1 = omega (arith, div-add-mod' to b) in
-    ap (λ p. p / b) (sym is) ∙ div-mul-add (to / b) b (to % b + 1) low
+next_inside : (b to n : ℕ) → to % b + n < b → (to + n) / b ≡ to / b
+next_inside b to n low =
+    let is : to / b * b + (to % b + n) ≡ to + n = omega (arith, div-add-mod' to b) in
+    ap (λ p. p / b) (sym is) ∙ div-mul-add (to / b) b (to % b + n) low
 
-next_word : (b to : ℕ) → 0 < b → to % b + 1 ≡ b → (to + 1) / b ≡ to / b + 1
-next_word b to some last =
+next_word : (b to n : ℕ) → 0 < b → to % b + n ≡ b → (to + n) / b ≡ to / b + 1
+next_word b to n some last =
     let more : (to / b + 1) * b ≡ to / b * b + b = omega arith in
-    let is : (to / b + 1) * b + 0 ≡ to + 1 = omega (arith, div-add-mod' to b) in
+    let is : (to / b + 1) * b + 0 ≡ to + n = omega (arith, div-add-mod' to b) in
     ap (λ p. p / b) (sym is) ∙ div-mul-add (to / b + 1) b 0 some
 
-next_first : (b to : ℕ) → 0 < b → to % b + 1 ≡ b → (to + 1) % b ≡ 0
-next_first b to some last =
+next_first : (b to n : ℕ) → 0 < b → to % b + n ≡ b → (to + n) % b ≡ 0
+next_first b to n some last =
     let more : (to / b + 1) * b ≡ to / b * b + b = omega arith in
-    let is : (to / b + 1) * b + 0 ≡ to + 1 = omega (arith, div-add-mod' to b) in
+    let is : (to / b + 1) * b + 0 ≡ to + n = omega (arith, div-add-mod' to b) in
     ap (λ p. p % b) (sym is) ∙ mod-mul-add (to / b + 1) b 0 some
 
--- ---- one bit
+-- bits that go on in the next word have one
+pub next_within : (w b p n words : ℕ) → b ≡ w → b < p % b + n → p + n ≤ words * w → p / b + 1 < words
+next_within w b p n words is more within = elim (cases_lt (p / b + 1) words) [
+  | inl low ↦ low
+  | inr high ↦
+      let most = mul-le-mul_right w high in
+      let next : (p / b + 1) * w ≡ p / b * w + 1 * w = add-mul (p / b) 1 w in
+      absurd (omega (arith, place_at w b p is))
+]
+
+-- ---- more bits in a word
 
 module _ {R : Type 0} (reading : Reading R) (before now : List R) (first to : ℕ) (word : R) (bits : List Bool)
     (some : 0 < reading.bits) (had : Filled reading before now first to word bits) where
@@ -113,44 +128,48 @@ module _ {R : Type 0} (reading : Reading R) (before now : List R) (first to : �
       ] in
       entry_read reading now (to / reading.bits) i own low within is ∙ had.above p (omega arith) ∙ sym same
 
-  -- a bit more, with its word not full
-  pub filled_within : (next : R) (bit : Bool) → to % reading.bits + 1 < reading.bits
-      → IsFilledWord reading before first (bits ++ bit ∷ []) (to / reading.bits) next
-      → Filled reading before now first (to + 1) next (bits ++ bit ∷ [])
-  filled_within next bit low made =
-      let row : (to + 1) / reading.bits ≡ to / reading.bits = next_inside reading.bits to low in
+  -- more bits, with their word not full
+  pub filled_within : (next : R) (more : List Bool) → to % reading.bits + length more < reading.bits
+      → IsFilledWord reading before first (bits ++ more) (to / reading.bits) next
+      → Filled reading before now first (to + length more) next (bits ++ more)
+  filled_within next more low made =
+      let row : (to + length more) / reading.bits ≡ to / reading.bits =
+      next_inside reading.bits to (length more) low in
       let whole = div-add-mod' to reading.bits in
       let size = had.size in
+      let all : length (bits ++ more) ≡ length bits + length more = length-append bits more in
       record {
-        size = simp length-append (omega arith);
+        size = omega arith;
         below = λ p h.
             let under : p < to / reading.bits * reading.bits = rw row at h in
-            had.below p under ∙ sym (filled_more reading before first bits bit p (omega arith));
+            had.below p under ∙ sym (filled_beside reading before first bits more p (λ past. absurd (omega arith)));
         above = λ p h. had.above p (rw row at h);
         begun = λ _ _. rw row made;
         words = had.words;
       }
 
-  -- a bit more, with its word put
-  pub filled_put : (next : R) (bit : Bool) → to % reading.bits + 1 ≡ reading.bits → to / reading.bits < length now
-      → IsFilledWord reading before first (bits ++ bit ∷ []) (to / reading.bits) next
-      → Filled reading before (set now (to / reading.bits) next) first (to + 1) next (bits ++ bit ∷ [])
-  filled_put next bit last within made =
+  -- more bits, with their word put
+  pub filled_put : (next : R) (more : List Bool) → to % reading.bits + length more ≡ reading.bits
+      → to / reading.bits < length now
+      → IsFilledWord reading before first (bits ++ more) (to / reading.bits) next
+      → Filled reading before (set now (to / reading.bits) next) first (to + length more) next (bits ++ more)
+  filled_put next more last within made =
       let b = reading.bits in
       let j : ℕ = to / b in
-      let row : (to + 1) / b ≡ j + 1 = next_word b to some last in
-      let column : (to + 1) % b ≡ 0 = next_first b to some last in
+      let row : (to + length more) / b ≡ j + 1 = next_word b to (length more) some last in
+      let column : (to + length more) % b ≡ 0 = next_first b to (length more) some last in
       let whole : j * b + to % b ≡ to = div-add-mod' to b in
       let over : (j + 1) * b ≡ j * b + b = omega arith in
       let size = had.size in
+      let all : length (bits ++ more) ≡ length bits + length more = length-append bits more in
       record {
-        size = simp length-append (omega arith);
+        size = omega arith;
         below = λ p h. elim (cases_lt p (j * b)) [
           | inl under ↦
               let ne : p / b ≢ j = omega (arith, div_below p b j some under) in
               entry-set_other reading now j next p ne
               ∙ had.below p under
-              ∙ sym (filled_more reading before first bits bit p (omega arith))
+              ∙ sym (filled_beside reading before first bits more p (λ past. absurd (omega arith)))
           | inr here ↦
               let upto : p < (j + 1) * b = rw row at h in
               let i : ℕ = p - j * b in
@@ -161,7 +180,7 @@ module _ {R : Type 0} (reading : Reading R) (before now : List R) (first to : �
               entry-set_same reading now j next p is_row within
               ∙ ap (reading.digit next) is_column
               ∙ made i small
-              ∙ ap (filled_bit reading before first (bits ++ bit ∷ [])) at
+              ∙ ap (filled_bit reading before first (bits ++ more)) at
         ];
         above = λ p h.
             let past : (j + 1) * b ≤ p = rw row at h in
@@ -182,16 +201,60 @@ word_made b number at select mask before first bits j i own next bit law low pla
     let reading = reading_in b number at in
     elim (cases_eq k i) [
       | inl same ↦
-          let here : j * b + k ≡ first + length bits = omega arith in
+          let here : j * b + k ≡ first + length bits + 0 = omega arith in
+          let one : 0 < length (bit ∷ []) = omega arith in
           ap (indexed number at next) same
           ∙ indexed_same number at own next i bit made
           ∙ sym (ap (filled_bit reading before first (bits ++ bit ∷ [])) here
-          ∙ filled_next reading before first bits bit)
+          ∙ filled_added reading before first bits (bit ∷ []) 0 one)
       | inr other ↦
           indexed_other b number at select mask own next i bit k law low made small other
           ∙ had k small
-          ∙ sym (filled_more reading before first bits bit (j * b + k) (omega arith))
+          ∙ sym (filled_beside reading before first bits (bit ∷ []) (j * b + k) (λ past. omega arith))
     ]
+
+-- the word with more bits, stored from an index on
+word_stored : {R : Type 0} (reading : Reading R) (before : List R) (first : ℕ) (bits more : List Bool) (j i upto : ℕ)
+    (own there next : R) → j * reading.bits + i ≡ first + length bits → upto ≡ i + length more
+    → ((k : ℕ) → i ≤ k → k < upto → k < reading.bits → reading.digit there k ≡ get_or more (k - i) false)
+    → IsStored reading own next i upto (reading.digit there)
+    → IsFilledWord reading before first bits j own
+    → IsFilledWord reading before first (bits ++ more) j next
+word_stored reading before first bits more j i upto own there next place end is put had k small =
+    let beside = filled_beside reading before first bits more (j * reading.bits + k) in
+    elim (cases_lt k i) [
+      | inl under ↦ put.below k under small ∙ had k small ∙ sym (beside (λ past. absurd (omega arith)))
+      | inr up ↦ elim (cases_lt k upto) [
+        | inl inside ↦
+            let low : k - i < length more = omega arith in
+            let here : first + length bits + (k - i) ≡ j * reading.bits + k = omega arith in
+            put.inside k up inside small
+            ∙ is k up inside small
+            ∙ sym (filled_added reading before first bits more (k - i) low)
+            ∙ ap (filled_bit reading before first (bits ++ more)) here
+        | inr past ↦ put.above k past small ∙ had k small ∙ sym (beside (λ far. omega arith))
+      ]
+    ]
+
+-- the word with bits of the memory, moved up to an index and stored there
+pub word_moved : {R : Type 0} (reading : Reading R) (before words : List R) (first to from n index : ℕ)
+    (bits : List Bool) (word own moved there next : R) → 0 < reading.bits → index ≡ to % reading.bits
+    → from + n ≤ length words * reading.bits → BeginsWith reading words from n moved
+    → ((k : ℕ) → index ≤ k → k < reading.bits → reading.digit there k ≡ reading.digit moved (k - index))
+    → IsStored reading own next index (index + n) (reading.digit there)
+    → Filled reading before words first to word bits
+    → IsFilledWord reading before first bits (to / reading.bits) own
+    → IsFilledWord reading before first (bits ++ piece (memory reading words) from n) (to / reading.bits) next
+word_moved reading before words first to from n index bits word own moved there next some at within begins raised put
+    filled had =
+    let more = piece (memory reading words) from n in
+    let count : length more ≡ n = length-window reading words from n within in
+    let size = filled.size in
+    let place : to / reading.bits * reading.bits + index ≡ first + length bits =
+    omega (arith, div-add-mod' to reading.bits) in
+    word_stored reading before first bits more (to / reading.bits) index (index + n) own there next place (omega arith)
+    (λ k low high small. raised k low small ∙ begins (k - index) (omega arith)
+    ∙ sym (window_bit reading words from n (k - index) some (omega arith))) put had
 
 -- ---- the sweep
 
@@ -254,33 +317,31 @@ fills_read reading s t v word next first to more had same loan = record {
   lender = loan ∙ had.lender;
 }
 
--- one more, in a word that was read or is at hand, by reads from s to t
-module _ {R : Type 0} (b : ℕ) (number : R → ℕ) (at select : ℕ → ℕ) (mask : Option ℕ → Option ℕ → ℕ) (s t : Sweep R)
-    (word own next : R) (first to : ℕ) (bit : Bool) (law : IsLawful b at select mask) (some : 0 < b)
-    (same : SameButReads s t) (loan : sweep_lender t ≡ sweep_lender s)
-    (begun : (before : List R) (bits : List Bool)
-    → Filled (reading_in b number at) before (sweep_words s) first to word bits
-    → IsFilledWord (reading_in b number at) before first bits (to / b) own)
-    (made : number next ≡ with_digit (number own) (at (to % b)) bit) where
-  made_word : (before : List R) (bits : List Bool)
-      → Filled (reading_in b number at) before (sweep_words s) first to word bits
-      → IsFilledWord (reading_in b number at) before first (bits ++ bit ∷ []) (to / b) next
-  made_word before bits had =
-      let size = had.size in
-      word_made b number at select mask before first bits (to / b) (to % b) own next bit law (mod_below to b some)
-      (div-add-mod' to b ∙ size) made (begun before bits had)
+-- reads after reads
+pub reads_again : {R : Type 0} (s t u : Sweep R) → SameButReads s t → SameButReads t u → SameButReads s u
+reads_again s t u one other = record {
+  words = other.words ∙ one.words;
+  way = other.way ∙ one.way;
+  edge = other.edge ∙ one.edge;
+  writes = other.writes ∙ one.writes;
+}
 
+-- more bits, in a word that was read or is at hand, by reads from s to t
+module _ {R : Type 0} (reading : Reading R) (s t : Sweep R) (word next : R) (first to : ℕ) (more : List Bool)
+    (some : 0 < reading.bits) (same : SameButReads s t) (loan : sweep_lender t ≡ sweep_lender s)
+    (made : (before : List R) (bits : List Bool)
+    → Filled reading before (sweep_words s) first to word bits
+    → IsFilledWord reading before first (bits ++ more) (to / reading.bits) next) where
   -- the word is not full
-  pub fills_within : to % b + 1 < b
-      → Fills (reading_in b number at) s t word next first to (bit ∷ [])
+  pub fills_within : to % reading.bits + length more < reading.bits → Fills reading s t word next first to more
   fills_within low =
-      let reading = reading_in b number at in
-      let row : (to + 1) / b ≡ to / b = next_inside b to low in
+      let row : (to + length more) / reading.bits ≡ to / reading.bits =
+      next_inside reading.bits to (length more) low in
       record {
         filled = λ before bits had.
             rw same.words
-            (filled_within reading before (sweep_words s) first to word bits some had next bit low
-            (made_word before bits had));
+            (filled_within reading before (sweep_words s) first to word bits some had next more low
+            (made before bits had));
         ahead = λ p _. rw same.words refl;
         words = rw same.words refl;
         edge = λ h. rw (row, same.edge) h;
@@ -291,20 +352,21 @@ module _ {R : Type 0} (b : ℕ) (number : R → ℕ) (at select : ℕ → ℕ) (
       }
 
   -- the word is full, and put
-  pub fills_put : (u : Sweep R) → to % b + 1 ≡ b → to / b < length (sweep_words t)
-      → sweep_words u ≡ set (sweep_words t) (to / b) next → edge_of u ≡ to / b + 1
+  pub fills_put : (u : Sweep R) → to % reading.bits + length more ≡ reading.bits
+      → to / reading.bits < length (sweep_words t)
+      → sweep_words u ≡ set (sweep_words t) (to / reading.bits) next → edge_of u ≡ to / reading.bits + 1
       → writes_of u ≡ writes_of t + 1 → way_of u ≡ way_of t → sweep_lender u ≡ sweep_lender t
-      → Fills (reading_in b number at) s u word next first to (bit ∷ [])
+      → Fills reading s u word next first to more
   fills_put u last within words edge writes way lender =
-      let reading = reading_in b number at in
-      let row : (to + 1) / b ≡ to / b + 1 = next_word b to some last in
+      let b = reading.bits in
+      let row : (to + length more) / b ≡ to / b + 1 = next_word b to (length more) some last in
       let is : sweep_words u ≡ set (sweep_words s) (to / b) next = rw same.words at words in
       let low : to / b < length (sweep_words s) = rw same.words at within in
       record {
         filled = λ before bits had.
             rw is
-            (filled_put reading before (sweep_words s) first to word bits some had next bit last low
-            (made_word before bits had));
+            (filled_put reading before (sweep_words s) first to word bits some had next more last low
+            (made before bits had));
         ahead = λ p h.
             let past : (to / b + 1) * b ≤ p = rw row at h in
             let ne : p / b ≢ to / b = omega (arith, le-div (to / b + 1) p b some past) in
@@ -319,7 +381,7 @@ module _ {R : Type 0} (b : ℕ) (number : R → ℕ) (at select : ℕ → ℕ) (
         lender = lender ∙ loan;
       }
 
--- ---- a row, bit by bit
+-- ---- a row, bit by bit and part by part
 
 -- a window with one more entry
 window_more : {R : Type 0} (reading : Reading R) (words : List R) (from i : ℕ) (bit : Bool) → 0 < reading.bits
@@ -351,6 +413,24 @@ fills_bit reading s t v u word mid next first to from i bit some order within ha
     rw (← window_more reading (sweep_words s) from i bit some within there)
     (fills_more reading s v u word mid next first to (piece m from i) (bit ∷ []) some
     (fills_read reading s t v word mid first to (piece m from i) had same loan) put)
+
+-- a part of the row that is still as it was, put from t on
+pub fills_part : {R : Type 0} (reading : Reading R) (s t u : Sweep R) (word mid next : R) (first to from i n : ℕ)
+    → 0 < reading.bits → to ≤ from → from + (i + n) ≤ length (sweep_words s) * reading.bits
+    → Fills reading s t word mid first to (piece (memory reading (sweep_words s)) from i)
+    → Fills reading t u mid next first (to + i) (piece (memory reading (sweep_words t)) (from + i) n)
+    → Fills reading s u word next first to (piece (memory reading (sweep_words s)) from (i + n))
+fills_part reading s t u word mid next first to from i n some order within had more =
+    let m = memory reading (sweep_words s) in
+    let size : length (piece m from i) ≡ i = length-window reading (sweep_words s) from i (omega arith) in
+    let end : to + length (piece m from i) ≡ to + i = omega arith in
+    let there : piece (memory reading (sweep_words t)) (from + i) n ≡ piece m (from + i) n =
+    window_same reading (sweep_words s) (sweep_words t) (from + i) n some (omega arith) had.words
+    (λ k low. had.ahead (from + i + k) (rw end (omega (arith, div-add-mod' (to + i) reading.bits)))) in
+    let put : Fills reading t u mid next first (to + length (piece m from i)) (piece m (from + i) n) =
+    rw (end, ← there) more in
+    rw (← piece_join m from i (from + i) n (i + n) refl refl)
+    (fills_more reading s t u word mid next first to (piece m from i) (piece m (from + i) n) some had put)
 
 -- ---- all of them
 
@@ -386,10 +466,10 @@ touched_part b first to some any index =
     let count : to - first ≡ suc n = omega arith in
     let last : first + n + 1 ≡ to = omega arith in
     let low : (first + n) % b + 1 < b = elim (cases_eq ((first + n) % b + 1) b) [
-      | inl full ↦ absurd (omega (arith, rw last at (next_first b (first + n) some full)))
+      | inl full ↦ absurd (omega (arith, rw last at (next_first b (first + n) 1 some full)))
       | inr other ↦ omega (arith, mod_below (first + n) b some)
     ] in
-    let row : to / b ≡ (first + n) / b = rw last at (next_inside b (first + n) low) in
+    let row : to / b ≡ (first + n) / b = rw last at (next_inside b (first + n) 1 low) in
     let order : first / b ≤ (first + n) / b =
     le-div (first / b) (first + n) b some (omega (arith, div-add-mod' first b)) in
     rw count (omega arith)
@@ -402,11 +482,11 @@ touched_full b first to some any index =
     let last : first + n + 1 ≡ to = omega arith in
     let full : (first + n) % b + 1 ≡ b = elim (cases_lt ((first + n) % b + 1) b) [
       | inl low ↦
-          let row : to / b ≡ (first + n) / b = rw last at (next_inside b (first + n) low) in
+          let row : to / b ≡ (first + n) / b = rw last at (next_inside b (first + n) 1 low) in
           absurd (omega (arith, ap (λ q. q * b) row, div-add-mod' to b, div-add-mod' (first + n) b))
       | inr high ↦ omega (arith, mod_below (first + n) b some)
     ] in
-    let row : to / b ≡ (first + n) / b + 1 = rw last at (next_word b (first + n) some full) in
+    let row : to / b ≡ (first + n) / b + 1 = rw last at (next_word b (first + n) 1 some full) in
     let order : first / b ≤ (first + n) / b =
     le-div (first / b) (first + n) b some (omega (arith, div-add-mod' first b)) in
     rw count (omega arith)

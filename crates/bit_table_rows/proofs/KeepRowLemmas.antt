@@ -1,6 +1,6 @@
 -- Rows kept one after another by a sweep that goes up, and what all of them make of a list.
 --
--- Row by row: `at_first`, `at_kept`, `at_gone`. All rows: `keeps_rows`, `kept_writes`. The list: `kept_list`.
+-- Row by row: `at_first`, `at_run`, `at_gone`. All rows: `keeps_rows`, `kept_writes`. The list: `kept_list`.
 use Rattle.std.proofs.Common.{◌≡◌, ℕ, ◌+◌, ◌-◌, ◌*◌, ◌/◌, ◌<◌, ◌≤◌, Bool, true, false, List, []}
 use Rattle.std.proofs.Common.{length, get_or, refl, sym, ap, ◌∙◌, arith, add-mul, mul-le-mul_right}
 use Rattle.std.proofs.lemmas.Nat.{div-add-mod'}
@@ -11,12 +11,10 @@ use Rattle.bit_addressing_memory.specs.Sweep.{IsFresh, sweep_words, writes_of}
 use Rattle.bit_addressing_memory.specs.declared.sweep.Sweep.{Sweep}
 use Rattle.bit_addressing_memory.specs.declared.sweep.Way.TheVariants.{Up}
 use Rattle.bit_table_rows.specs.KeepSteps.{AtRow, Filled, Fills}
-use Rattle.bit_table_rows.specs.RowMoves.{row_at}
 use Rattle.bit_table_rows.specs.RowsKept.{KeepsRows, kept, left_before, rows_joined, rows_kept, rows_left}
 use Rattle.bit_table_rows.proofs.KeepLemmas.{filled_none, fills_more, fills_none}
-use Rattle.bit_table_rows.proofs.KeptLemmas.{few_left, joined_next, joined_part, left_stays}
-use Rattle.bit_table_rows.proofs.KeptLemmas.{length-joined, more_left}
-use Rattle.bit_table_rows.proofs.RowLemmas.{row_end}
+use Rattle.bit_table_rows.proofs.KeptLemmas.{few_left, joined_part, joined_run, left_stays}
+use Rattle.bit_table_rows.proofs.KeptLemmas.{length-joined, more_run}
 
 -- ---- row by row
 
@@ -66,42 +64,45 @@ module _ {R : Type 0} (reading : Reading R) (s t : Sweep R) (start word : R) (fi
       let all = length-joined w (piece (memory reading (sweep_words s)) first (n * w)) off k (omega (arith, at.end)) in
       ap (λ m. first + m) (all ∙ ap (λ m. m * w) (sym at.count_is))
 
-  -- the row is still as it was
-  row_there : piece (memory reading (sweep_words t)) (first + k * w) w
-      ≡ row_at w (piece (memory reading (sweep_words s)) first (n * w)) k
-  row_there =
-      let inside = row_end k n w low in
+  -- the next rows are still as they were
+  rows_there : (m : ℕ) → k + m ≤ n → piece (memory reading (sweep_words t)) (first + k * w) (m * w)
+      ≡ piece (piece (memory reading (sweep_words s)) first (n * w)) (k * w) (m * w)
+  rows_there m more =
+      let all : (k + m) * w ≡ k * w + m * w = add-mul k m w in
+      let inside : (k + m) * w ≤ n * w = mul-le-mul_right w more in
       let far = div-add-mod' (first + count * w) reading.bits in
-      window_same reading (sweep_words s) (sweep_words t) (first + k * w) w some (omega arith) at.fills.words
+      window_same reading (sweep_words s) (sweep_words t) (first + k * w) (m * w) some (omega arith) at.fills.words
       (λ i small.
       at.fills.ahead (first + k * w + i) (rw filled_end (omega (arith, at.kept_end))))
-      ∙ sym (piece_piece (memory reading (sweep_words s)) first (n * w) (k * w) w inside)
+      ∙ sym (piece_piece (memory reading (sweep_words s)) first (n * w) (k * w) (m * w) (omega arith))
 
-  -- a row that stays
-  pub at_kept : (u : Sweep R) (next : R) → get_or off k false ≡ false
-      → Fills reading t u word next first (first + count * w) (piece (memory reading (sweep_words t)) (first + k * w) w)
-      → AtRow reading s u start next first n w off (k + 1) (count + 1)
-  at_kept u next stays put =
+  -- rows that stay, one behind the other
+  pub at_run : (u : Sweep R) (next : R) (m : ℕ) → k + m ≤ n
+      → ((i : ℕ) → i < m → get_or off (k + i) false ≡ false)
+      → Fills reading t u word next first (first + count * w)
+      (piece (memory reading (sweep_words t)) (first + k * w) (m * w))
+      → AtRow reading s u start next first n w off (k + m) (count + m)
+  at_run u next m upto stay put =
       let xs = piece (memory reading (sweep_words s)) first (n * w) in
       let done = rows_joined w xs (left_before off k) in
-      let row = row_at w xs k in
-      let inside = row_end k n w low in
-      let row_size : length row ≡ w =
-      length-piece xs (k * w) w (omega (arith, length-window reading (sweep_words s) first (n * w) within)) in
-      let more : (count + 1) * w ≡ count * w + 1 * w = add-mul count 1 w in
-      let most : (k + 1) * w ≡ k * w + 1 * w = add-mul k 1 w in
-      let step : Fills reading t u word next first (first + length done) row = rw (filled_end, ← row_there) put in
+      let rows = piece xs (k * w) (m * w) in
+      let all : (k + m) * w ≡ k * w + m * w = add-mul k m w in
+      let inside : (k + m) * w ≤ n * w = mul-le-mul_right w upto in
+      let row_size : length rows ≡ m * w =
+      length-piece xs (k * w) (m * w) (omega (arith, length-window reading (sweep_words s) first (n * w) within)) in
+      let more : (count + m) * w ≡ count * w + m * w = add-mul count m w in
+      let step : Fills reading t u word next first (first + length done) rows = rw (filled_end, ← rows_there m upto) put in
       let edge = put.edge at.edge in
-      let last : first + count * w + length (piece (memory reading (sweep_words t)) (first + k * w) w)
-      ≡ first + (count + 1) * w = rw row_there (omega arith) in
+      let last : first + count * w + length (piece (memory reading (sweep_words t)) (first + k * w) (m * w))
+      ≡ first + (count + m) * w = rw (rows_there m upto) (omega arith) in
       record {
         fills =
-            rw (joined_next w xs off k stays)
-            (fills_more reading s t u start word next first first done row some at.fills step);
-        count_is = ap (λ m. m + 1) at.count_is ∙ sym (more_left off k stays);
+            rw (joined_run w xs off k m stay)
+            (fills_more reading s t u start word next first first done rows some at.fills step);
+        count_is = ap (λ c. c + m) at.count_is ∙ sym (more_run off k m stay);
         few = omega (arith, at.few);
         kept_end = omega (arith, at.kept_end);
-        end = next_end;
+        end = inside;
         edge = rw last at edge;
         way = put.way ∙ at.way;
       }

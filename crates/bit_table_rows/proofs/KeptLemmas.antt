@@ -1,18 +1,18 @@
 -- Rows that are kept, one after another: their numbers, how many they are, and their bits end to end.
 --
--- One row more: `left_next`, `left_stays`, `joined_next`, `joined_stays`. How many: `more_left`, `few_left`,
--- `count_left`, `length-rows_left`. Their bits: `length-joined`, and of a longer list `joined_part`. Elements that stay:
+-- One row more: `left_next`, `left_stays`, `joined_next`, `joined_stays`; several: `joined_run`, `run_stays`. How many: `more_left`,
+-- `more_run`, `few_left`, `count_left`, `length-rows_left`. Their bits: `length-joined`, and of a longer list `joined_part`. Elements that stay:
 -- `left_of_next`, `left_of_stays`, `left_of-map`, `left_of-filter`.
-use Rattle.std.proofs.Common.{◌≡◌, ℕ, zero, suc, ◌+◌, ◌*◌, ◌<◌, ◌≤◌, ◌++◌, Bool, true, false, cond, not, List, []}
+use Rattle.std.proofs.Common.{◌≡◌, ℕ, zero, suc, ◌+◌, ◌-◌, ◌*◌, ◌<◌, ◌≤◌, ◌++◌, Bool, true, false, cond, not, List, []}
 use Rattle.std.proofs.Common.{◌∷◌, length, take, get_or, refl, sym, ap, ◌∙◌, arith, add-one, add-mul, length-append}
 use Rattle.std.proofs.Common.{ap₂, inl, inr, length-take-le, map, subst}
 use Rattle.std.proofs.lemmas.Bool.{cases_Bool}
 use Rattle.std.proofs.lemmas.Grind.{flat_map-append}
-use Rattle.std.proofs.lemmas.List.{append-nil, map-id, take_all, take_more}
+use Rattle.std.proofs.lemmas.List.{append-nil, append_assoc, map-id, take_all, take_more}
 use Rattle.std.proofs.lemmas.List.FromFn.{filter_of_map_range_with_len_more}
 use Rattle.std.proofs.lemmas.List.Sums.{count_by_more_no, count_by_more_yes}
 use Rattle.std.specs.List.{count_by, filter, range_with_len}
-use Rattle.bit_addressing_memory.proofs.MemoryLemmas.{length-piece, piece_join, piece_piece}
+use Rattle.bit_addressing_memory.proofs.MemoryLemmas.{length-piece, piece_join, piece_none, piece_piece}
 use Rattle.bit_addressing_memory.specs.Memory.{piece}
 use Rattle.bit_table_rows.proofs.RowLemmas.{row_end}
 use Rattle.bit_table_rows.specs.RowMoves.{row_at}
@@ -51,11 +51,52 @@ pub joined_stays : (w : ℕ) (bits off : List Bool) (n : ℕ) → get_or off n f
     → rows_joined w bits (left_before off (n + 1)) ≡ rows_joined w bits (left_before off n)
 joined_stays w bits off n is = ap (rows_joined w bits) (left_stays off n is)
 
+-- several that stay, one behind the other
+pub joined_run : (w : ℕ) (bits off : List Bool) (k m : ℕ) → ((i : ℕ) → i < m → get_or off (k + i) false ≡ false)
+    → rows_joined w bits (left_before off (k + m))
+    ≡ rows_joined w bits (left_before off k) ++ piece bits (k * w) (m * w)
+joined_run w bits off k zero stay =
+    let here : k + 0 ≡ k = omega arith in
+    let none : 0 * w ≡ 0 = omega arith in
+    ap (λ n. rows_joined w bits (left_before off n)) here
+    ∙ sym (append-nil (rows_joined w bits (left_before off k)))
+    ∙ ap (λ xs. rows_joined w bits (left_before off k) ++ xs) (sym (piece_none bits (k * w) (0 * w) none))
+joined_run w bits off k (suc m) stay =
+    let next : k + suc m ≡ k + m + 1 = omega arith in
+    let before = joined_run w bits off k m (λ i low. stay i (omega arith)) in
+    let place : (k + m) * w ≡ k * w + m * w = add-mul k m w in
+    let size : suc m * w ≡ m * w + w = omega arith in
+    ap (λ n. rows_joined w bits (left_before off n)) next
+    ∙ joined_next w bits off (k + m) (stay m (omega arith))
+    ∙ ap (λ xs. xs ++ row_at w bits (k + m)) before
+    ∙ append_assoc (rows_joined w bits (left_before off k)) (piece bits (k * w) (m * w)) (row_at w bits (k + m))
+    ∙ ap (λ xs. rows_joined w bits (left_before off k) ++ xs)
+    (piece_join bits (k * w) (m * w) ((k + m) * w) w (suc m * w) place size)
+
+-- the first of them and those behind it
+pub run_stays : (off : List Bool) (k upto : ℕ) → get_or off k false ≡ false
+    → ((i : ℕ) → k + 1 ≤ i → i < upto → get_or off i false ≡ false)
+    → (i : ℕ) → i < upto - k → get_or off (k + i) false ≡ false
+run_stays off k upto first behind zero low =
+    let here : k + 0 ≡ k = omega arith in
+    ap (λ n. get_or off n false) here ∙ first
+run_stays off k upto first behind (suc i) low = behind (k + suc i) (omega arith) (omega arith)
+
 -- ---- sizes
 
 pub more_left : (off : List Bool) (n : ℕ) → get_or off n false ≡ false
     → length (left_before off (n + 1)) ≡ length (left_before off n) + 1
 more_left off n is = ap length (left_next off n is) ∙ length-append (left_before off n) (n ∷ [])
+
+pub more_run : (off : List Bool) (k m : ℕ) → ((i : ℕ) → i < m → get_or off (k + i) false ≡ false)
+    → length (left_before off (k + m)) ≡ length (left_before off k) + m
+more_run off k zero stay =
+    let here : k + 0 ≡ k = omega arith in
+    ap (λ n. length (left_before off n)) here ∙ omega arith
+more_run off k (suc m) stay =
+    let next : k + suc m ≡ k + m + 1 = omega arith in
+    let before = more_run off k m (λ i low. stay i (omega arith)) in
+    ap (λ n. length (left_before off n)) next ∙ more_left off (k + m) (stay m (omega arith)) ∙ omega arith
 
 -- no more rows stay than there are
 pub few_left : (off : List Bool) (n : ℕ) → length (left_before off n) ≤ n

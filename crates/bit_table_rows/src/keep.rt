@@ -1,12 +1,16 @@
 //! Rows kept by one sweep, the others left out.
 //!
 //! The kept rows' bits are gathered into words one after another, and each word is put once, when it is full or when
-//! all rows are there.
+//! all rows are there. Where the positions of a word go straight with its indices, as many bits at a time are moved by
+//! shifts as fit into the word at hand, else one.
 
 ghost use Rattle.std.specs.Prelude.{◌≡◌, ℕ, ◌+◌, ◌-◌, ◌*◌, ◌/◌, ◌%◌, ◌^◌, ◌<◌, ◌≤◌, Bool, false, List, [], ◌∷◌, length};
-ghost use Rattle.std.specs.Prelude.{count_by, not, slice_index_or};
+ghost use Rattle.std.specs.Prelude.{Some, count_by, not, slice_index_or};
 ghost use Rattle.bit_addressing_memory.specs.Memory.{Overwrites, entry, memory, piece, read_by, touched};
+ghost use Rattle.bit_addressing_memory.specs.MoveSteps.{BeginsWith};
 ghost use Rattle.bit_addressing_memory.specs.Moves.{changed};
+ghost use Rattle.bit_addressing_memory.specs.Straight.{Goes};
+ghost use Rattle.bit_addressing_memory.specs.declared.direction.Direction.{Direction};
 ghost use Rattle.bit_addressing_memory.specs.Sweep.{IsFresh, SameButReads, edge_of, sweep_lender, sweep_words, way_of};
 ghost use Rattle.bit_addressing_memory.specs.Sweep.{writes_of};
 ghost use Rattle.bit_addressing_memory.specs.declared.sweep.Way.TheVariants.{Up};
@@ -15,7 +19,10 @@ ghost use Rattle.bit_table_rows.specs.KeepSteps.{Filled, Fills, IsFilledWord};
 ghost use Rattle.bit_table_rows.specs.RowsKept.{KeepsRows, rows_kept};
 
 use bit_addressing_memory::mem::bits_of;
-use bit_addressing_memory::{BitIdx, BitOrder, BitRegister, Sweep, read_bit, write_bit};
+use bit_addressing_memory::{
+    BitEnd, BitIdx, BitOrder, BitRegister, Direction, Sweep, direction_of, joined, raised,
+    read_bit, stored, write_bit,
+};
 use bit_slice_views::{BitSlice, Bits};
 
 /// Keeps those of the `n` rows whose entry in `off` is false: they come to lie in their order from bit `head` of the
@@ -57,38 +64,188 @@ pub fn keep_rows<T: BitRegister, O: BitOrder<T>>(
     ensures lender { sweep_lender sweep.new ≡ sweep_lender sweep.old }
 {
     let first = head.into_inner() as usize;
+    // Told once: looked for anew at each row it would cost more than the row where it is not known beforehand.
+    let direction = direction_of::<T, O>();
     let mut word = T::ZERO;
     let mut kept: usize = 0;
-    'rows: for k in 0..n {
-        if !off.bit(k) {
-            word = keep_row::<T, O>(sweep, word, first, first + kept * w, first + k * w, w);
-            kept += 1;
+    let mut k: usize = 0;
+    'rows: while k < n {
+        if off.bit(k) {
+            k += 1;
+        } else {
+            // Rows that stay one behind the other move as one.
+            let upto = stay_upto::<T, O>(off, k + 1, n);
+            let (to, from) = (first + kept * w, first + k * w);
+            word = keep_run::<T, O>(sweep, direction, word, first, to, from, (upto - k) * w);
+            kept += upto - k;
+            k = upto;
         }
     }
     put_rest::<T, O>(sweep, word, first, first + kept * w);
     kept
 }
 
-// Puts the bits of a row, which stand from the place `from` on, to the place `to` on. `word` is at hand for the word of
-// `to`, and the word for the place behind them is answered.
-fn keep_row<T: BitRegister, O: BitOrder<T>>(
+// Up to which of `n` rows those from `k` on stay.
+fn stay_upto<T: BitRegister, O: BitOrder<T>>(off: BitSlice<'_, T, O>, k: usize, n: usize) -> usize
+    requires flags { length (view_bits (read_by T.BitRegister O.position) off) ≡ n }
+    requires order { k ≤ n }
+    ensures low { k ≤ result }
+    ensures high { result ≤ n }
+    ensures stay { (i : ℕ) → k ≤ i → i < result
+        → slice_index_or (view_bits (read_by T.BitRegister O.position) off.entry) i false ≡ false }
+{
+    for i in k..n {
+        if off.bit(i) {
+            return i;
+        }
+    }
+    n
+}
+
+// Puts the bits of rows, which stand from the place `from` on, to the place `to` on. `word` is at hand for the word of
+// `to`, and the word for the place behind them is answered. The positions go in `direction`, where there is one.
+#[inline(always)]
+fn keep_run<T: BitRegister, O: BitOrder<T>>(
+    sweep: &mut Sweep<'_, T>,
+    direction: Option<Direction>,
+    word: T,
+    first: usize,
+    to: usize,
+    from: usize,
+    len: usize,
+) -> T
+    requires goes { (d : Direction) → direction ≡ Some d → Goes T.BITS O.position d }
+    requires way { way_of sweep.old ≡ Up }
+    requires edge { edge_of sweep.old ≤ to / T.BITS }
+    requires order { to ≤ from }
+    requires within { from + len ≤ length (sweep_words sweep.old) * T.BITS }
+    requires ends { from + len < 2 ^ 64 }
+    ensures { Fills (read_by T.BitRegister O.position) sweep.old sweep.new word result first to
+        (piece (memory (read_by T.BitRegister O.position) (sweep_words sweep.old)) from len) }
+{
+    match direction {
+        Some(direction) => keep_by_parts::<T, O>(sweep, direction, word, first, to, from, len),
+        None => keep_by_bits::<T, O>(sweep, word, first, to, from, len),
+    }
+}
+
+// The same in an order that goes straight: each part of them that comes to lie in one word at once.
+fn keep_by_parts<T: BitRegister, O: BitOrder<T>>(
+    sweep: &mut Sweep<'_, T>,
+    direction: Direction,
+    word: T,
+    first: usize,
+    to: usize,
+    from: usize,
+    len: usize,
+) -> T
+    requires goes { Goes T.BITS O.position direction }
+    requires way { way_of sweep.old ≡ Up }
+    requires edge { edge_of sweep.old ≤ to / T.BITS }
+    requires order { to ≤ from }
+    requires within { from + len ≤ length (sweep_words sweep.old) * T.BITS }
+    requires ends { from + len < 2 ^ 64 }
+    ensures { Fills (read_by T.BitRegister O.position) sweep.old sweep.new word result first to
+        (piece (memory (read_by T.BitRegister O.position) (sweep_words sweep.old)) from len) }
+{
+    let bits = bits_of::<T>();
+    let mut next = word;
+    let mut done: usize = 0;
+    'parts: while done < len {
+        let count = (bits - (to + done) % bits).min(len - done);
+        next = keep_part::<T, O>(sweep, direction, next, first, to + done, from + done, count);
+        done += count;
+    }
+    next
+}
+
+// Puts so many bits, which stand from the place `from` on, to the place `to` on, all into its word, which is put once it
+// is full.
+#[inline(always)]
+fn keep_part<T: BitRegister, O: BitOrder<T>>(
+    sweep: &mut Sweep<'_, T>,
+    direction: Direction,
+    word: T,
+    first: usize,
+    to: usize,
+    from: usize,
+    count: usize,
+) -> T
+    requires goes { Goes T.BITS O.position direction }
+    requires way { way_of sweep.old ≡ Up }
+    requires edge { edge_of sweep.old ≤ to / T.BITS }
+    requires some { 0 < count }
+    requires fits { to % T.BITS + count ≤ T.BITS }
+    requires order { to ≤ from }
+    requires within { from + count ≤ length (sweep_words sweep.old) * T.BITS }
+    ensures { Fills (read_by T.BitRegister O.position) sweep.old sweep.new word result first to
+        (piece (memory (read_by T.BitRegister O.position) (sweep_words sweep.old)) from count) }
+{
+    let bits = bits_of::<T>();
+    let index = to % bits;
+    let moved = bits_from::<T, O>(sweep, direction, from, count);
+    let there = raised::<T, O>(direction, moved, index as u8);
+    let own = begun::<T, O>(sweep, word, first, to);
+    let head = BitIdx::new_unchecked(index as u8);
+    let tail = BitEnd::new_unchecked((index + count) as u8);
+    let next = stored::<T, O>(own, there, head, tail);
+    if index + count == bits {
+        sweep.put(to / bits, next);
+    }
+    next
+}
+
+// A word that begins with so many bits of the memory, those from a place on: of the word there, and of the next one
+// where they go on in it.
+#[inline(always)]
+fn bits_from<T: BitRegister, O: BitOrder<T>>(
+    sweep: &mut Sweep<'_, T>,
+    direction: Direction,
+    place: usize,
+    count: usize,
+) -> T
+    requires goes { Goes T.BITS O.position direction }
+    requires some { 0 < count }
+    requires most { count ≤ T.BITS }
+    requires within { place + count ≤ length (sweep_words sweep.old) * T.BITS }
+    ensures digits { BeginsWith (read_by T.BitRegister O.position) (sweep_words sweep.old) place count result }
+    ensures same { SameButReads sweep.old sweep.new }
+    ensures lender { sweep_lender sweep.new ≡ sweep_lender sweep.old }
+{
+    let bits = bits_of::<T>();
+    let word = place / bits;
+    let index = place % bits;
+    let one = sweep.read(word);
+    if index == 0 {
+        return one;
+    }
+    if index + count <= bits {
+        return joined::<T, O>(direction, one, one, index as u8);
+    }
+    let next = sweep.read(word + 1);
+    joined::<T, O>(direction, one, next, index as u8)
+}
+
+// The same in any order, bit by bit.
+#[inline(never)]
+fn keep_by_bits<T: BitRegister, O: BitOrder<T>>(
     sweep: &mut Sweep<'_, T>,
     word: T,
     first: usize,
     to: usize,
     from: usize,
-    w: usize,
+    len: usize,
 ) -> T
     requires way { way_of sweep.old ≡ Up }
     requires edge { edge_of sweep.old ≤ to / T.BITS }
     requires order { to ≤ from }
-    requires within { from + w ≤ length (sweep_words sweep.old) * T.BITS }
-    requires ends { from + w < 2 ^ 64 }
+    requires within { from + len ≤ length (sweep_words sweep.old) * T.BITS }
+    requires ends { from + len < 2 ^ 64 }
     ensures { Fills (read_by T.BitRegister O.position) sweep.old sweep.new word result first to
-        (piece (memory (read_by T.BitRegister O.position) (sweep_words sweep.old)) from w) }
+        (piece (memory (read_by T.BitRegister O.position) (sweep_words sweep.old)) from len) }
 {
     let mut next = word;
-    'bits: for i in 0..w {
+    'bits: for i in 0..len {
         let bit = bit_at_place::<T, O>(sweep, from + i);
         next = keep_bit::<T, O>(sweep, next, first, to + i, bit);
     }

@@ -1,14 +1,60 @@
-use Rattle.std.proofs.Common.{arith, ◌≡◌, ◌+◌, ◌*◌, ◌<◌, ◌≤◌, ◌∙◌, ap, length, subst, sym}
+use Rattle.std.proofs.Common.{arith, ◌≡◌, ℕ, ◌+◌, ◌-◌, ◌*◌, ◌<◌, ◌≤◌, ◌∙◌, ap, length, subst, sym}
 use Rattle.bit_addressing_memory.proofs.Changes.{unchanged}
 use Rattle.bit_addressing_memory.specs.Memory.{read_by}
 use Rattle.bit_addressing_memory.specs.Sweep.{sweep_words}
 use Rattle.bit_slice_views.specs.View.{view_bits}
 use Rattle.bit_table_rows.specs.KeepSteps.{AtRow}
 use Rattle.bit_table_rows.specs.RowsKept.{left_before}
-use Rattle.bit_table_rows.proofs.KeepRowLemmas.{at_gone, at_kept, keeps_rows, kept_list}
-use Rattle.bit_table_rows.proofs.KeptLemmas.{length-rows_left}
-use Rattle.bit_table_rows.proofs.keep.keep_rows.Goals.{then-not-bit, else-not-bit}
+use Rattle.bit_table_rows.proofs.KeepRowLemmas.{at_gone, at_run, keeps_rows, kept_list}
+use Rattle.bit_table_rows.proofs.KeptLemmas.{length-rows_left, run_stays}
+use Rattle.bit_table_rows.proofs.RowLemmas.{rows_below, rows_join}
 use Rattle.bit_table_rows.proofs.keep.keep_rows.Goals as goal
+
+pub keep_run-word-requires-clause-goes : goal.keep_run-word-requires-clause-goes
+keep_run-word-requires-clause-goes g c d is = (c.direction_of-direction.ensures d).0 is
+
+-- rows that stay lie among all rows
+pub keep_run-word-requires-clause-within : goal.keep_run-word-requires-clause-within
+keep_run-word-requires-clause-within g c =
+    let upto = c.stay_upto-upto.result in
+    let order : c.rows.k ≤ upto = omega (arith, c.stay_upto-upto.ensures.low) in
+    let words = ap (λ k. k * g.T.BitRegister.BITS) c.rows.invariant.at.fills.words in
+    omega (
+      arith,
+      words,
+      rows_join c.rows.k upto c.args.w order,
+      rows_below upto c.args.n c.args.w c.stay_upto-upto.ensures.high,
+      c.requires.within,
+      c.into_inner-first.ensures.value,
+    )
+
+pub keep_run-word-requires-clause-ends : goal.keep_run-word-requires-clause-ends
+keep_run-word-requires-clause-ends g c =
+    let upto = c.stay_upto-upto.result in
+    let order : c.rows.k ≤ upto = omega (arith, c.stay_upto-upto.ensures.low) in
+    omega (
+      arith,
+      rows_join c.rows.k upto c.args.w order,
+      rows_below upto c.args.n c.args.w c.stay_upto-upto.ensures.high,
+      c.requires.ends,
+      c.into_inner-first.ensures.value,
+    )
+
+pub rows-preserved-then-bit : goal.rows-preserved-then-bit
+rows-preserved-then-bit g c =
+    let reading = read_by g.T.BitRegister g.O.Positions.position in
+    let off = view_bits reading c.args.off in
+    let first = c.into_inner-first.result in
+    let zero = g.T.BitRegister.ZERO in
+    let some : 0 < reading.bits = omega (arith, g.met.T.BitRegister.least_bits) in
+    let low : c.rows.k < c.args.n = c.rows-test.true in
+    let within : first + c.args.n * c.args.w ≤ length (sweep_words c.args.sweep.now) * reading.bits =
+    omega (arith, c.requires.within, c.into_inner-first.ensures.value) in
+    record {
+      at = at_gone reading c.args.sweep.now c.rows.sweep zero c.rows.word first c.args.n c.args.w off c.rows.k
+          c.rows.kept some low within c.rows.invariant.at (sym c.bit.ensures ∙ c.if-bit.true);
+      inside = omega arith;
+    }
 
 pub rows-preserved : goal.rows-preserved
 rows-preserved g c =
@@ -17,26 +63,28 @@ rows-preserved g c =
     let first = c.into_inner-first.result in
     let zero = g.T.BitRegister.ZERO in
     let some : 0 < reading.bits = omega (arith, g.met.T.BitRegister.least_bits) in
-    let low : c.rows.k < c.args.n = omega arith in
+    let low : c.rows.k < c.args.n = c.rows-test.true in
     let within : first + c.args.n * c.args.w ≤ length (sweep_words c.args.sweep.now) * reading.bits =
     omega (arith, c.requires.within, c.into_inner-first.ensures.value) in
-    elim c.if-not-bit.branch [
-      | then-not-bit w ↦
-          rw (w.sweep-is, w.word-is, w.kept-is)
-          (at_kept reading c.args.sweep.now c.rows.sweep zero c.rows.word first c.args.n c.args.w off c.rows.k
-          c.rows.kept some low within c.rows.invariant w.keep_row-word.new.sweep w.keep_row-word.result
-          (sym c.bit.ensures ∙ w.if-not-bit.true) w.keep_row-word.ensures)
-      | else-not-bit w ↦
-          rw (w.sweep-is, w.word-is, w.kept-is)
-          (at_gone reading c.args.sweep.now c.rows.sweep zero c.rows.word first c.args.n c.args.w off c.rows.k
-          c.rows.kept some low within c.rows.invariant (sym c.bit.ensures ∙ w.if-not-bit.false))
-    ]
+    let upto = c.stay_upto-upto.result in
+    let m : ℕ = upto - c.rows.k in
+    let all : c.rows.k + m ≡ upto = omega (arith, c.stay_upto-upto.ensures.low) in
+    let high : c.rows.k + m ≤ c.args.n = omega (arith, c.stay_upto-upto.ensures.high) in
+    record {
+      at = subst (λ k. AtRow reading c.args.sweep.now c.keep_run-word.new.sweep zero c.keep_run-word.result first c.args.n
+          c.args.w off k (c.rows.kept + m)) all
+          (at_run reading c.args.sweep.now c.rows.sweep zero c.rows.word first c.args.n c.args.w off c.rows.k
+          c.rows.kept some low within c.rows.invariant.at c.keep_run-word.new.sweep c.keep_run-word.result m high
+          (run_stays off c.rows.k upto (sym c.bit.ensures ∙ c.if-bit.false) c.stay_upto-upto.ensures.stay)
+          c.keep_run-word.ensures);
+      inside = c.stay_upto-upto.ensures.high;
+    }
 
 pub returns-clause-count : goal.returns-clause-count
 returns-clause-count g c =
     let off = view_bits (read_by g.T.BitRegister g.O.Positions.position) c.args.off in
     let all : c.rows.k ≡ length off = omega arith in
-    c.rows.invariant.count_is ∙ ap (λ k. length (left_before off k)) all ∙ length-rows_left off
+    c.rows.invariant.at.count_is ∙ ap (λ k. length (left_before off k)) all ∙ length-rows_left off
 
 pub returns-clause-rows : goal.returns-clause-rows
 returns-clause-rows g c =
@@ -49,7 +97,7 @@ returns-clause-rows g c =
     let at : AtRow reading c.args.sweep.now c.rows.sweep zero c.rows.word first c.args.n c.args.w off c.args.n
     c.rows.kept =
     subst (λ k. AtRow reading c.args.sweep.now c.rows.sweep zero c.rows.word first c.args.n c.args.w off k c.rows.kept)
-    all c.rows.invariant in
+    all c.rows.invariant.at in
     let within : first + c.args.n * c.args.w ≤ length (sweep_words c.args.sweep.now) * reading.bits =
     omega (arith, c.requires.within, c.into_inner-first.ensures.value) in
     rw (← c.into_inner-first.ensures.value)
@@ -70,7 +118,7 @@ returns-clause-changed g c =
     omega (
       arith,
       c.put_rest.ensures.changed words,
-      c.rows.invariant.fills.few_changed number words,
+      c.rows.invariant.at.fills.few_changed number words,
       unchanged number words,
       c.requires.fresh.writes,
     )

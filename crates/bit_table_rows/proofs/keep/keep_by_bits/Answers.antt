@@ -4,7 +4,7 @@ use Rattle.bit_addressing_memory.proofs.WindowLemmas.{length-window}
 use Rattle.bit_addressing_memory.specs.Memory.{memory, piece, read_by}
 use Rattle.bit_addressing_memory.specs.Sweep.{edge_of, sweep_words}
 use Rattle.bit_table_rows.proofs.KeepLemmas.{fills_bit, fills_none}
-use Rattle.bit_table_rows.proofs.keep.keep_row.Goals as goal
+use Rattle.bit_table_rows.proofs.keep.keep_by_bits.Goals as goal
 
 pub bits-init : goal.bits-init
 bits-init g c =
@@ -33,5 +33,5 @@ bits-preserved g c =
 
 pub returns : goal.returns
 returns g c =
-    let all : c.bits.i ≡ c.args.w = omega arith in
+    let all : c.bits.i ≡ c.args.len = omega arith in
     rw (← all) c.bits.invariant

@@ -1,7 +1,7 @@
 use Rattle.bit_addressing_memory.specs.Memory.{memory, piece, read_by}
 use Rattle.bit_addressing_memory.specs.Sweep.{sweep_words}
 use Rattle.bit_table_rows.specs.KeepSteps.{Fills}
-use Rattle.bit_table_rows.proofs.keep.keep_row.Given as goal
+use Rattle.bit_table_rows.proofs.keep.keep_by_bits.Given as goal
 
 abbrev pub invariant-bits : goal.invariant-bits
 invariant-bits g l =

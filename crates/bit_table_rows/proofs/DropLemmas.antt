@@ -1,11 +1,17 @@
 -- Rows taken out that bear a letter.
 --
--- Of a list: `own_left`. Of rows' letters: `marks_dropped`.
-use Rattle.std.proofs.Common.{◌≡◌, ℕ, ◌+◌, ◌<◌, Bool, true, false, cond, not, List, [], ◌∷◌, length, replicate}
-use Rattle.std.proofs.Common.{suc, refl, sym, ap, ◌∙◌, arith}
-use Rattle.std.specs.List.{count_by, filter}
+-- Of a list: `own_left`, `none_left`, `zeros_left`. Of rows' letters: `marks_dropped`. How many words the first bits touch:
+-- `touched_first`.
+use Rattle.std.proofs.Common.{◌≡◌, ℕ, ◌+◌, ◌-◌, ◌/◌, ◌<◌, ◌≤◌, Bool, true, false, cond, not, List, [], ◌∷◌, length, replicate}
+use Rattle.std.proofs.Common.{suc, refl, sym, ap, ◌∙◌, arith, length-take-le}
+use Rattle.std.specs.List.{count_by, filter, list_any}
 use Rattle.std.proofs.lemmas.List.Sums.{sum_by-cons}
+use Rattle.std.proofs.lemmas.Nat.{div_below}
+use Rattle.bit_addressing_memory.specs.Memory.{Reading, touched}
+use Rattle.bit_containers_vector.specs.Vector.{Shortens, vec_bits, vec_head}
+use Rattle.bit_containers_vector.specs.declared.vector.BitVec.{BitVec}
 use Rattle.bit_table_commands.specs.LetterSets.{letter_count, bears}
+use Rattle.bit_table_rows.specs.Lists.{HasBits}
 use Rattle.bit_table_rows.specs.Marks.{list_of, marks_of}
 use Rattle.bit_table_rows.proofs.MarkLemmas.{column_marked, length-marks, marks_are, none_behind}
 use Rattle.bit_table_rows.specs.RowsKept.{left_of}
@@ -38,6 +44,42 @@ own_left (true ∷ off) =
 own_left (false ∷ off) =
     let next : suc (count_by not off) ≡ count_by not (false ∷ off) = omega (arith, counted false off) in
     ap (λ l. false ∷ l) (own_left off) ∙ ap (λ n. replicate n false) next
+
+-- of a list without a one zeros stay
+pub none_left : (off xs : List Bool) → length off ≡ length xs → list_any (λ b. b) xs ≡ false
+    → left_of off xs ≡ replicate (count_by not off) false
+unfolding left_of
+none_left [] xs same none = refl
+none_left (goes ∷ off) [] same none = absurd (omega (arith, same))
+none_left (goes ∷ off) (true ∷ xs) same none = absurd (cc)
+none_left (true ∷ off) (false ∷ xs) same none =
+    let count : count_by not off ≡ count_by not (true ∷ off) = omega (arith, counted true off) in
+    none_left off xs (omega (arith, same)) none ∙ ap (λ n. replicate n false) count
+none_left (false ∷ off) (false ∷ xs) same none =
+    let next : suc (count_by not off) ≡ count_by not (false ∷ off) = omega (arith, counted false off) in
+    ap (λ l. false ∷ l) (none_left off xs (omega (arith, same)) none) ∙ ap (λ n. replicate n false) next
+
+-- a list that was shortened and filled with zeros
+pub zeros_left : {T O : Type 0} {g : _} (reading : Reading T) (old mid new : BitVec T O g) (left : ℕ)
+    → left ≤ length (vec_bits reading old) → Shortens reading old mid left
+    → vec_bits reading new ≡ replicate (length (vec_bits reading mid)) false → vec_head new ≡ vec_head mid
+    → HasBits reading (λ bits. replicate left false) old new
+zeros_left reading old mid new left few cut filled head =
+    let size : length (vec_bits reading mid) ≡ left =
+    ap length cut.bits ∙ length-take-le left (vec_bits reading old) few in
+    record {
+      bits = filled ∙ ap (λ n. replicate n false) size;
+      head = head ∙ cut.head;
+    }
+
+-- how many words the first bits touch
+pub touched_first : (b n : ℕ) → 0 < b → 0 < n → touched b 0 n ≡ (n - 1) / b + 1
+touched_first b n some any =
+    let last : n ≡ suc (n - 1) = omega arith in
+    let start : 0 / b < 1 = div_below 0 b 1 some (omega arith) in
+    let same : 0 + (n - 1) ≡ n - 1 = omega arith in
+    let row : (0 + (n - 1)) / b ≡ (n - 1) / b = ap (λ m. m / b) same in
+    ap (touched b 0) last ∙ omega arith
 
 -- from each list those bits taken out where the list of letter x has a one
 pub marks_dropped : (n x : ℕ) (lists after : List (List Bool)) → x < letter_count

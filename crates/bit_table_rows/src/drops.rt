@@ -10,6 +10,7 @@ ghost use Rattle.bit_table_rows.specs.RowsKept.{left_of};
 
 use crate::vectors::keep_rows_of;
 use bit_addressing_memory::BitOrder;
+use bit_addressing_memory::mem::bits_of;
 use bit_containers_vector::BitVec;
 use bit_slice_views::{BitStore, Bits};
 use bit_slice_views_mut::BitsMut;
@@ -35,23 +36,26 @@ pub(crate) fn drop_marked<T: BitStore, O: BitOrder<T>>(
     ensures writes { EachHas (λ k. k ≤ touched T.BITS 0 result) writes.new }
     ensures own { slice_index writes.new letter ≡ 0 }
 {
+    let left = lists[letter].count_zeros();
     for i in 0..lists.len() {
         writes[i] = if i == letter {
             0
         } else {
-            drop_by(lists, n, i, letter)
+            drop_by(lists, n, i, letter, left)
         };
     }
-    blank(&mut lists[letter])
+    leave_zeros(&mut lists[letter], left);
+    left
 }
 
-// Takes the bits out of one list of `n` bits where another one of the lists has a one, and answers how many words the
-// move wrote.
+// Takes the bits out of one list of `n` bits where another one of the lists has a one, which leaves so many, and answers
+// how many words the move wrote.
 fn drop_by<T: BitStore, O: BitOrder<T>>(
     lists: &mut [BitVec<T, O>],
     n: usize,
     list: usize,
     letter: usize,
+    left: usize,
 ) -> usize
     requires list { list < length lists.old }
     requires letter { letter < length lists.old }
@@ -60,6 +64,8 @@ fn drop_by<T: BitStore, O: BitOrder<T>>(
         → IsColumn (read_by T.BitRegister O.position) n (slice_index_or lists.old list d) }
     requires flags { (d : BitVec T O T.BitRegister)
         → IsColumn (read_by T.BitRegister O.position) n (slice_index_or lists.old letter d) }
+    requires left { (d : BitVec T O T.BitRegister) → left
+        ≡ count_by not (vec_bits (read_by T.BitRegister O.position) (slice_index_or lists.old letter d)) }
     ensures changed { ChangesAt (λ old new. (d : BitVec T O T.BitRegister)
         → HasBits (read_by T.BitRegister O.position)
         (left_of (vec_bits (read_by T.BitRegister O.position) (slice_index_or lists.old letter d))) old new)
@@ -69,38 +75,47 @@ fn drop_by<T: BitStore, O: BitOrder<T>>(
 {
     if list < letter {
         let (front, back) = lists.split_at_mut(letter);
-        drop_flagged(&mut front[list], n, &back[0])
+        drop_flagged(&mut front[list], n, &back[0], left)
     } else {
         let (front, back) = lists.split_at_mut(list);
-        drop_flagged(&mut back[0], n, &front[letter])
+        drop_flagged(&mut back[0], n, &front[letter], left)
     }
 }
 
-// Takes the bits out of a list of `n` bits where another one has a one, and answers how many words the move wrote.
+// Takes the bits out of a list of `n` bits where another one has a one, which leaves so many, and answers how many words
+// the move wrote. Most letters are borne by no row, and zeros need no move: what stays of them is zeros again.
 fn drop_flagged<T: BitStore, O: BitOrder<T>>(
     list: &mut BitVec<T, O>,
     n: usize,
     flags: &BitVec<T, O>,
+    left: usize,
 ) -> usize
     requires column { IsColumn (read_by T.BitRegister O.position) n list.old }
     requires flags { length (vec_bits (read_by T.BitRegister O.position) flags.now) ≡ n }
+    requires left { left ≡ count_by not (vec_bits (read_by T.BitRegister O.position) flags.now) }
     ensures bits { HasBits (read_by T.BitRegister O.position)
         (left_of (vec_bits (read_by T.BitRegister O.position) flags.now)) list.old list.new }
     ensures writes { result
         ≤ touched T.BITS 0 (count_by not (vec_bits (read_by T.BitRegister O.position) flags.now)) }
 {
+    if list.not_any() {
+        return leave_zeros(list, left);
+    }
     let (_left, writes) = keep_rows_of(list, n, 1, flags.as_bitslice());
     writes
 }
 
-// Makes a list as many zeros as it had, and answers how many.
-fn blank<T: BitStore, O: BitOrder<T>>(list: &mut BitVec<T, O>) -> usize
-    ensures left { result ≡ count_by not (vec_bits (read_by T.BitRegister O.position) list.old) }
-    ensures bits { HasBits (read_by T.BitRegister O.position) (λ bits. replicate (count_by not bits) false)
-        list.old list.new }
+// Makes a list so many zeros, no more than it has bits, and answers how many words they touch from the first bit of a
+// word on: each of them is written once, as a move of so many bits would.
+fn leave_zeros<T: BitStore, O: BitOrder<T>>(list: &mut BitVec<T, O>, left: usize) -> usize
+    requires { left ≤ length (vec_bits (read_by T.BitRegister O.position) list.old) }
+    ensures bits { HasBits (read_by T.BitRegister O.position) (λ bits. replicate left false) list.old list.new }
+    ensures writes { result ≡ touched T.BITS 0 left }
 {
-    let left = list.count_zeros();
     list.truncate(left);
     list.fill(false);
-    left
+    if left == 0 {
+        return 0;
+    }
+    (left - 1) / bits_of::<T>() + 1
 }

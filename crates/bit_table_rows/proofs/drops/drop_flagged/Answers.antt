@@ -1,10 +1,38 @@
-use Rattle.std.proofs.Common.{◌≡◌, ◌*◌, length, ap, ◌∙◌, arith}
+use Rattle.std.proofs.Common.{◌≡◌, ◌*◌, Bool, true, false, not, length, replicate, refl, sym, ap, ◌∙◌, arith}
+use Rattle.std.specs.List.{list_any}
+use Rattle.std.proofs.lemmas.List.Sums.{count_by-le-length}
 use Rattle.bit_addressing_memory.specs.Memory.{read_by}
 use Rattle.bit_containers_vector.specs.Vector.{vec_bits}
 use Rattle.bit_table_rows.specs.RowsKept.{kept}
+use Rattle.bit_table_rows.proofs.DropLemmas.{none_left}
 use Rattle.bit_table_rows.proofs.KeptRowLemmas.{rows_that_stay}
 use Rattle.bit_table_rows.proofs.RowListLemmas.{bits_as_rows}
 use Rattle.bit_table_rows.proofs.drops.drop_flagged.Goals as goal
+
+not_true : (b : Bool) → not b ≡ true → b ≡ false
+not_true false is = refl
+not_true true is = absurd (cc)
+
+pub leave_zeros-requires : goal.leave_zeros-requires
+leave_zeros-requires g c =
+    let off = vec_bits (read_by g.T.BitRegister g.O.Positions.position) c.args.flags.now in
+    let few = count_by-le-length not off in
+    omega (arith, c.requires.left, c.requires.flags, c.requires.column.len)
+
+-- zeros stay
+pub returns-then-not_any-clause-bits : goal.returns-then-not_any-clause-bits
+returns-then-not_any-clause-bits g c =
+    let reading = read_by g.T.BitRegister g.O.Positions.position in
+    let off = vec_bits reading c.args.flags.now in
+    let xs = vec_bits reading c.args.list.now in
+    let none : list_any (λ b. b) xs ≡ false = not_true (list_any (λ b. b) xs) (sym c.not_any.ensures ∙ c.if-not_any.true) in
+    record {
+      bits =
+          (c.leave_zeros.ensures.bits).bits
+          ∙ ap (λ k. replicate k false) c.requires.left
+          ∙ sym (none_left off xs (c.requires.flags ∙ sym c.requires.column.len) none);
+      head = (c.leave_zeros.ensures.bits).head;
+    }
 
 -- the bits are rows of one bit
 pub returns-clause-bits : goal.returns-clause-bits

@@ -2,6 +2,7 @@ use Rattle.std.proofs.Common.{◌≡◌, ◌≢◌, ℕ, ◌<◌, ◌≤◌, Boo
 use Rattle.std.proofs.Common.{not, replicate, sym, ap, ◌∙◌, subst, arith}
 use Rattle.std.specs.List.{count_by}
 use Rattle.std.proofs.lemmas.List.{get_or_default, get_or-set_same, get_or-set_other, length-set}
+use Rattle.std.proofs.lemmas.List.Sums.{count_by-le-length}
 use Rattle.bit_addressing_memory.specs.Memory.{read_by, touched}
 use Rattle.bit_containers_vector.specs.Vector.{vec_bits, vec_head}
 use Rattle.bit_table_rows.specs.Lists.{HasBits, IsColumn}
@@ -17,6 +18,23 @@ drop_by-requires-clause-column g c =
     let i = c.loop-i.i in
     λ d. subst (IsColumn reading c.args.n) (sym ((c.loop-i.invariant.walked d).rest i d (omega arith)))
     (c.requires.columns i d (omega (arith, c.loop-i-test.true)))
+
+-- so many bits stay
+pub drop_by-requires-clause-left : goal.drop_by-requires-clause-left
+drop_by-requires-clause-left g c d =
+    let reading = read_by g.T.BitRegister g.O.Positions.position in
+    let old = c.args.lists.now in
+    let v = c.index-lists-letter.result in
+    c.count_zeros-left.ensures
+    ∙ ap (λ u. count_by not (vec_bits reading u))
+    (get_or_default old c.args.letter v d c.requires.letter ∙ sym (c.loop-i.invariant.flags d))
+
+pub returns-clause-left : goal.returns-clause-left
+returns-clause-left g c d =
+    let reading = read_by g.T.BitRegister g.O.Positions.position in
+    c.count_zeros-left.ensures
+    ∙ ap (λ u. count_by not (vec_bits reading u))
+    (get_or_default c.args.lists.now c.args.letter c.index-lists-letter.result d c.requires.letter)
 
 pub loop-i-preserved : goal.loop-i-preserved
 loop-i-preserved g c =
@@ -75,17 +93,29 @@ returns-clause-dropped g c =
     let reading = read_by g.T.BitRegister g.O.Positions.position in
     let x = c.args.letter in
     let old = c.args.lists.now in
-    let v = c.index-lists-letter.result in
+    let v = c.index-lists-letter-2.result in
     let h = c.loop-i.invariant in
     let here : (e : _) → get_or c.loop-i.lists x v ≡ get_or old x e =
     (λ e. h.flags v ∙ get_or_default old x v e c.requires.letter) in
     λ d. walk_closes (HasBits reading (left_of (vec_bits reading (get_or old x d)))) x c.loop-i.i old c.loop-i.lists
-    c.blank.new.list (h.walked d) (omega (arith, c.loop-i-test.false, (h.walked d).len))
+    c.leave_zeros.new.list (h.walked d) (omega (arith, c.loop-i-test.false, (h.walked d).len))
     (λ e. record {
       bits =
-          (c.blank.ensures.bits).bits
-          ∙ ap (λ u. replicate (count_by not (vec_bits reading u)) false) (here d)
+          (c.leave_zeros.ensures.bits).bits
+          ∙ ap (λ n. replicate n false) (returns-clause-left g c d)
           ∙ sym (own_left (vec_bits reading (get_or old x d)))
           ∙ ap (λ u. left_of (vec_bits reading (get_or old x d)) (vec_bits reading u)) (sym (here d) ∙ here e);
-      head = (c.blank.ensures.bits).head ∙ ap vec_head (here e);
+      head = (c.leave_zeros.ensures.bits).head ∙ ap vec_head (here e);
     })
+
+pub leave_zeros-requires : goal.leave_zeros-requires
+leave_zeros-requires g c =
+    let reading = read_by g.T.BitRegister g.O.Positions.position in
+    let x = c.args.letter in
+    let old = c.args.lists.now in
+    let v = c.index-lists-letter.result in
+    let d = c.index-lists-letter-2.result in
+    let same : get_or old x v ≡ get_or c.loop-i.lists x d =
+    get_or_default old x v d c.requires.letter ∙ sym (c.loop-i.invariant.flags d) in
+    let few = count_by-le-length not (vec_bits reading (get_or old x v)) in
+    omega (arith, few, c.count_zeros-left.ensures, ap (λ u. length (vec_bits reading u)) same)

@@ -1,3 +1,2 @@
 pub mod ByteLemmas
-pub mod BitLemmas
 pub mod LoadedLemmas

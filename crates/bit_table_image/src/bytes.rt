@@ -1,18 +1,16 @@
 //! Image bytes of a list of bits.
 
-ghost use Rattle.std.specs.Prelude.{◌≡◌, ◌*◌, ◌+◌, ◌<◌, ◌≤◌, false, get_or, length, take, drop, IfOk};
+ghost use Rattle.std.specs.Prelude.{◌≡◌, IfOk};
 ghost use Rattle.bit_addressing_memory.specs.Memory.{read_by};
-ghost use Rattle.bit_addressing_span.specs.declared.span.TheConstants.{MAX_BITS};
 ghost use Rattle.bit_slice_views.specs.View.{view_bits};
-ghost use Rattle.bit_table_layout.specs.Images.{byte_of, bytes_of};
+ghost use Rattle.bit_table_layout.specs.Images.{bytes_of};
+ghost use Rattle.bit_table_image.specs.Bytes.{AreBytes, HoldBits};
 
-use bit_addressing_memory::{BitOrder, BitRegister};
+use bit_addressing_memory::{BitOrder, BitRegister, Lsb0, Msb0};
+use bit_containers_vector::BitVec;
 use bit_slice_views::{BitSlice, Bits};
 use bit_table_layout::{Layout, Rule};
 use std::alloc::{AllocError, Global};
-
-// How many bits a byte has.
-const BYTE: usize = 8;
 
 /// The image bytes of a list: its bits cut by eight, the rest zero. The first bit of eight is the lowest of its byte
 /// under `low`, the highest under `high`. They depend on the list and the layout's rule alone, not on words and their
@@ -25,35 +23,32 @@ pub fn write<T: BitRegister, O: BitOrder<T>>(
     ensures { IfOk result (λ bytes. bytes.items
         ≡ bytes_of layout.now.rule (view_bits (read_by T.BitRegister O.position) bits.entry)) }
 {
-    let rule = layout.rule();
-    let (_, _, len) = bits.parts();
-    let mut bytes = Vec::new(alloc);
-    for index in 0..len.div_ceil(BYTE) {
-        bytes.push(byte(bits, rule, BYTE * index))?;
+    match layout.rule() {
+        Rule::Low => bytes_in::<Lsb0, T, O>(alloc, bits),
+        Rule::High => bytes_in::<Msb0, T, O>(alloc, bits),
     }
+}
+
+// The bytes that hold a list in an order of their bits, the rest zero.
+fn bytes_in<P: BitOrder<u8>, T: BitRegister, O: BitOrder<T>>(
+    alloc: Global,
+    bits: BitSlice<'_, T, O>,
+) -> Result<Vec<u8>, AllocError>
+    ensures { IfOk result (λ bytes. HoldBits P.position bytes.items
+        (view_bits (read_by T.BitRegister O.position) bits.entry)) }
+{
+    let (_, _, len) = bits.parts();
+    let mut image = BitVec::<u8, P>::with_capacity(alloc, len)?;
+    image.extend_from_bitslice(&bits)?;
+    let bytes = image.into_vec();
+    are_bytes(bytes.as_slice());
     Ok(bytes)
 }
 
-// The byte of the eight bits from `first` on, or of fewer and then zeros.
-fn byte<T: BitRegister, O: BitOrder<T>>(bits: BitSlice<'_, T, O>, rule: Rule, first: usize) -> u8
-    requires { first ≤ MAX_BITS }
-    ensures { result
-        ≡ byte_of rule (take 8 (drop first (view_bits (read_by T.BitRegister O.position) bits.entry))) }
+// Says of each byte that it is one, which the proof of its caller needs; it does nothing.
+#[inline(always)]
+fn are_bytes(bytes: &[u8])
+    ensures { AreBytes bytes.now }
 {
-    let mut byte = 0;
-    for index in 0..BYTE {
-        let place = match rule {
-            Rule::Low => BYTE - 1 - index,
-            Rule::High => index,
-        };
-        byte = 2 * byte + u8::from(bit_at(bits, first + place));
-    }
-    byte
-}
-
-// A bit, or 0 past the end.
-fn bit_at<T: BitRegister, O: BitOrder<T>>(bits: BitSlice<'_, T, O>, index: usize) -> bool
-    ensures { result ≡ get_or (view_bits (read_by T.BitRegister O.position) bits.entry) index false }
-{
-    index < bits.len() && bits.bit(index)
+    let _count = bytes.len();
 }

@@ -1,23 +1,21 @@
 //! The bits of the rows that image bytes hold.
 
-ghost use Rattle.std.specs.Prelude.{◌≡◌, ◌↔◌, ◌⊎◌, ◌*◌, ◌<◌, ◌≤◌, true, false, pos, get_or, length, take, IfOk, IfErr};
+ghost use Rattle.std.specs.Prelude.{◌≡◌, ◌↔◌, ◌⊎◌, ◌*◌, ◌<◌, ◌≤◌, true, false, length, take, IfOk, IfErr};
 ghost use Rattle.std.specs.Prelude.{IsErrOf};
-ghost use Rattle.bit_addressing_memory.specs.Memory.{read_by};
+ghost use Rattle.bit_addressing_memory.specs.Memory.{memory, piece, read_by};
 ghost use Rattle.bit_containers_vector.specs.Vector.{vec_bits, vec_head};
 ghost use Rattle.bit_table_layout.specs.Images.{HasOnlyNumbers};
 ghost use Rattle.bit_table_layout.specs.Layouts.{row_width};
 ghost use Rattle.bit_table_layout.specs.Loads.{bits_of_bytes, is_image, rows_in_bytes};
-ghost use Rattle.bit_table_layout.specs.Rows.{field_bits, table_bits};
+ghost use Rattle.bit_table_layout.specs.Rows.{table_bits};
+ghost use Rattle.bit_table_image.specs.Bytes.{bytes_read};
 
-use bit_addressing_memory::BitOrder;
+use bit_addressing_memory::{BitOrder, Lsb0, Msb0};
 use bit_containers_vector::BitVec;
-use bit_slice_views::BitStore;
+use bit_slice_views::{BitSlice, BitStore};
 use bit_table_layout::image::is_image;
 use bit_table_layout::{Cause, Fault, Layout, MAX_BITS, Rule};
 use std::alloc::{AllocError, Global};
-
-// How many bits a byte has.
-const BYTE: usize = 8;
 
 /// The bits of so many rows of the layout, from their image bytes, in a vector of any words and order.
 ///
@@ -74,21 +72,25 @@ fn first_bits<T: BitStore, O: BitOrder<T>>(
         ≡ take len (bits_of_bytes rule bytes.now)) }
     ensures head { IfOk result (λ bits. vec_head bits ≡ 0) }
 {
-    let mut bits = BitVec::with_capacity(alloc, len)?;
-    for index in 0..len {
-        bits.push(bit_of(rule, bytes[index / BYTE], index % BYTE))?;
+    match rule {
+        Rule::Low => bits_in::<Lsb0, T, O>(alloc, bytes, len),
+        Rule::High => bits_in::<Msb0, T, O>(alloc, bytes, len),
     }
-    Ok(bits)
 }
 
-// A bit of a byte, by its place among the eight.
-fn bit_of(rule: Rule, byte: u8, place: usize) -> bool
-    requires { place < 8 }
-    ensures { result ≡ get_or (field_bits rule 8 (pos byte)) place false }
+// The first so many bits of bytes in an order of their bits.
+fn bits_in<P: BitOrder<u8>, T: BitStore, O: BitOrder<T>>(
+    alloc: Global,
+    bytes: &[u8],
+    len: usize,
+) -> Result<BitVec<T, O>, AllocError>
+    requires enough { len ≤ 8 * length bytes.now }
+    requires few { len ≤ MAX_BITS }
+    ensures bits { IfOk result (λ bits. vec_bits (read_by T.BitRegister O.position) bits
+        ≡ piece (memory (bytes_read P.position) bytes.now) 0 len) }
+    ensures head { IfOk result (λ bits. vec_head bits ≡ 0) }
 {
-    let digit = match rule {
-        Rule::Low => place,
-        Rule::High => BYTE - 1 - place,
-    };
-    (byte as usize >> digit) % 2 == 1
+    let mut bits = BitVec::with_capacity(alloc, len)?;
+    bits.extend_from_bitslice(&BitSlice::<u8, P>::from_place(bytes, 0, len))?;
+    Ok(bits)
 }

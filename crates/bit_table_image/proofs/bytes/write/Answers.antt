@@ -1,13 +1,21 @@
-use Rattle.std.proofs.Common.{◌*◌, ◌∷◌, [], ◌++◌, take, drop, sym, ap₂, ◌∙◌, arith}
-use Rattle.std.proofs.lemmas.List.FromFn.{map-range_with_len_more}
+use Rattle.std.proofs.Common.{Vec, Global, ℕ, ◌-◌, ◌∙◌, ap, sym, refl}
 use Rattle.bit_addressing_memory.specs.Memory.{read_by}
 use Rattle.bit_slice_views.specs.View.{view_bits}
-use Rattle.bit_table_layout.specs.Images.{byte_of}
+use Rattle.bit_table_layout.specs.declared.layout.Rule.TheVariants.{Low, High}
+use Rattle.bit_table_layout.specs.Images.{bytes_of}
+use Rattle.bit_table_image.proofs.ByteLemmas.{are_bytes_of, if_ok}
 use Rattle.bit_table_image.proofs.bytes.write.Goals as goal
 
-pub loop-index-preserved : goal.loop-index-preserved
-loop-index-preserved g c =
+pub returns-in-Low : goal.returns-in-Low
+returns-in-Low g c =
     let bits = view_bits (read_by g.T.BitRegister g.O.Positions.position) c.args.bits in
-    c.in_ok-push.ensures.items ∙ ap₂ (λ l b. l ++ b ∷ []) c.loop-index.invariant c.byte.ensures
-    ∙ sym (map-range_with_len_more (λ k. byte_of c.rule-rule.result (take 8 (drop (8 * k) bits))) 0 c.loop-index.index
-    c.loop-index.index (omega arith))
+    if_ok c.bytes_in.result
+    (λ bytes holds. are_bytes_of Low (λ i. i) bytes.items bits (λ i low. refl) holds
+    ∙ ap (λ rule. bytes_of rule bits) (sym c.in-Low.is ∙ c.rule.ensures)) c.bytes_in.ensures
+
+pub returns-in-High : goal.returns-in-High
+returns-in-High g c =
+    let bits = view_bits (read_by g.T.BitRegister g.O.Positions.position) c.args.bits in
+    if_ok c.bytes_in-in-High.result
+    (λ bytes holds. are_bytes_of High (λ i. 8 - 1 - i) bytes.items bits (λ i low. refl) holds
+    ∙ ap (λ rule. bytes_of rule bits) (sym c.in-High.is ∙ c.rule.ensures)) c.bytes_in-in-High.ensures

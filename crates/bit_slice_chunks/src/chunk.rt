@@ -5,7 +5,7 @@ ghost use Rattle.bit_addressing_memory.specs.declared.direction.Direction.{Direc
 ghost use Rattle.bit_slice_chunks.specs.Chunk.{chunk_bit, word_bit, IsLowered, IsRaised, IsPart, IsPlaced, IsCut, IsRest};
 ghost use Rattle.bit_slice_chunks.specs.Chunk.{IsFaced, IsTurned};
 
-use crate::reversed::reversed;
+use crate::reversal::reversed;
 use bit_addressing_memory::{BitRegister, Direction};
 
 /// The chunk whose bits are those of another from bit `by` on, and then zeros.

@@ -1,5 +1,5 @@
 use Rattle.bit_slice_chunks.proofs.ExchangeLemmas.{reversed_digit}
-use Rattle.bit_slice_chunks.proofs.reversed.reversed.Goals as goal
+use Rattle.bit_slice_chunks.proofs.reversal.reversed.Goals as goal
 
 pub returns : goal.returns
 returns c =

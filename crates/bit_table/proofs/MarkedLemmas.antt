@@ -1,16 +1,20 @@
 -- Rows whose letters change, and rows that go.
 --
 -- Letters decided by letters: `lettered_decided`; told row by row: `lettered_told`, `told_more`, `length-told`. What is
--- told of them: `count-lettered`, `ones-passing`, `bears-letters`, `one_found`, `none_found`. Rows that do not bear a
--- letter: `staying-lettered`, `count-staying`. Rows without letters: `blank-from`.
-use Rattle.std.proofs.Common.{◌≡◌, ℕ, zero, suc, ◌+◌, ◌<◌, ◌≤◌, Bool, true, false, not, List, [], ◌∷◌, ◌++◌, length, map}
-use Rattle.std.proofs.Common.{get_or, take, inl, inr, refl, sym, ap, ap₂, ◌∙◌, arith, if◌then◌else◌}
+-- told of them: `count-lettered`, `ones-passing`, `bears-letters`, `one_found`, `none_found`, `none_among`, `none_in_zero`,
+-- `take_chunk`. Rows that do not bear a letter: `staying-lettered`, `count-staying`. Rows without letters: `blank-from`.
+use Rattle.std.proofs.Common.{◌≡◌, ℕ, zero, suc, ◌+◌, ◌-◌, ◌<◌, ◌≤◌, ◌==◌, Bool, true, false, not, List, [], ◌∷◌, ◌++◌, length, map}
+use Rattle.std.proofs.Common.{get_or, min, take, inl, inr, refl, sym, ap, ap₂, ◌∙◌, arith, if◌then◌else◌}
 use Rattle.std.specs.Prelude.{count_by, replicate, slice_index_or, slice_set}
 use Rattle.std.specs.List.{filter}
 use Rattle.std.specs.FinSet as set
-use Rattle.std.proofs.lemmas.Bool.{cases_Bool}
-use Rattle.std.proofs.lemmas.List.{append-nil}
+use Rattle.std.proofs.lemmas.Bool.{cases_Bool, cases_lt}
+use Rattle.std.proofs.lemmas.List.{append-nil, take_all}
 use Rattle.std.proofs.lemmas.List.Sums.{length-filter, sum_by-cons}
+use Rattle.std.proofs.lemmas.Nat.Bits.{bit_at-zero}
+use Rattle.bit_addressing_memory.specs.declared.direction.Direction.{Direction}
+use Rattle.bit_addressing_memory.specs.declared.direction.Direction.TheVariants.{Ascending, Descending}
+use Rattle.bit_slice_chunks.specs.Chunk.{chunk_bit}
 use Rattle.bit_table_layout.specs.Layouts.{LayoutShape}
 use Rattle.bit_table_layout.specs.Readings.{rows_from}
 use Rattle.bit_table_layout.specs.Rows.{Row}
@@ -156,3 +160,31 @@ none_found i bits d low none =
     ones_more 0 i bits d low
     ∙ ap (λ b. ones_from 0 (take i bits) ++ (if b then (0 + i) ∷ [] else [])) none
     ∙ append-nil (ones_from 0 (take i bits))
+
+pub none_among : (i n : ℕ) (bits : List Bool) → i + n ≤ length bits
+    → ((k : ℕ) → k < n → get_or bits (i + k) false ≡ false)
+    → ones_from 0 (take (i + n) bits) ≡ ones_from 0 (take i bits)
+none_among i zero bits within none =
+    let same : i + 0 ≡ i = omega arith in
+    ap (λ k. ones_from 0 (take k bits)) same
+none_among i (suc n) bits within none =
+    let next : i + suc n ≡ i + n + 1 = omega arith in
+    ap (λ k. ones_from 0 (take k bits)) next
+    ∙ none_found (i + n) bits false (omega arith) (none n (omega arith))
+    ∙ none_among i n bits (omega arith) (λ k low. none k (omega arith))
+
+-- no digit of zero is 1
+pub none_in_zero : (direction : Direction) (i : ℕ) → chunk_bit direction 0 i ≡ false
+none_in_zero Ascending i = ap (λ d. d == 1) (bit_at-zero i)
+none_in_zero Descending i = ap (λ d. d == 1) (bit_at-zero (63 - i))
+
+-- the bits up to the end of a chunk, which may have fewer than 64
+pub take_chunk : (first count : ℕ) (bits : List Bool) → count ≡ min 64 (length bits - first)
+    → take (first + count) bits ≡ take (first + 64) bits
+take_chunk first count bits is = elim (cases_lt (length bits - first) 64) [
+  | inl last ↦
+      take_all (first + count) bits (omega arith) ∙ sym (take_all (first + 64) bits (omega arith))
+  | inr whole ↦
+      let full : count ≡ 64 = omega arith in
+      ap (λ n. take (first + n) bits) full
+]

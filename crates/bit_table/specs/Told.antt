@@ -1,5 +1,5 @@
--- Letters told row by row, and the places of ones. No public clause cites this module.
-use Rattle.std.specs.Prelude.{ℕ, ◌+◌, Bool, List, [], ◌∷◌, if◌then◌else◌}
+-- Letters told row by row, the places of ones, and bits that come as chunks. No public clause cites this module.
+use Rattle.std.specs.Prelude.{ℕ, ◌+◌, ◌<◌, ◌≤◌, ◌≡◌, Bool, false, List, [], ◌∷◌, if◌then◌else◌, length, slice_index_or}
 use Rattle.bit_table_commands.specs.LetterSets.{with_letter, LetterSet}
 
 -- the letters of rows, letter x of each as a flag says: of those rows that have a flag
@@ -12,3 +12,8 @@ told x (flag ∷ flags) (letters ∷ marks) = with_letter x flag letters ∷ tol
 abbrev pub ones_from : ℕ → List Bool → List ℕ
 ones_from place [] = []
 ones_from place (bit ∷ bits) = if bit then place ∷ ones_from (place + 1) bits else ones_from (place + 1) bits
+
+-- the list has these n bits from a place on
+pub record HasChunk (bits : List Bool) (first n : ℕ) (chunk : ℕ → Bool) : Type 0 where
+  pub within : first + n ≤ length bits
+  pub is : (i : ℕ) → i < n → slice_index_or bits (first + i) false ≡ chunk i

@@ -1,17 +1,20 @@
 //! Rows marked by their numbers, and the numbers of marked rows.
 
-ghost use Rattle.std.specs.Prelude.{◌≡◌, ◌*◌, ◌<◌, length, map, IfOk, Some};
+ghost use Rattle.std.specs.Prelude.{◌≡◌, ◌+◌, ◌*◌, ◌^◌, ◌<◌, ◌≤◌, Bool, List, [], length, map, take, IfOk, OnOk, Some};
 ghost use Rattle.bit_addressing_memory.specs.Memory.{read_by};
+ghost use Rattle.bit_addressing_memory.specs.Straight.{Goes};
 ghost use Rattle.bit_containers_vector.specs.Vector.{vec_bits};
+ghost use Rattle.bit_slice_chunks.specs.Chunk.{chunk_bit, IsChunk};
 ghost use Rattle.bit_slice_views.specs.View.{view_bits};
 ghost use Rattle.bit_table_layout.specs.Layouts.{row_width};
 ghost use Rattle.bit_table_layout.specs.Readings.{rows_from};
 ghost use Rattle.bit_table_commands.specs.LetterSets.{letter_count};
 ghost use Rattle.bit_table_commands.specs.Marks.{number_in_field, passes};
-ghost use Rattle.bit_table.specs.Told.{ones_from, told};
+ghost use Rattle.bit_table.specs.Told.{ones_from, told, HasChunk};
 
-use bit_addressing_memory::{BitOrder, BitRegister};
+use bit_addressing_memory::{BitOrder, BitRegister, Direction, direction_of};
 use bit_containers_vector::BitVec;
+use bit_slice_chunks::{read_bits, read_chunk};
 use bit_slice_views::{BitSlice, BitStore, Bits};
 use bit_slice_words::{Steps, WordPaths};
 use bit_table_commands::Test;
@@ -19,6 +22,9 @@ use bit_table_fields::{Digits, bits_before, load_number};
 use bit_table_layout::Layout;
 use bit_table_rows::Letters;
 use std::alloc::{AllocError, Global};
+
+// How many bits a chunk has.
+const CHUNK: usize = 64;
 
 // Makes exactly those rows bear a letter whose number of a field passes a test.
 pub(crate) fn mark_rows<T: BitStore, O: WordPaths<T> + Digits<T>>(
@@ -53,7 +59,7 @@ pub(crate) fn mark_rows<T: BitStore, O: WordPaths<T> + Digits<T>>(
     }
 }
 
-// The places of the ones among bits, in order.
+// The places of the ones among bits, in order. Memory for all of them is taken first.
 pub(crate) fn places_of_ones<T: BitRegister, O: BitOrder<T>>(
     alloc: Global,
     bits: BitSlice<'_, T, O>,
@@ -61,12 +67,108 @@ pub(crate) fn places_of_ones<T: BitRegister, O: BitOrder<T>>(
     ensures { IfOk result (λ places. places.items
         ≡ ones_from 0 (view_bits (read_by T.BitRegister O.position) bits.entry)) }
 {
+    let mut places = Vec::with_capacity(alloc, bits.count_ones())?;
+    match direction_of::<T, O>() {
+        Some(direction) => add_by_chunks(direction, &mut places, bits)?,
+        None => add_by_bits(&mut places, bits)?,
+    }
+    Ok(places)
+}
+
+// Adds the places of the ones to none, bit by bit.
+fn add_by_bits<T: BitRegister, O: BitOrder<T>>(
+    places: &mut Vec<usize>,
+    bits: BitSlice<'_, T, O>,
+) -> Result<(), AllocError>
+    requires { places.old.items ≡ [] }
+    ensures { OnOk result (places.new.items
+        ≡ ones_from 0 (view_bits (read_by T.BitRegister O.position) bits.entry)) }
+{
     let (_, _, len) = bits.parts();
-    let mut places = Vec::new(alloc);
     for place in 0..len {
         if bits.bit(place) {
             places.push(place)?;
         }
     }
-    Ok(places)
+    Ok(())
+}
+
+// The same in an order that goes straight, chunk by chunk.
+fn add_by_chunks<T: BitRegister, O: BitOrder<T>>(
+    direction: Direction,
+    places: &mut Vec<usize>,
+    bits: BitSlice<'_, T, O>,
+) -> Result<(), AllocError>
+    requires goes { Goes T.BITS O.position direction }
+    requires none { places.old.items ≡ [] }
+    ensures { OnOk result (places.new.items
+        ≡ ones_from 0 (view_bits (read_by T.BitRegister O.position) bits.entry)) }
+{
+    let (words, head, len) = bits.parts();
+    for k in 0..len.div_ceil(CHUNK) {
+        let first = CHUNK * k;
+        let count = CHUNK.min(len - first);
+        let chunk = chunk_at::<T, O>(direction, words, head as usize + first, count);
+        add_chunk(direction, places, chunk, first, count)?;
+    }
+    Ok(())
+}
+
+// So many bits of a memory from a place on, 1 to 64, as a chunk.
+#[inline(always)]
+fn chunk_at<T: BitRegister, O: BitOrder<T>>(
+    direction: Direction,
+    words: &[T],
+    place: usize,
+    count: usize,
+) -> u64
+    requires goes { Goes T.BITS O.position direction }
+    requires some { 0 < count }
+    requires few { count ≤ 64 }
+    requires within { place + count ≤ length words.now * T.BITS }
+    requires ends { place + count < 2 ^ 64 }
+    ensures { IsChunk (read_by T.BitRegister O.position) words.now place count direction result }
+{
+    if count == CHUNK {
+        return read_chunk::<T, O>(direction, words, place);
+    }
+    read_bits::<T, O>(direction, words, place, count)
+}
+
+// Adds the places of the ones of a chunk to those of the bits before it: of a list that has so many bits of the chunk
+// from `first` on.
+fn add_chunk(
+    direction: Direction,
+    places: &mut Vec<usize>,
+    chunk: u64,
+    first: usize,
+    count: usize,
+) -> Result<(), AllocError>
+    requires few { count ≤ 64 }
+    requires ends { first + count < 2 ^ 64 }
+    ensures { (bits : List Bool) → HasChunk bits first count (chunk_bit direction chunk)
+        → places.old.items ≡ ones_from 0 (take first bits)
+        → OnOk result (places.new.items ≡ ones_from 0 (take (first + count) bits)) }
+{
+    if chunk == 0 {
+        return Ok(());
+    }
+    for index in 0..count {
+        if chunk_has(direction, chunk, index) {
+            places.push(first + index)?;
+        }
+    }
+    Ok(())
+}
+
+// Whether a bit of a chunk is 1.
+#[tactic(auto, using(std::proofs::lemmas::Nat::Bits::shr_and_one))]
+fn chunk_has(direction: Direction, chunk: u64, index: usize) -> bool
+    requires { index < 64 }
+    ensures { result ≡ chunk_bit direction chunk index }
+{
+    match direction {
+        Direction::Ascending => (chunk >> index) & 1 == 1,
+        Direction::Descending => (chunk >> (63 - index)) & 1 == 1,
+    }
 }

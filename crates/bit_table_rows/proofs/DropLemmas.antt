@@ -1,8 +1,9 @@
 -- Rows taken out that bear a letter.
 --
--- Of a list: `own_left`, `none_left`, `zeros_left`. Of rows' letters: `marks_dropped`. How many words the first bits touch:
--- `touched_first`.
-use Rattle.std.proofs.Common.{◌≡◌, ℕ, ◌+◌, ◌-◌, ◌/◌, ◌<◌, ◌≤◌, Bool, true, false, cond, not, List, [], ◌∷◌, length, replicate}
+-- Of a list: `own_left`, `none_left`, `zeros_left`. Of rows' letters: `marks_dropped`. How many words the first bits
+-- touch: `touched_first`.
+use Rattle.std.proofs.Common.{◌≡◌, ℕ, ◌+◌, ◌-◌, ◌/◌, ◌<◌, ◌≤◌, Bool, true, false, cond, not, List, [], ◌∷◌}
+use Rattle.std.proofs.Common.{length, replicate}
 use Rattle.std.proofs.Common.{suc, refl, sym, ap, ◌∙◌, arith, length-take-le}
 use Rattle.std.specs.List.{count_by, filter, list_any}
 use Rattle.std.proofs.lemmas.List.Sums.{sum_by-cons}

@@ -1,8 +1,8 @@
 -- Bits filled in one after another by a sweep that goes up.
 --
 -- What stands at a place: `filled_inside`, `filled_before`, `filled_behind`, `filled_added`, `filled_beside`.
--- More bits in one word: `word_begun`, `word_made` (a bit), `word_moved` (several), `filled_within`, `filled_put`; by a sweep
--- `fills_within`, `fills_put`. A row: `fills_none`, `fills_more`, `fills_bit`, `fills_part`. All of them: `rest_none`,
+-- More bits in one word: `word_begun`, `word_made` (a bit), `word_moved` (several), `filled_within`, `filled_put`; by a
+-- sweep `fills_within`, `fills_put`. A row: `fills_none`, `fills_more`, `fills_bit`, `fills_part`. All of them: `rest_none`,
 -- `rest_put`.
 use Rattle.std.proofs.Common.{◌≡◌, ◌≢◌, ◌⊎◌, ℕ, suc, ◌+◌, ◌-◌, ◌*◌, ◌/◌, ◌%◌, ◌<◌, ◌≤◌}
 use Rattle.std.proofs.Common.{◌++◌, Bool, false, List, []}

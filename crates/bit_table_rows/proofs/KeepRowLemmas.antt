@@ -91,7 +91,8 @@ module _ {R : Type 0} (reading : Reading R) (s t : Sweep R) (start word : R) (fi
       let row_size : length rows ≡ m * w =
       length-piece xs (k * w) (m * w) (omega (arith, length-window reading (sweep_words s) first (n * w) within)) in
       let more : (count + m) * w ≡ count * w + m * w = add-mul count m w in
-      let step : Fills reading t u word next first (first + length done) rows = rw (filled_end, ← rows_there m upto) put in
+      let step : Fills reading t u word next first (first + length done) rows =
+      rw (filled_end, ← rows_there m upto) put in
       let edge = put.edge at.edge in
       let last : first + count * w + length (piece (memory reading (sweep_words t)) (first + k * w) (m * w))
       ≡ first + (count + m) * w = rw (rows_there m upto) (omega arith) in

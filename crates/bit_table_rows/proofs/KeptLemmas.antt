@@ -1,8 +1,8 @@
 -- Rows that are kept, one after another: their numbers, how many they are, and their bits end to end.
 --
--- One row more: `left_next`, `left_stays`, `joined_next`, `joined_stays`; several: `joined_run`, `run_stays`. How many: `more_left`,
--- `more_run`, `few_left`, `count_left`, `length-rows_left`. Their bits: `length-joined`, and of a longer list `joined_part`. Elements that stay:
--- `left_of_next`, `left_of_stays`, `left_of-map`, `left_of-filter`.
+-- One row more: `left_next`, `left_stays`, `joined_next`, `joined_stays`; several: `joined_run`, `run_stays`. How many:
+-- `more_left`, `more_run`, `few_left`, `count_left`, `length-rows_left`. Their bits: `length-joined`, and of a longer list
+-- `joined_part`. Elements that stay: `left_of_next`, `left_of_stays`, `left_of-map`, `left_of-filter`.
 use Rattle.std.proofs.Common.{◌≡◌, ℕ, zero, suc, ◌+◌, ◌-◌, ◌*◌, ◌<◌, ◌≤◌, ◌++◌, Bool, true, false, cond, not, List, []}
 use Rattle.std.proofs.Common.{◌∷◌, length, take, get_or, refl, sym, ap, ◌∙◌, arith, add-one, add-mul, length-append}
 use Rattle.std.proofs.Common.{ap₂, inl, inr, length-take-le, map, subst}

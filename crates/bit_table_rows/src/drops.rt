@@ -48,8 +48,8 @@ pub(crate) fn drop_marked<T: BitStore, O: BitOrder<T>>(
     left
 }
 
-// Takes the bits out of one list of `n` bits where another one of the lists has a one, which leaves so many, and answers
-// how many words the move wrote.
+// Takes the bits out of one list of `n` bits where another one of the lists has a one, which leaves so many, and
+// answers how many words the move wrote.
 fn drop_by<T: BitStore, O: BitOrder<T>>(
     lists: &mut [BitVec<T, O>],
     n: usize,
@@ -82,8 +82,8 @@ fn drop_by<T: BitStore, O: BitOrder<T>>(
     }
 }
 
-// Takes the bits out of a list of `n` bits where another one has a one, which leaves so many, and answers how many words
-// the move wrote. Most letters are borne by no row, and zeros need no move: what stays of them is zeros again.
+// Takes the bits out of a list of `n` bits where another one has a one, which leaves so many, and answers how many
+// words the move wrote. Most letters are borne by no row, and zeros need no move: what stays of them is zeros again.
 fn drop_flagged<T: BitStore, O: BitOrder<T>>(
     list: &mut BitVec<T, O>,
     n: usize,

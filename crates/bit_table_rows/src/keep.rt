@@ -159,8 +159,8 @@ fn keep_by_parts<T: BitRegister, O: BitOrder<T>>(
     next
 }
 
-// Puts so many bits, which stand from the place `from` on, to the place `to` on, all into its word, which is put once it
-// is full.
+// Puts so many bits, which stand from the place `from` on, to the place `to` on, all into its word, which is put once
+// it is full.
 #[inline(always)]
 fn keep_part<T: BitRegister, O: BitOrder<T>>(
     sweep: &mut Sweep<'_, T>,

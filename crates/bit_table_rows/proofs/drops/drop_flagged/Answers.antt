@@ -25,7 +25,8 @@ returns-then-not_any-clause-bits g c =
     let reading = read_by g.T.BitRegister g.O.Positions.position in
     let off = vec_bits reading c.args.flags.now in
     let xs = vec_bits reading c.args.list.now in
-    let none : list_any (λ b. b) xs ≡ false = not_true (list_any (λ b. b) xs) (sym c.not_any.ensures ∙ c.if-not_any.true) in
+    let none : list_any (λ b. b) xs ≡ false =
+    not_true (list_any (λ b. b) xs) (sym c.not_any.ensures ∙ c.if-not_any.true) in
     record {
       bits =
           (c.leave_zeros.ensures.bits).bits

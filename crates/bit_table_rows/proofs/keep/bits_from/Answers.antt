@@ -2,7 +2,8 @@ use Rattle.std.proofs.Common.{◌≡◌, ◌+◌, ◌*◌, ◌/◌, ◌%◌, ◌
 use Rattle.std.proofs.lemmas.Nat.{mod_below}
 use Rattle.bit_addressing_memory.specs.Memory.{read_by}
 use Rattle.bit_addressing_memory.specs.Sweep.{sweep_words}
-use Rattle.bit_addressing_memory.proofs.ShiftedWords.{begins_across, begins_aligned, begins_inside, place_at, word_within}
+use Rattle.bit_addressing_memory.proofs.ShiftedWords.{begins_across, begins_aligned, begins_inside}
+use Rattle.bit_addressing_memory.proofs.ShiftedWords.{place_at, word_within}
 use Rattle.bit_table_rows.proofs.KeepLemmas.{next_within}
 use Rattle.bit_table_rows.proofs.keep.bits_from.Goals as goal
 
@@ -39,8 +40,8 @@ pub read-next-requires : goal.read-next-requires
 read-next-requires g c =
     let words = sweep_words c.args.sweep.now in
     rw c.read-one.ensures.same.words
-    (next_within g.T.BitRegister.BITS c.bits_of-bits.result c.args.place c.args.count (length words) c.bits_of-bits.ensures
-    c.if-index-count.false c.requires.within)
+    (next_within g.T.BitRegister.BITS c.bits_of-bits.result c.args.place c.args.count (length words)
+    c.bits_of-bits.ensures c.if-index-count.false c.requires.within)
 
 pub returns-clause-digits : goal.returns-clause-digits
 returns-clause-digits g c =

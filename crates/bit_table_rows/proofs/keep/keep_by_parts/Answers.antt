@@ -1,9 +1,9 @@
-use Rattle.std.proofs.Common.{arith, ◌≡◌, ◌+◌, ◌*◌, ◌%◌, ◌≤◌, ◌/◌, ◌<◌, length, refl}
+use Rattle.std.proofs.Common.{arith, ◌≡◌, ◌+◌, ◌%◌, ◌<◌, length, refl}
 use Rattle.std.proofs.lemmas.Nat.{mod_below}
 use Rattle.bit_addressing_memory.proofs.MemoryLemmas.{piece_none}
 use Rattle.bit_addressing_memory.proofs.WindowLemmas.{length-window}
 use Rattle.bit_addressing_memory.specs.Memory.{memory, piece, read_by}
-use Rattle.bit_addressing_memory.specs.Sweep.{edge_of, sweep_words}
+use Rattle.bit_addressing_memory.specs.Sweep.{sweep_words}
 use Rattle.bit_table_rows.proofs.KeepLemmas.{fills_none, fills_part}
 use Rattle.bit_table_rows.proofs.keep.keep_by_parts.Goals as goal
 

@@ -31,8 +31,8 @@ returns-then-index-count g c =
     let low : c.args.to / b < length (sweep_words c.begun-own.new.sweep) =
     rw same.words (div_below c.args.to b (length words) some there) in
     let up : way_of c.begun-own.new.sweep ≡ Up = same.way ∙ c.requires.way in
-    fills_put reading c.args.sweep.now c.begun-own.new.sweep c.args.word c.stored-next.result c.args.first c.args.to more
-    some same (c.begun-own.ensures.lender ∙ c.bits_from-moved.ensures.lender)
+    fills_put reading c.args.sweep.now c.begun-own.new.sweep c.args.word c.stored-next.result c.args.first c.args.to
+    more some same (c.begun-own.ensures.lender ∙ c.bits_from-moved.ensures.lender)
     (λ before bits had.
     word_moved reading before words c.args.first c.args.to c.args.from c.args.count index bits c.args.word
     c.begun-own.result c.bits_from-moved.result c.raised-there.result c.stored-next.result some at c.requires.within

@@ -71,8 +71,8 @@ rows-preserved g c =
     let all : c.rows.k + m ≡ upto = omega (arith, c.stay_upto-upto.ensures.low) in
     let high : c.rows.k + m ≤ c.args.n = omega (arith, c.stay_upto-upto.ensures.high) in
     record {
-      at = subst (λ k. AtRow reading c.args.sweep.now c.keep_run-word.new.sweep zero c.keep_run-word.result first c.args.n
-          c.args.w off k (c.rows.kept + m)) all
+      at = subst (λ k. AtRow reading c.args.sweep.now c.keep_run-word.new.sweep zero c.keep_run-word.result first
+          c.args.n c.args.w off k (c.rows.kept + m)) all
           (at_run reading c.args.sweep.now c.rows.sweep zero c.rows.word first c.args.n c.args.w off c.rows.k
           c.rows.kept some low within c.rows.invariant.at c.keep_run-word.new.sweep c.keep_run-word.result m high
           (run_stays off c.rows.k upto (sym c.bit.ensures ∙ c.if-bit.false) c.stay_upto-upto.ensures.stay)

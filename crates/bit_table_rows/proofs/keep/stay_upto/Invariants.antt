@@ -5,4 +5,5 @@ use Rattle.bit_table_rows.proofs.keep.stay_upto.Given as goal
 
 abbrev pub invariant-loop-i : goal.invariant-loop-i
 invariant-loop-i g l =
-    (j : ℕ) → l.k ≤ j → j < l.i → get_or (view_bits (read_by g.T.BitRegister g.O.Positions.position) l.off) j false ≡ false
+    (j : ℕ) → l.k ≤ j → j < l.i
+    → get_or (view_bits (read_by g.T.BitRegister g.O.Positions.position) l.off) j false ≡ false

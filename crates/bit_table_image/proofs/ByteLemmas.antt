@@ -3,15 +3,17 @@
 -- Bits of bytes: `byte_bit`, `first_of_bytes`. Bytes of bits: `are_bytes_of`; `holds_bits` of a vector of bytes.
 -- `if_ok` goes on from a result.
 use Rattle.std.proofs.Common.{◌≡◌, ℕ, ◌+◌, ◌-◌, ◌*◌, ◌/◌, ◌%◌, ◌^◌, ◌<◌, ◌≤◌, zero, suc, Bool, false, List, []}
-use Rattle.std.proofs.Common.{◌∷◌, ◌++◌, length, get_or, take, drop, map, reverse, replicate, pos, refl, sym, ap, ◌∙◌, inl, inr}
+use Rattle.std.proofs.Common.{◌∷◌, ◌++◌, length, get_or, take, drop, map, reverse, replicate, pos}
+use Rattle.std.proofs.Common.{refl, sym, ap, ◌∙◌, inl, inr}
 use Rattle.std.proofs.Common.{add-one, arith, length-append, length-take, get_or-take, get_or-drop}
 use Rattle.std.specs.Prelude.{◌==◌, IfOk, Result, Ok, Err}
 use Rattle.std.specs.List.{range_with_len}
 use Rattle.std.proofs.lemmas.Bool.{cases_lt}
-use Rattle.std.proofs.lemmas.List.{ext_get_or, get_or_past, get_or-reverse, length-reverse, length-replicate, length-take-le}
+use Rattle.std.proofs.lemmas.List.{ext_get_or, get_or_past, get_or-reverse, length-replicate}
+use Rattle.std.proofs.lemmas.List.{length-take-le}
 use Rattle.std.proofs.lemmas.List.{replicate_more, reverse-append}
 use Rattle.std.proofs.lemmas.List.FromFn.{get_or-map-range_with_len, length-map-range_with_len, fill_by_all}
-use Rattle.std.proofs.lemmas.Nat.{div-add-mod', div_below, mod_below}
+use Rattle.std.proofs.lemmas.Nat.{div-add-mod', mod_below}
 use Rattle.bit_addressing_memory.proofs.EntryLemmas.{entry_at}
 use Rattle.bit_addressing_memory.proofs.MemoryLemmas.{entry_memory, with_piece_above, with_piece_inside}
 use Rattle.bit_addressing_memory.proofs.WindowLemmas.{window_is}
@@ -198,7 +200,8 @@ no_words at = refl
 -- bits that were added to none
 pub holds_bits : {P : Type 0} {g : _} (at : ℕ → ℕ) (old new : BitVec ℕ P g) (ys : List Bool)
     → vec_bits (bytes_read at) old ≡ [] → vec_head old ≡ 0 → new.head + new.len ≤ length new.words.items * 8
-    → AreBytes (visible (bytes_read at) new) → Extends (bytes_read at) old new ys → HoldBits at (visible (bytes_read at) new) ys
+    → AreBytes (visible (bytes_read at) new) → Extends (bytes_read at) old new ys
+    → HoldBits at (visible (bytes_read at) new) ys
 holds_bits at old new ys none start fits small more =
     let reading = bytes_read at in
     let shown = visible reading new in

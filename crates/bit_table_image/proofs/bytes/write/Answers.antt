@@ -1,4 +1,4 @@
-use Rattle.std.proofs.Common.{Vec, Global, ℕ, ◌-◌, ◌∙◌, ap, sym, refl}
+use Rattle.std.proofs.Common.{◌-◌, ◌∙◌, ap, sym, refl}
 use Rattle.bit_addressing_memory.specs.Memory.{read_by}
 use Rattle.bit_slice_views.specs.View.{view_bits}
 use Rattle.bit_table_layout.specs.declared.layout.Rule.TheVariants.{Low, High}

@@ -1,9 +1,11 @@
 -- Rows whose letters change, and rows that go.
 --
 -- Letters decided by letters: `lettered_decided`; told row by row: `lettered_told`, `told_more`, `length-told`. What is
--- told of them: `count-lettered`, `ones-passing`, `bears-letters`, `one_found`, `none_found`, `none_among`, `none_in_zero`,
--- `take_chunk`. Rows that do not bear a letter: `staying-lettered`, `count-staying`. Rows without letters: `blank-from`.
-use Rattle.std.proofs.Common.{◌≡◌, ℕ, zero, suc, ◌+◌, ◌-◌, ◌<◌, ◌≤◌, ◌==◌, Bool, true, false, not, List, [], ◌∷◌, ◌++◌, length, map}
+-- told of them: `count-lettered`, `ones-passing`, `bears-letters`, `one_found`, `none_found`, `none_among`,
+-- `none_in_zero`, `take_chunk`. Rows that do not bear a letter: `staying-lettered`, `count-staying`. Rows without
+-- letters: `blank-from`.
+use Rattle.std.proofs.Common.{◌≡◌, ℕ, zero, suc, ◌+◌, ◌-◌, ◌<◌, ◌≤◌, ◌==◌, Bool, true, false, not, List, []}
+use Rattle.std.proofs.Common.{◌∷◌, ◌++◌, length, map}
 use Rattle.std.proofs.Common.{get_or, min, take, inl, inr, refl, sym, ap, ap₂, ◌∙◌, arith, if◌then◌else◌}
 use Rattle.std.specs.Prelude.{count_by, replicate, slice_index_or, slice_set}
 use Rattle.std.specs.List.{filter}

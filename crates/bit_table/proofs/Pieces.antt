@@ -1,5 +1,6 @@
 -- A piece of a text is fed byte by byte.
-use Rattle.std.proofs.Common.{◌≡◌, ◌≢◌, ℕ, ◌+◌, ◌<◌, ◌==◌, false, List, [], ◌∷◌, ◌++◌, length, take, drop, get_or}
+use Rattle.std.proofs.Common.{◌≡◌, ◌≢◌, ℕ, ◌+◌, ◌-◌, ◌<◌, ◌≤◌, ◌==◌, false, List, [], ◌∷◌, ◌++◌}
+use Rattle.std.proofs.Common.{length, take, drop, get_or}
 use Rattle.std.proofs.Common.{Option, refl, sym, ap, ◌∙◌, append_assoc, subst, arith, rules, take-append-drop}
 use Rattle.std.proofs.lemmas.Grind.{common_steps}
 use Rattle.std.specs.Prelude.{Result, Ok, Err, OnErr, IsErrOf}
@@ -25,6 +26,27 @@ piece_step text piece i b h e =
 piece_rest : (text piece : List ℕ) (i : ℕ) → (text ++ take i piece) ++ drop i piece ≡ text ++ piece
 piece_rest text piece i =
     append_assoc text (take i piece) (drop i piece) ∙ ap (λ l. text ++ l) (take-append-drop i piece)
+
+-- what of a piece goes on a line: from one byte up to before another
+abbrev pub run : List ℕ → ℕ → ℕ → List ℕ
+run piece from at = take (at - from) (drop from piece)
+
+pub run_none : (line piece : List ℕ) (from at : ℕ) → line ≡ [] → from ≡ at → [] ≡ line ++ run piece from at
+run_none line piece from at none same =
+    let zero : at - from ≡ 0 = omega arith in
+    sym (ap (λ l. l ++ run piece from at) none ∙ ap (λ n. take n (drop from piece)) zero)
+
+pub run_more : (line piece : List ℕ) (from at : ℕ) → from ≤ at → at < length piece
+    → line ++ run piece from (at + 1) ≡ (line ++ run piece from at) ++ get_or piece at 0 ∷ []
+run_more line piece from at order inside =
+    let next : at + 1 - from ≡ (at - from) + 1 = omega arith in
+    let there : from + (at - from) ≡ at = omega arith in
+    let step : take ((at - from) + 1) (drop from piece)
+    ≡ take (at - from) (drop from piece) ++ get_or (drop from piece) (at - from) 0 ∷ [] = grind (arith, common_steps) in
+    let byte : get_or (drop from piece) (at - from) 0 ≡ get_or piece at 0 = grind (arith, common_steps) in
+    ap (λ n. line ++ take n (drop from piece)) next
+    ∙ ap (λ l. line ++ l) (step ∙ ap (λ b. take (at - from) (drop from piece) ++ b ∷ []) byte)
+    ∙ sym (append_assoc line (run piece from at) (get_or piece at 0 ∷ []))
 
 -- a line end came, and the line's answer is held
 pub feed_end : (answers next after : Answers) (start now : Option (List ℕ)) (held text piece line more : List ℕ) (i : ℕ)

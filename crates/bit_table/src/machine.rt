@@ -118,17 +118,22 @@ fn feed<M: LineMachine, W: Write>(
         HasHeld answers start (W.contents (output_writer output.new)) held.new.items (text ++ piece.now) }
     ensures failed { IsErrOf result RunError.Write ↔ IsTrue (output_failed output.new) }
 {
-    for byte in piece {
-        if *byte == b'\n' {
+    // Where the line begun goes on in the piece.
+    let mut from = 0;
+    for at in 0..piece.len() {
+        if piece[at] == b'\n' {
+            line.extend_from_slice(&piece[from..at])
+                .map_err(|_| RunError::Memory)?;
             hold_answer(machine, line.as_slice(), held)?;
             line.clear();
+            from = at + 1;
             if held.len() >= PIECE {
                 send(held, output)?;
             }
-        } else {
-            line.push(*byte).map_err(|_| RunError::Memory)?;
         }
     }
+    line.extend_from_slice(&piece[from..])
+        .map_err(|_| RunError::Memory)?;
     Ok(())
 }
 

@@ -1,3 +1,4 @@
+pub mod ChunkedLemmas
 pub mod CompareLemmas
 pub mod CountLemmas
 pub mod EdgeLemmas

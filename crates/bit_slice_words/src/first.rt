@@ -5,15 +5,17 @@ ghost use Rattle.bit_addressing_memory.specs.Memory.{indexed, memory, piece, rea
 ghost use Rattle.bit_slice_words.specs.Found.{is_bit};
 ghost use Rattle.bit_slice_words.specs.Stretch.{bit_found, IsFirst, Nowhere};
 
+use crate::by_chunks::first_by_chunks;
 use crate::edges::edges_of;
 use crate::lacks::lacks;
 use bit_addressing_memory::mem::bits_of;
-use bit_addressing_memory::{BitIdx, BitOrder, BitRegister, read_bit};
+use bit_addressing_memory::{BitIdx, BitOrder, BitRegister, direction_of, read_bit};
 
 /// The index of the first of the `len` bits from a place on that is `bit`, counted from that place; `None` where
 /// none is.
 ///
-/// A whole word that has no such bit is passed over by one comparison. It answers as `first_one` of a slice in bitvec
+/// Where the order goes straight, 64 bits are looked at in one step; under others a whole word that has no such bit is
+/// passed over by one comparison. It answers as `first_one` of a slice in bitvec
 /// 1.1.1, and for false as `first_zero`.
 pub fn first_in<R: BitRegister, O: BitOrder<R>>(
     words: &[R],
@@ -31,8 +33,26 @@ pub fn first_in<R: BitRegister, O: BitOrder<R>>(
     }
 }
 
-// The place of the first of some bits that is `bit`: in the first word, in the words between or in the last word.
+// The place of the first of some bits that is `bit`: by chunks where the order goes straight.
+#[inline(always)]
 fn first_place<R: BitRegister, O: BitOrder<R>>(
+    words: &[R],
+    place: usize,
+    len: usize,
+    bit: bool,
+) -> Option<usize>
+    requires within { place + len ≤ length words.now * R.BITS }
+    requires ends { place + len < 2 ^ 64 }
+    ensures { IsFirst (bit_found (read_by R.BitRegister O.position) words.now bit) place (place + len) result }
+{
+    match direction_of::<R, O>() {
+        Some(direction) => first_by_chunks::<R, O>(direction, words, place, len, bit),
+        None => first_by_words::<R, O>(words, place, len, bit),
+    }
+}
+
+// `first_place`, for every order: in the first word, in the words between or in the last word.
+fn first_by_words<R: BitRegister, O: BitOrder<R>>(
     words: &[R],
     place: usize,
     len: usize,

@@ -5,15 +5,17 @@ ghost use Rattle.bit_addressing_memory.specs.Memory.{indexed, memory, piece, rea
 ghost use Rattle.bit_slice_words.specs.Found.{is_bit, last_position};
 ghost use Rattle.bit_slice_words.specs.Stretch.{bit_found, IsLast, Nowhere};
 
+use crate::by_chunks::last_by_chunks;
 use crate::edges::edges_of;
 use crate::lacks::lacks;
 use bit_addressing_memory::mem::bits_of;
-use bit_addressing_memory::{BitIdx, BitOrder, BitRegister, read_bit};
+use bit_addressing_memory::{BitIdx, BitOrder, BitRegister, direction_of, read_bit};
 
 /// The index of the last of the `len` bits from a place on that is `bit`, counted from that place; `None` where
 /// none is.
 ///
-/// A whole word that has no such bit is passed over by one comparison. It answers as `last_one` of a slice in bitvec
+/// Where the order goes straight, 64 bits are looked at in one step; under others a whole word that has no such bit is
+/// passed over by one comparison. It answers as `last_one` of a slice in bitvec
 /// 1.1.1, and for false as `last_zero`.
 pub fn last_in<R: BitRegister, O: BitOrder<R>>(
     words: &[R],
@@ -32,8 +34,26 @@ pub fn last_in<R: BitRegister, O: BitOrder<R>>(
     }
 }
 
-// The place of the last of some bits that is `bit`: in the last word, in the words between or in the first word.
+// The place of the last of some bits that is `bit`: by chunks where the order goes straight.
+#[inline(always)]
 fn last_place<R: BitRegister, O: BitOrder<R>>(
+    words: &[R],
+    place: usize,
+    len: usize,
+    bit: bool,
+) -> Option<usize>
+    requires within { place + len ≤ length words.now * R.BITS }
+    requires ends { place + len < 2 ^ 64 }
+    ensures { IsLast (bit_found (read_by R.BitRegister O.position) words.now bit) place (place + len) result }
+{
+    match direction_of::<R, O>() {
+        Some(direction) => last_by_chunks::<R, O>(direction, words, place, len, bit),
+        None => last_by_words::<R, O>(words, place, len, bit),
+    }
+}
+
+// `last_place`, for every order: in the last word, in the words between or in the first word.
+fn last_by_words<R: BitRegister, O: BitOrder<R>>(
     words: &[R],
     place: usize,
     len: usize,

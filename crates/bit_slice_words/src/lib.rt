@@ -3,6 +3,7 @@
 
 mod agree;
 pub mod by_bits;
+mod by_chunks;
 mod change;
 mod combine;
 mod compare;

@@ -1,0 +1,199 @@
+-- The first and the last bit of a kind in a chunk of a memory, and in stretches of chunks end to end.
+use Rattle.std.proofs.Common.{◌≡◌, ℕ, ◌+◌, ◌-◌, ◌^◌, ◌==◌, ◌<◌, ◌≤◌, ◌≢◌, Bool, true, false, not, List, Option, Some, None}
+use Rattle.std.proofs.Common.{refl, sym, ap, ◌∙◌, inl, inr, arith}
+use Rattle.std.proofs.lemmas.Bool.{cases_lt}
+use Rattle.std.proofs.lemmas.Nat.Bits.{bit_at_ones}
+use Rattle.bit_addressing_memory.specs.declared.direction.Direction.{Direction}
+use Rattle.bit_addressing_memory.specs.declared.direction.Direction.TheVariants.{Ascending, Descending}
+use Rattle.bit_addressing_memory.specs.Bits.{digit_at}
+use Rattle.bit_addressing_memory.specs.Memory.{Reading, entry}
+use Rattle.bit_addressing_memory.specs.Straight.{straight}
+use Rattle.bit_slice_chunks.specs.Chunk.{chunk_bit, IsChunk, IsRaised, AgreeTo}
+use Rattle.bit_slice_words.specs.Found.{is_bit}
+use Rattle.bit_slice_words.specs.Stretch.{bit_found, FirstAt, LastAt, IsFirst, IsLast, Nowhere}
+use Rattle.bit_slice_words.proofs.StretchLemmas.{nowhere_join}
+
+-- ---- a number without a bit
+
+-- each digit of it is another
+abbrev pub Lacks : Bool → Direction → ℕ → Type 0
+Lacks bit direction without = (i : ℕ) → i < 64 → is_bit bit (chunk_bit direction without i) ≡ false
+
+-- the greatest number has none that is 0
+pub lacks_zeros : (bit : Bool) (direction : Direction) (r : ℕ) → bit ≡ false → r ≡ 2 ^ 64 - 1 → Lacks bit direction r
+lacks_zeros true direction r zero full i small = cc
+lacks_zeros false direction r zero full i small =
+    ap (λ n. not (digit_at n (straight 64 direction i))) full
+    ∙ ap (λ d. not (d == 1)) (bit_at_ones 64 (straight 64 direction i) (within direction i small))
+  where
+    within : (direction : Direction) (i : ℕ) → i < 64 → straight 64 direction i < 64
+    within Ascending i small = small
+    within Descending i small = omega arith
+
+-- what differs from a bit that is not this one is this one
+other_is : (bit x y : Bool) → is_bit bit y ≡ false → x ≢ y → is_bit bit x ≡ true
+other_is true true y out other = refl
+other_is true false true out other = cc
+other_is true false false out other = absurd (other refl)
+other_is false false y out other = refl
+other_is false true false out other = cc
+other_is false true true out other = absurd (other refl)
+
+-- ---- one chunk
+
+-- bits of a chunk that are those of a number without the bit
+none_before : {R : Type 0} (reading : Reading R) (words : List R) (bit : Bool) (place n m : ℕ) (direction : Direction)
+    (chunk without at : ℕ) → m ≤ n → m ≤ at → IsChunk reading words place n direction chunk
+    → Lacks bit direction without → AgreeTo direction chunk without at
+    → Nowhere (bit_found reading words bit) place (place + m)
+none_before reading words bit place n m direction chunk without at inside early had lacks agree p low high =
+    let i : ℕ = p - place in
+    let there : place + i ≡ p = omega arith in
+    let most = agree.most in
+    ap (bit_found reading words bit) (sym there)
+    ∙ ap (is_bit bit) (sym (had.inside i (omega arith)) ∙ agree.same i (omega arith))
+    ∙ lacks i (omega arith)
+
+-- the chunk has the bit nowhere
+pub chunk_none : {R : Type 0} (reading : Reading R) (words : List R) (bit : Bool) (place n : ℕ) (direction : Direction)
+    (chunk without at : ℕ) → n ≤ at → IsChunk reading words place n direction chunk
+    → Lacks bit direction without → AgreeTo direction chunk without at
+    → Nowhere (bit_found reading words bit) place (place + n)
+chunk_none reading words bit place n direction chunk without at late had lacks agree =
+    none_before reading words bit place n n direction chunk without at (omega arith) late had lacks agree
+
+-- the first of them is where the chunk differs
+pub chunk_first : {R : Type 0} (reading : Reading R) (words : List R) (bit : Bool) (place n : ℕ)
+    (direction : Direction) (chunk without at : ℕ) → n ≤ 64 → at < n → IsChunk reading words place n direction chunk
+    → Lacks bit direction without → AgreeTo direction chunk without at
+    → FirstAt (bit_found reading words bit) place (place + n) (place + at)
+chunk_first reading words bit place n direction chunk without at few low had lacks agree = record {
+  low = omega arith;
+  high = omega arith;
+  here = other_is bit (entry reading words (place + at)) (chunk_bit direction without at) (lacks at (omega arith))
+      (λ same. agree.differ (omega arith) (had.inside at low ∙ same));
+  before = none_before reading words bit place n at direction chunk without at (omega arith) (omega arith) had lacks
+      agree;
+}
+
+-- ---- one chunk from its end
+
+-- the chunk has the n entries of a memory from a place on, the last of them first
+pub record IsBack {R : Type 0} (reading : Reading R) (words : List R) (place n : ℕ) (direction : Direction)
+    (chunk : ℕ) : Type 0 where
+  pub inside : (i : ℕ) → i < n → chunk_bit direction chunk i ≡ entry reading words (place + (n - 1 - i))
+
+-- how two directions meet the bits of a chunk
+abbrev pub Opposite : Direction → Direction → Type 0
+Opposite direction other = (i : ℕ) → i < 64 → straight 64 other i ≡ straight 64 direction (63 - i)
+
+-- 64 bits are met from the last on
+pub back_whole : {R : Type 0} (reading : Reading R) (words : List R) (place : ℕ) (direction other : Direction)
+    (chunk : ℕ) → Opposite direction other → IsChunk reading words place 64 direction chunk
+    → IsBack reading words place 64 other chunk
+back_whole reading words place direction other chunk turned had = record {
+  inside = λ i low. ap (digit_at chunk) (turned i low) ∙ had.inside (63 - i) (omega arith);
+}
+
+-- and so are fewer, once they are moved up to the end of the chunk
+pub back_rest : {R : Type 0} (reading : Reading R) (words : List R) (place n by : ℕ) (direction other : Direction)
+    (chunk raised : ℕ) → n + by ≡ 64 → Opposite direction other → IsChunk reading words place n direction chunk
+    → IsRaised direction chunk by raised → IsBack reading words place n other raised
+back_rest reading words place n by direction other chunk raised sum turned had moved = record {
+  inside = λ i low.
+      let at : 63 - i - by ≡ n - 1 - i = omega arith in
+      ap (digit_at raised) (turned i (omega arith))
+      ∙ moved.above (63 - i) (omega arith) (omega arith)
+      ∙ ap (chunk_bit direction chunk) at
+      ∙ had.inside (n - 1 - i) (omega arith);
+}
+
+-- the last bits of a chunk that are those of a number without the bit
+none_behind : {R : Type 0} (reading : Reading R) (words : List R) (bit : Bool) (place n m : ℕ) (direction : Direction)
+    (chunk without at : ℕ) → m ≤ n → m ≤ at → IsBack reading words place n direction chunk
+    → Lacks bit direction without → AgreeTo direction chunk without at
+    → Nowhere (bit_found reading words bit) (place + (n - m)) (place + n)
+none_behind reading words bit place n m direction chunk without at inside early had lacks agree p low high =
+    let i : ℕ = place + n - 1 - p in
+    let there : place + (n - 1 - i) ≡ p = omega arith in
+    let most = agree.most in
+    ap (bit_found reading words bit) (sym there)
+    ∙ ap (is_bit bit) (sym (had.inside i (omega arith)) ∙ agree.same i (omega arith))
+    ∙ lacks i (omega arith)
+
+-- the chunk has the bit nowhere
+pub back_none : {R : Type 0} (reading : Reading R) (words : List R) (bit : Bool) (place n : ℕ) (direction : Direction)
+    (chunk without at : ℕ) → n ≤ at → IsBack reading words place n direction chunk
+    → Lacks bit direction without → AgreeTo direction chunk without at
+    → Nowhere (bit_found reading words bit) place (place + n)
+back_none reading words bit place n direction chunk without at late had lacks agree p low high =
+    none_behind reading words bit place n n direction chunk without at (omega arith) late had lacks agree p (omega arith)
+    high
+
+-- the last of them is where the chunk differs
+pub back_last : {R : Type 0} (reading : Reading R) (words : List R) (bit : Bool) (place n : ℕ)
+    (direction : Direction) (chunk without at : ℕ) → n ≤ 64 → at < n → IsBack reading words place n direction chunk
+    → Lacks bit direction without → AgreeTo direction chunk without at
+    → LastAt (bit_found reading words bit) place (place + n) (place + (n - 1 - at))
+back_last reading words bit place n direction chunk without at few low had lacks agree = record {
+  low = omega arith;
+  high = omega arith;
+  here = other_is bit (entry reading words (place + (n - 1 - at))) (chunk_bit direction without at)
+      (lacks at (omega arith)) (λ same. agree.differ (omega arith) (had.inside at low ∙ same));
+  after = λ q later less.
+      none_behind reading words bit place n at direction chunk without at (omega arith) (omega arith) had lacks agree q
+      (omega arith) less;
+}
+
+-- ---- stretches that overlap or meet
+
+-- nowhere up to a place, and the first from that place or one before it on
+pub first_later : (passes : ℕ → Bool) (from again mid upto : ℕ) (r : Option ℕ) → from ≤ again → again ≤ mid
+    → Nowhere passes from mid → IsFirst passes again upto r → IsFirst passes from upto r
+first_later passes from again mid upto None later early front none =
+    nowhere_join passes from mid upto front (λ p low high. none p (omega arith) high)
+first_later passes from again mid upto (Some q) later early front found =
+    let least = found.low in
+    record {
+      low = omega arith;
+      high = found.high;
+      here = found.here;
+      before = nowhere_join passes from again q (λ p low high. front p low (omega arith)) found.before;
+    }
+
+-- the first of a stretch is that of a longer one
+pub first_longer : (passes : ℕ → Bool) (from mid upto q : ℕ) → mid ≤ upto → FirstAt passes from mid q
+    → FirstAt passes from upto q
+first_longer passes from mid upto q longer found = record {
+  low = found.low;
+  high = omega (arith, found.high);
+  here = found.here;
+  before = found.before;
+}
+
+-- nowhere from a place on, and the last up to before that place or one behind it
+pub last_earlier : (passes : ℕ → Bool) (from mid again upto : ℕ) (r : Option ℕ) → mid ≤ again → again ≤ upto
+    → Nowhere passes mid upto → IsLast passes from again r → IsLast passes from upto r
+last_earlier passes from mid again upto None late within back none =
+    nowhere_join passes from again upto none (λ p low high. back p (omega arith) high)
+last_earlier passes from mid again upto (Some q) late within back found =
+    let most = found.high in
+    record {
+      low = found.low;
+      high = omega arith;
+      here = found.here;
+      after = λ p later less. elim (cases_lt p again) [
+        | inl inside ↦ found.after p later inside
+        | inr behind ↦ back p (omega arith) less
+      ];
+    }
+
+-- the last of a stretch is that of one that begins before it
+pub last_wider : (passes : ℕ → Bool) (from mid upto q : ℕ) → from ≤ mid → LastAt passes mid upto q
+    → LastAt passes from upto q
+last_wider passes from mid upto q wider found = record {
+  low = omega (arith, found.low);
+  high = found.high;
+  here = found.here;
+  after = found.after;
+}

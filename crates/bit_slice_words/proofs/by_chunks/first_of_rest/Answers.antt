@@ -1,0 +1,16 @@
+use Rattle.std.proofs.Common.{arith}
+use Rattle.bit_addressing_memory.specs.Memory.{read_by}
+use Rattle.bit_slice_words.proofs.ChunkedLemmas.{chunk_first, chunk_none}
+use Rattle.bit_slice_words.proofs.by_chunks.first_of_rest.Goals as goal
+
+pub returns-then-before-count : goal.returns-then-before-count
+returns-then-before-count g c =
+    chunk_first (read_by g.R.BitRegister g.O.Positions.position) c.args.words.now c.args.bit c.args.place c.args.count
+    c.args.direction c.read_bits-chunk.result c.chunk_without.result c.first_difference-before.result (omega arith)
+    (omega arith) c.read_bits-chunk.ensures (c.chunk_without.ensures c.args.direction) c.first_difference-before.ensures
+
+pub returns-else-before-count : goal.returns-else-before-count
+returns-else-before-count g c =
+    chunk_none (read_by g.R.BitRegister g.O.Positions.position) c.args.words.now c.args.bit c.args.place c.args.count
+    c.args.direction c.read_bits-chunk.result c.chunk_without.result c.first_difference-before.result (omega arith)
+    c.read_bits-chunk.ensures (c.chunk_without.ensures c.args.direction) c.first_difference-before.ensures

@@ -1,0 +1,14 @@
+use Rattle.std.proofs.Common.{◌-◌, ◌*◌, ◌≤◌}
+use Rattle.bit_addressing_memory.specs.Memory.{read_by}
+use Rattle.bit_slice_words.specs.Stretch.{bit_found, Nowhere}
+use Rattle.bit_slice_words.proofs.by_chunks.last_before.Given as goal
+
+abbrev pub invariant-loop-k : goal.invariant-loop-k
+invariant-loop-k g l = record {
+  least : l.from ≤ l.k;
+  most : l.k ≤ l.upto;
+  none : Nowhere (bit_found (read_by g.R.BitRegister g.O.Positions.position) l.words l.bit) (64 * l.k) (64 * l.upto);
+}
+
+abbrev pub decreases-loop-k : goal.decreases-loop-k
+decreases-loop-k g l = l.k - l.from

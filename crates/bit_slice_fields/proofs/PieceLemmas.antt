@@ -2,8 +2,8 @@
 --
 -- A piece: `piece_is`. Its digits as a chunk has them: `piece_digits`, `chunk_up`, `chunk_down`. One piece more:
 -- `gathered_piece`, `scattered_piece`.
-use Rattle.std.proofs.Common.{◌≡◌, ◌⊎◌, ℕ, ◌+◌, ◌-◌, ◌*◌, ◌/◌, ◌%◌, ◌^◌, ◌==◌, ◌<◌, ◌≤◌, Bool, true, false, List}
-use Rattle.std.proofs.Common.{get_or, length, min, bit_or, arith, refl, sym, ap, ◌∙◌, inl, inr}
+use Rattle.std.proofs.Common.{◌≡◌, ◌⊎◌, ℕ, ◌+◌, ◌-◌, ◌*◌, ◌/◌, ◌%◌, ◌^◌, ◌==◌, ◌<◌, ◌≤◌}
+use Rattle.std.proofs.Common.{Bool, true, false, List, get_or, length, min, bit_or, arith, refl, sym, ap, ◌∙◌, inl, inr}
 use Rattle.std.specs.Int.{bit_at}
 use Rattle.std.proofs.Math.Nat.{mul-le-mul_right, suc-mul}
 use Rattle.std.proofs.Math.Pow.{pow_mono, pow_pos}

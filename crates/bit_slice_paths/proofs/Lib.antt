@@ -1,4 +1,6 @@
 pub mod AcrossLemmas
+pub mod ExchangeLemmas
 pub mod MirrorLemmas
+pub mod SeekLemmas
 pub mod StepLemmas
 pub mod WalkLemmas

@@ -31,7 +31,7 @@ fn whole_facing<R: BitRegister, O: BitOrder<R>>(
 
 // Up to 64 bits of a memory from a place on, as a chunk of another direction.
 #[inline(always)]
-fn rest_facing<R: BitRegister, O: BitOrder<R>>(
+pub(crate) fn rest_facing<R: BitRegister, O: BitOrder<R>>(
     from: Direction,
     to: Direction,
     words: &[R],

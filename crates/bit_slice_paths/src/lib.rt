@@ -3,7 +3,9 @@
 
 pub mod across;
 pub mod by_words;
+pub mod exchange;
 pub mod mirror;
+pub mod seek;
 mod steps;
 
 pub use bit_slice_chunks::Combination;

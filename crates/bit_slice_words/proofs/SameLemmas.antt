@@ -1,13 +1,15 @@
 -- Tests and answers: `differ_tested`, `answers_yes`, `answers_no`. Bits of two memories: `windows_equal`,
--- `windows_differ`, `windows_agree`. One list in another: `holds_empty`, `holds_here`, `holds_none`, `holds_short`.
-use Rattle.std.proofs.Common.{◌≡◌, ◌≢◌, ℕ, ◌+◌, ◌*◌, ◌<◌, ◌≤◌, ◌↔◌, ◌==◌, IsTrue}
+-- `windows_differ`, `windows_agree`. One list in another: `holds_empty`, `holds_here`, `holds_none`, `holds_short`;
+-- told by the first place: `holds_first`.
+use Rattle.std.proofs.Common.{◌≡◌, ◌≢◌, ℕ, ◌+◌, ◌*◌, ◌<◌, ◌≤◌, ◌↔◌, ◌==◌, nat_lt, IsTrue}
 use Rattle.std.proofs.Common.{Bool, true, false, not, List, [], ◌∷◌, length, get_or, refl, sym, ap, ◌∙◌, inl, inr, arith}
 use Rattle.std.proofs.Math.Bool.{beq}
-use Rattle.std.proofs.lemmas.Bool.{cases_lt, eqb-true, eq-eqb, false≢true}
+use Rattle.std.proofs.lemmas.Bool.{cases_lt, eqb-true, eq-eqb, false≢true, lt-ltb, ltb-true}
 use Rattle.bit_addressing_memory.specs.Memory.{Reading, entry, memory, piece}
 use Rattle.bit_addressing_memory.proofs.MemoryLemmas.{piece_none, piece_piece}
 use Rattle.bit_addressing_memory.proofs.WindowLemmas.{length-window, window_bit, window_is}
 use Rattle.bit_slice_paths.specs.Agrees.{Agrees}
+use Rattle.bit_slice_paths.specs.Stands.{Stands, StandsFirst}
 use Rattle.bit_slice_words.specs.Holds.{Holds}
 
 -- ---- what a test of two bits tells, and what an answer does
@@ -104,4 +106,38 @@ holds_none reading words place len n ys fits size none held =
     let inside : i + n ≤ len = omega (arith, held.1, length-window reading words place len fits) in
     none i inside (
     sym (piece_piece (memory reading words) place len i n inside) ∙ ap (piece xs i) (sym size) ∙ held.2
+    )
+
+-- as many equal lists have equal entries
+windows_stand : {R Q : Type 0} (reading : Reading R) (words : List R) (its : Reading Q) (others : List Q)
+    (place other_place n : ℕ) → 0 < reading.bits → 0 < its.bits
+    → piece (memory reading words) place n ≡ piece (memory its others) other_place n
+    → Stands reading words place its others other_place n
+windows_stand reading words its others place other_place n some its_some same k low =
+    sym (window_bit reading words place n k some low)
+    ∙ ap (λ xs. get_or xs k false) same
+    ∙ window_bit its others other_place n k its_some low
+
+-- the first of so many places at which a list stands tells whether it stands in bits of a memory
+pub holds_first : {R Q : Type 0} (reading : Reading R) (words : List R) (its : Reading Q) (others : List Q)
+    (place len other_place n starts at : ℕ) → 0 < reading.bits → 0 < its.bits
+    → place + len ≤ length words * reading.bits → other_place + n ≤ length others * its.bits → starts + n ≡ len + 1
+    → StandsFirst reading words place its others other_place n starts at
+    → IsTrue (nat_lt at starts)
+    ↔ Holds (piece (memory reading words) place len) (piece (memory its others) other_place n)
+holds_first reading words its others place len other_place n starts at some its_some fits its_fit sum first =
+    let ys = piece (memory its others) other_place n in
+    let size : length ys ≡ n = length-window its others other_place n its_fit in (
+      λ test.
+          let low : at < starts = ltb-true at starts test in
+          holds_here reading words place len at n ys fits (omega arith) size
+          (windows_equal reading words its others (place + at) other_place n some its_some (omega arith) its_fit
+          (first.here low)),
+      λ held. elim (cases_lt at starts) [
+        | inl low ↦ lt-ltb at starts low
+        | inr past ↦
+            absurd (holds_none reading words place len n ys fits size
+            (λ i inside same. first.before i (omega arith)
+            (windows_stand reading words its others (place + i) other_place n some its_some same)) held)
+      ],
     )

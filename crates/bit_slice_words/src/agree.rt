@@ -39,7 +39,7 @@ pub(crate) fn agree_in<R: BitRegister, O: BitOrder<R>, Q: BitRegister, P: BitOrd
 }
 
 // `agree_in`, bit by bit: for every order.
-fn agree_by_bits<R: BitRegister, O: BitOrder<R>, Q: BitRegister, P: BitOrder<Q>>(
+pub(crate) fn agree_by_bits<R: BitRegister, O: BitOrder<R>, Q: BitRegister, P: BitOrder<Q>>(
     words: &[R],
     place: usize,
     others: &[Q],

@@ -1,0 +1,7 @@
+use Rattle.std.proofs.Common.{◌*◌}
+use Rattle.bit_addressing_memory.specs.Memory.{read_by, Swaps}
+use Rattle.bit_slice_paths.proofs.exchange.exchange.Given as goal
+
+abbrev pub invariant-loop-k : goal.invariant-loop-k
+invariant-loop-k g l =
+    Swaps (read_by g.R.BitRegister g.O.Positions.position) l.fn.words l.words l.first l.second (64 * l.k)

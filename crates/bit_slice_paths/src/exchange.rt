@@ -1,0 +1,78 @@
+//! Two stretches of one memory exchanged, by chunks of 64 bits.
+
+ghost use Rattle.std.specs.Prelude.{◌+◌, ◌*◌, ◌^◌, ◌<◌, ◌≤◌, length};
+ghost use Rattle.bit_addressing_memory.specs.Memory.{read_by, Swaps};
+ghost use Rattle.bit_addressing_memory.specs.Straight.{Goes};
+
+use bit_addressing_memory::{BitOrder, BitRegister, Direction};
+use bit_slice_chunks::{read_bits, read_chunk, write_bits, write_chunk};
+
+// Exchanges 64 bits with 64 behind them.
+#[inline(always)]
+fn exchange_wholes<R: BitRegister, O: BitOrder<R>>(
+    direction: Direction,
+    words: &mut [R],
+    first: usize,
+    second: usize,
+)
+    requires goes { Goes R.BITS O.position direction }
+    requires apart { first + 64 ≤ second }
+    requires within { second + 64 ≤ length words.old * R.BITS }
+    requires ends { second + 64 < 2 ^ 64 }
+    ensures { Swaps (read_by R.BitRegister O.position) words.old words.new first second 64 }
+{
+    let front = read_chunk::<R, O>(direction, words, first);
+    let back = read_chunk::<R, O>(direction, words, second);
+    write_chunk::<R, O>(direction, words, first, back);
+    write_chunk::<R, O>(direction, words, second, front);
+}
+
+// Exchanges up to 64 bits with as many behind them.
+#[inline(never)]
+fn exchange_rests<R: BitRegister, O: BitOrder<R>>(
+    direction: Direction,
+    words: &mut [R],
+    first: usize,
+    second: usize,
+    count: usize,
+)
+    requires goes { Goes R.BITS O.position direction }
+    requires some { 0 < count }
+    requires few { count ≤ 64 }
+    requires apart { first + count ≤ second }
+    requires within { second + count ≤ length words.old * R.BITS }
+    requires ends { second + count < 2 ^ 64 }
+    ensures { Swaps (read_by R.BitRegister O.position) words.old words.new first second count }
+{
+    let front = read_bits::<R, O>(direction, words, first, count);
+    let back = read_bits::<R, O>(direction, words, second, count);
+    write_bits::<R, O>(direction, words, first, count, back);
+    write_bits::<R, O>(direction, words, second, count, front);
+}
+
+/// Exchanges `len` bits of a memory with as many behind them.
+#[inline(always)]
+pub fn exchange<R: BitRegister, O: BitOrder<R>>(
+    direction: Direction,
+    words: &mut [R],
+    first: usize,
+    second: usize,
+    len: usize,
+)
+    requires goes { Goes R.BITS O.position direction }
+    requires apart { first + len ≤ second }
+    requires within { second + len ≤ length words.old * R.BITS }
+    requires ends { second + len < 2 ^ 64 }
+    ensures { Swaps (read_by R.BitRegister O.position) words.old words.new first second len }
+{
+    let whole = len / 64;
+    let rest = len % 64;
+    for k in 0..whole {
+        let done = 64 * k;
+        exchange_wholes::<R, O>(direction, words, first + done, second + done);
+    }
+    if rest > 0 {
+        let done = 64 * whole;
+        exchange_rests::<R, O>(direction, words, first + done, second + done, rest);
+    }
+}

@@ -1,0 +1,184 @@
+//! Bits of one memory sought in another, by chunks: their first bits are read once, and a chunk of the memory shows them
+//! or not at each of its first places.
+
+ghost use Rattle.std.specs.Prelude.{◌≡◌, ℕ, ◌+◌, ◌*◌, ◌^◌, ◌<◌, ◌≤◌, length, min, true, false};
+ghost use Rattle.bit_addressing_memory.specs.Memory.{entry, read_by};
+ghost use Rattle.bit_addressing_memory.specs.Straight.{Goes};
+ghost use Rattle.bit_slice_chunks.specs.Chunk.{chunk_bit, IsChunk};
+ghost use Rattle.bit_slice_paths.specs.Stands.{Stands, StandsFirst};
+
+use crate::across::{difference, rest_facing};
+use bit_addressing_memory::{BitOrder, BitRegister, Direction};
+use bit_slice_chunks::{first_bits, lowered, read_bits};
+
+// Whether so many bits of two memories are the same.
+#[inline(never)]
+fn same<R: BitRegister, O: BitOrder<R>, Q: BitRegister, P: BitOrder<Q>>(
+    direction: Direction,
+    other_direction: Direction,
+    words: &[R],
+    place: usize,
+    others: &[Q],
+    other_place: usize,
+    len: usize,
+) -> bool
+    requires goes { Goes R.BITS O.position direction }
+    requires other_goes { Goes Q.BITS P.position other_direction }
+    requires within { place + len ≤ length words.now * R.BITS }
+    requires ends { place + len < 2 ^ 64 }
+    requires other_within { other_place + len ≤ length others.now * Q.BITS }
+    requires other_ends { other_place + len < 2 ^ 64 }
+    ensures yes { result ≡ true → Stands (read_by R.BitRegister O.position) words.now place
+        (read_by Q.BitRegister P.position) others.now other_place len }
+    ensures no { result ≡ false → Stands (read_by R.BitRegister O.position) words.now place
+        (read_by Q.BitRegister P.position) others.now other_place len → ⊥ }
+{
+    difference::<R, O, Q, P>(
+        direction,
+        other_direction,
+        words,
+        place,
+        others,
+        other_place,
+        len,
+    ) == len
+}
+
+// Whether bits of another memory stand at a place of which a chunk has the first ones, from bit `from` on. `sought` has
+// the first ones of the other memory.
+#[inline(always)]
+fn shows<R: BitRegister, O: BitOrder<R>, Q: BitRegister, P: BitOrder<Q>>(
+    direction: Direction,
+    other_direction: Direction,
+    words: &[R],
+    place: usize,
+    others: &[Q],
+    other_place: usize,
+    len: usize,
+    chunk: u64,
+    from: usize,
+    sought: u64,
+) -> bool
+    requires goes { Goes R.BITS O.position direction }
+    requires other_goes { Goes Q.BITS P.position other_direction }
+    requires some { 0 < len }
+    requires few { from < 33 }
+    requires within { place + from + len ≤ length words.now * R.BITS }
+    requires ends { place + from + len < 2 ^ 64 }
+    requires other_within { other_place + len ≤ length others.now * Q.BITS }
+    requires other_ends { other_place + len < 2 ^ 64 }
+    requires chunk { (k : ℕ) → k < from + min len 32
+        → chunk_bit direction chunk k ≡ entry (read_by R.BitRegister O.position) words.now (place + k) }
+    requires sought { IsChunk (read_by Q.BitRegister P.position) others.now other_place (min len 32) direction sought }
+    ensures yes { result ≡ true → Stands (read_by R.BitRegister O.position) words.now (place + from)
+        (read_by Q.BitRegister P.position) others.now other_place len }
+    ensures no { result ≡ false → Stands (read_by R.BitRegister O.position) words.now (place + from)
+        (read_by Q.BitRegister P.position) others.now other_place len → ⊥ }
+{
+    let shown = lowered(direction, chunk, from as u8);
+    if first_bits(direction, shown, len.min(32) as u8) != sought {
+        return false;
+    }
+    same::<R, O, Q, P>(
+        direction,
+        other_direction,
+        words,
+        place + from,
+        others,
+        other_place,
+        len,
+    )
+}
+
+// The first of up to 33 places at which bits of another memory stand, the first of which are `sought`.
+#[inline(always)]
+fn start_near<R: BitRegister, O: BitOrder<R>, Q: BitRegister, P: BitOrder<Q>>(
+    direction: Direction,
+    other_direction: Direction,
+    words: &[R],
+    place: usize,
+    others: &[Q],
+    other_place: usize,
+    len: usize,
+    starts: usize,
+    sought: u64,
+) -> usize
+    requires goes { Goes R.BITS O.position direction }
+    requires other_goes { Goes Q.BITS P.position other_direction }
+    requires some { 0 < len }
+    requires some_starts { 0 < starts }
+    requires few { starts ≤ 33 }
+    requires within { place + starts + len ≤ length words.now * R.BITS + 1 }
+    requires ends { place + starts + len ≤ 2 ^ 64 }
+    requires other_within { other_place + len ≤ length others.now * Q.BITS }
+    requires other_ends { other_place + len < 2 ^ 64 }
+    requires sought { IsChunk (read_by Q.BitRegister P.position) others.now other_place (min len 32) direction sought }
+    ensures { StandsFirst (read_by R.BitRegister O.position) words.now place
+        (read_by Q.BitRegister P.position) others.now other_place len starts result }
+{
+    let count = starts - 1 + len.min(32);
+    let chunk = read_bits::<R, O>(direction, words, place, count);
+    for i in 0..starts {
+        if shows::<R, O, Q, P>(
+            direction,
+            other_direction,
+            words,
+            place,
+            others,
+            other_place,
+            len,
+            chunk,
+            i,
+            sought,
+        ) {
+            return i;
+        }
+    }
+    starts
+}
+
+/// The first of `starts` places, counted from `place` on, at which `len` bits of another memory stand: `starts` where
+/// they stand at none.
+#[inline(always)]
+pub fn start<R: BitRegister, O: BitOrder<R>, Q: BitRegister, P: BitOrder<Q>>(
+    direction: Direction,
+    other_direction: Direction,
+    words: &[R],
+    place: usize,
+    others: &[Q],
+    other_place: usize,
+    len: usize,
+    starts: usize,
+) -> usize
+    requires goes { Goes R.BITS O.position direction }
+    requires other_goes { Goes Q.BITS P.position other_direction }
+    requires some { 0 < len }
+    requires some_starts { 0 < starts }
+    requires within { place + starts + len ≤ length words.now * R.BITS + 1 }
+    requires ends { place + starts + len ≤ 2 ^ 64 }
+    requires other_within { other_place + len ≤ length others.now * Q.BITS }
+    requires other_ends { other_place + len < 2 ^ 64 }
+    ensures { StandsFirst (read_by R.BitRegister O.position) words.now place
+        (read_by Q.BitRegister P.position) others.now other_place len starts result }
+{
+    let sought = rest_facing::<Q, P>(other_direction, direction, others, other_place, len.min(32));
+    for k in 0..(starts - 1) / 33 + 1 {
+        let done = 33 * k;
+        let near = (starts - done).min(33);
+        let at = start_near::<R, O, Q, P>(
+            direction,
+            other_direction,
+            words,
+            place + done,
+            others,
+            other_place,
+            len,
+            near,
+            sought,
+        );
+        if at < near {
+            return done + at;
+        }
+    }
+    starts
+}

@@ -1,0 +1,11 @@
+use Rattle.std.proofs.Common.{ℕ, ◌+◌, ◌<◌}
+use Rattle.bit_addressing_memory.specs.Memory.{read_by}
+use Rattle.bit_slice_paths.specs.Stands.{Stands}
+use Rattle.bit_slice_words.proofs.contains.start_by_bits.Given as goal
+
+-- they stand at none of the places so far
+abbrev pub invariant-loop-i : goal.invariant-loop-i
+invariant-loop-i g l =
+    (k : ℕ) → k < l.i
+    → Stands (read_by g.R.BitRegister g.O.Positions.position) l.words (l.place + k)
+    (read_by g.Q.BitRegister g.P.Positions.position) l.others l.other_place l.len → ⊥

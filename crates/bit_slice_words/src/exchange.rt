@@ -1,0 +1,30 @@
+//! Two stretches of one memory exchanged.
+
+ghost use Rattle.std.specs.Prelude.{◌+◌, ◌*◌, ◌^◌, ◌<◌, ◌≤◌, length};
+ghost use Rattle.bit_addressing_memory.specs.Memory.{read_by, Swaps};
+
+use bit_addressing_memory::{BitOrder, BitRegister, direction_of, swap_within};
+use bit_slice_paths::exchange;
+
+/// Exchanges `len` bits of a memory, those from `first` on, with those from `second` on. The first stretch ends before
+/// the second begins, which lies in the memory, and its end fits a `usize`. Every other bit stays.
+///
+/// It does what `swap_within` of `bit_addressing_memory` does, by chunks where the order goes straight.
+pub fn exchange_in<R: BitRegister, O: BitOrder<R>>(
+    words: &mut [R],
+    first: usize,
+    second: usize,
+    len: usize,
+)
+    requires apart { first + len ≤ second }
+    requires within { second + len ≤ length words.old * R.BITS }
+    requires ends { second + len < 2 ^ 64 }
+    ensures swapped { Swaps (read_by R.BitRegister O.position) words.old words.new first second len }
+{
+    match direction_of::<R, O>() {
+        Some(direction) => {
+            exchange::exchange::<R, O>(direction, words, first, second, len);
+        }
+        None => swap_within::<R, O>(words, first, second, len),
+    }
+}

@@ -1,10 +1,14 @@
 //! Bits of a window copied inside it, and exchanged with those of another.
 
-ghost use Rattle.std.specs.Prelude.{◌≡◌, ◌+◌, ◌-◌, ◌≤◌, length};
-ghost use Rattle.bit_addressing_memory.specs.Memory.{piece, with_piece};
+ghost use Rattle.std.specs.Prelude.{◌≡◌, ◌+◌, ◌-◌, ◌*◌, ◌≤◌, length};
+ghost use Rattle.bit_addressing_memory.specs.Memory.{memory, piece, read_by, with_piece};
 
-use bit_slice_views::{BitRange, Bits};
+use crate::edits::BitsEdits;
+use crate::parts::BitsParts;
+use bit_addressing_memory::{BitOrder, BitRegister, Lsb0};
+use bit_slice_views::{BitRange, BitSlice, Bits};
 use bit_slice_views_mut::BitsMut;
+use bit_slice_words::copy_in;
 
 /// The copies of a window that no single lower call makes: of every `BitsMut`.
 pub trait BitsCopy: BitsMut {
@@ -54,11 +58,12 @@ pub trait BitsCopy: BitsMut {
         ensures other_frame { W.frame other.new ≡ W.frame other.old }
     {
         let len = self.len();
-        for i in 0..len {
-            let was = self.bit(i);
-            let bit = other.replace(i, was);
-            self.set(i, bit);
+        let mut held = [0u64; HELD];
+        for k in 0..len / HELD_BITS {
+            swap_held::<Self, W, u64, Lsb0>(self, other, HELD_BITS * k, HELD_BITS, &mut held);
         }
+        let done = len / HELD_BITS * HELD_BITS;
+        swap_held::<Self, W, u64, Lsb0>(self, other, done, len - done, &mut held);
     }
 
     /// Another name of `swap_with_bitslice`.
@@ -78,6 +83,55 @@ pub trait BitsCopy: BitsMut {
 }
 
 impl<V: BitsMut> BitsCopy for V {}
+
+// How many words hold bits of a window while others are written over them, and how many bits they have.
+const HELD: usize = 16;
+
+const HELD_BITS: usize = 1024;
+
+// Exchanges up to 1,024 bits of two windows, from an index on. The words of the memory `held` have those of the first
+// window meanwhile.
+fn swap_held<V: BitsMut, W: BitsMut, R: BitRegister, O: BitOrder<R>>(
+    view: &mut V,
+    other: &mut W,
+    at: usize,
+    count: usize,
+    held: &mut [R],
+)
+    requires few { count ≤ 1024 }
+    requires within { at + count ≤ length (V.bits view.old) }
+    requires other_within { at + count ≤ length (W.bits other.old) }
+    requires room { count ≤ length held.old * R.BITS }
+    ensures bits { V.bits view.new ≡ with_piece (V.bits view.old) at (piece (W.bits other.old) at count) }
+    ensures len { length (V.bits view.new) ≡ length (V.bits view.old) }
+    ensures frame { V.frame view.new ≡ V.frame view.old }
+    ensures other_bits { W.bits other.new ≡ with_piece (W.bits other.old) at (piece (V.bits view.old) at count) }
+    ensures other_len { length (W.bits other.new) ≡ length (W.bits other.old) }
+    ensures other_frame { W.frame other.new ≡ W.frame other.old }
+    ensures held { length held.new ≡ length held.old }
+{
+    hold::<V, R, O>(view, at, count, held);
+    view.write_part(at, &other.part(at, count));
+    other.write_part(at, &BitSlice::<R, O>::from_place(held, 0, count));
+}
+
+// Makes the first bits of a memory `count` bits of a window, from an index on.
+pub(crate) fn hold<V: Bits, R: BitRegister, O: BitOrder<R>>(
+    view: &V,
+    at: usize,
+    count: usize,
+    held: &mut [R],
+)
+    requires few { count ≤ 1024 }
+    requires within { at + count ≤ length (V.bits view.now) }
+    requires room { count ≤ length held.old * R.BITS }
+    ensures bits { piece (memory (read_by R.BitRegister O.position) held.new) 0 count
+        ≡ piece (V.bits view.now) at count }
+    ensures held { length held.new ≡ length held.old }
+{
+    let (words, head, _) = view.part(at, count).parts();
+    copy_in::<V::Store, V::Order, R, O>(words, head as usize, held, 0, count);
+}
 
 // Where a range of a list of `len` begins, and how many it has.
 pub(crate) fn place_in<I: BitRange>(range: &I, len: usize) -> (usize, usize)

@@ -4,8 +4,8 @@ ghost use Rattle.std.specs.Prelude.{◌≡◌, ◌+◌, ◌*◌, ◌^◌, ◌<�
 ghost use Rattle.bit_addressing_memory.specs.Memory.{memory, piece, read_by, with_piece};
 ghost use Rattle.bit_slice_views_mut.specs.Frame.{KeepsBeside};
 
-use bit_addressing_memory::{BitOrder, BitRegister, swap_within};
-use bit_slice_words::{copy_in, rotate_left_in};
+use bit_addressing_memory::{BitOrder, BitRegister};
+use bit_slice_words::{copy_in, exchange_in, rotate_left_in};
 
 // Writes bits of another memory over those of a window from `at` on.
 pub(crate) fn write_window<R: BitRegister, O: BitOrder<R>, Q: BitRegister, P: BitOrder<Q>>(
@@ -49,7 +49,7 @@ pub(crate) fn swap_window<R: BitRegister, O: BitOrder<R>>(
         (piece (piece (memory (read_by R.BitRegister O.position) words.old) place all) first len) }
     ensures beside { KeepsBeside (read_by R.BitRegister O.position) words.old words.new place all }
 {
-    swap_within::<R, O>(words, place + first, place + second, len);
+    exchange_in::<R, O>(words, place + first, place + second, len);
 }
 
 // Turns `len` bits of a window, those from `at` on, by `by` places towards the first of them.

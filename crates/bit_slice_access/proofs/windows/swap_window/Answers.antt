@@ -5,6 +5,6 @@ use Rattle.bit_slice_access.proofs.windows.swap_window.Goals as goal
 
 pub returns-clause-list : goal.returns-clause-list
 returns-clause-list g c =
-    window_exchanged (read_by g.R.BitRegister g.O.Positions.position) c.args.words.now c.swap_within.new.words
+    window_exchanged (read_by g.R.BitRegister g.O.Positions.position) c.args.words.now c.exchange_in.new.words
     c.args.place c.args.all c.args.first c.args.second c.args.len (omega (arith, g.met.R.BitRegister.least_bits))
-    c.requires.within c.requires.apart c.requires.inside c.swap_within.ensures.swapped
+    c.requires.within c.requires.apart c.requires.inside c.exchange_in.ensures.swapped

@@ -1,24 +1,38 @@
-use Rattle.std.proofs.Common.{rules, ◌∙◌, arith}
+use Rattle.std.proofs.Common.{◌≡◌, ◌+◌, ◌-◌, ◌*◌, ◌/◌, rules, arith}
 use Rattle.bit_slice_access.proofs.SwapLemmas.{changed_below, changed_above, changed_all}
 use Rattle.bit_slice_access.proofs.copies.BitsCopy.swap_with_bitslice.Goals as goal
 
-pub loop-i-preserved : goal.loop-i-preserved
-loop-i-preserved g c =
+pub loop-k-preserved : goal.loop-k-preserved
+loop-k-preserved g c =
+    let next : 1024 * (c.loop-k.k + 1) ≡ 1024 * c.loop-k.k + 1024 = omega arith in
+    let had = c.loop-k.invariant in
     record {
+      held = search rules;
       frame = search rules;
       len = search rules;
-      below = rw c.set.ensures.bits (changed_below _ _ _ _ (search rules)
-          (c.replace-bit.ensures.was ∙ c.loop-i.invariant.other_above _ (omega arith)) c.loop-i.invariant.below);
-      above = rw c.set.ensures.bits (changed_above _ _ _ _ c.loop-i.invariant.above);
+      below = rw (next, c.swap_held.ensures.bits)
+          (changed_below _ _ _ _ 1024 (omega arith) (omega arith) had.other_above had.below);
+      above = rw (next, c.swap_held.ensures.bits) (changed_above _ _ _ _ 1024 (omega arith) (omega arith) had.above);
       other_frame = search rules;
       other_len = search rules;
-      other_below = rw c.replace-bit.ensures.bits (changed_below _ _ _ _ (search rules)
-          (c.bit-was.ensures ∙ c.loop-i.invariant.above _ (omega arith)) c.loop-i.invariant.other_below);
-      other_above = rw c.replace-bit.ensures.bits (changed_above _ _ _ _ c.loop-i.invariant.other_above);
+      other_below = rw (next, c.swap_held.ensures.other_bits)
+          (changed_below _ _ _ _ 1024 (omega arith) (omega arith) had.above had.other_below);
+      other_above = rw (next, c.swap_held.ensures.other_bits)
+          (changed_above _ _ _ _ 1024 (omega arith) (omega arith) had.other_above);
     }
 
 pub returns-clause-bits : goal.returns-clause-bits
-returns-clause-bits g c = changed_all _ _ _ (omega arith) (omega arith) c.loop-i.invariant.below
+returns-clause-bits g c =
+    let had = c.loop-k.invariant in
+    changed_all _ _ c.len-len.result (omega arith) (omega arith)
+    (rw c.swap_held-2.ensures.bits
+    (λ k low. changed_below _ _ _ (c.len-len.result / 1024 * 1024) (c.len-len.result - c.len-len.result / 1024 * 1024) (omega arith)
+    (omega arith) (λ i above. had.other_above i (omega arith)) (λ i below. had.below i (omega arith)) k (omega arith)))
 
 pub returns-clause-other_bits : goal.returns-clause-other_bits
-returns-clause-other_bits g c = changed_all _ _ _ (omega arith) (omega arith) c.loop-i.invariant.other_below
+returns-clause-other_bits g c =
+    let had = c.loop-k.invariant in
+    changed_all _ _ c.len-len.result (omega arith) (omega arith)
+    (rw c.swap_held-2.ensures.other_bits
+    (λ k low. changed_below _ _ _ (c.len-len.result / 1024 * 1024) (c.len-len.result - c.len-len.result / 1024 * 1024) (omega arith)
+    (omega arith) (λ i above. had.above i (omega arith)) (λ i below. had.other_below i (omega arith)) k (omega arith)))

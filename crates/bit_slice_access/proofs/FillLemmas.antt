@@ -1,10 +1,14 @@
 -- How a window is filled, bit by bit.
 --
--- One more bit: `filled_step`. All of them: `filled_whole`. A closure that answers by the index alone: `filled_by`.
+-- One more bit: `filled_step`; of a part that is written over: `filled_start`, `filled_next`, `filled_as`, `kept_above`. All of
+-- them: `filled_whole`. A closure that answers by the index alone: `filled_by`.
 use Rattle.std.proofs.Common.{◌≡◌, ℕ, zero, suc, ◌+◌, ◌<◌, ◌≤◌, Bool, false, List, [], ◌∷◌, ◌++◌, length, take, get_or}
-use Rattle.std.proofs.Common.{set, refl, ap, arith, subst}
+use Rattle.std.proofs.Common.{append_assoc, drop, set, refl, ap, ◌∙◌, arith, subst}
 use Rattle.std.proofs.lemmas.Fn.{FoldsTo-push}
 use Rattle.std.specs.List.{FoldsTo}
+use Rattle.bit_addressing_memory.specs.Memory.{with_piece}
+use Rattle.bit_addressing_memory.proofs.MemoryLemmas.{length-with_piece, with_piece_above}
+use Rattle.bit_slice_access.proofs.PartLemmas.{piece_set}
 use Rattle.bit_slice_access.specs.Fills.{Filled}
 
 take_set_suc : (xs : List Bool) (i : ℕ) (bit : Bool) → i < length xs
@@ -16,7 +20,7 @@ take_set_suc (x ∷ xs) (suc i) bit low = ap (λ l. x ∷ l) (take_set_suc xs i 
 take_set : (xs : List Bool) (i : ℕ) (bit : Bool) → i < length xs → take (i + 1) (set xs i bit) ≡ take i xs ++ bit ∷ []
 take_set xs i bit low = let next : i + 1 ≡ suc i = omega arith in rw next (take_set_suc xs i bit low)
 
-pub take_whole : (xs : List Bool) (n : ℕ) → length xs ≡ n → take n xs ≡ xs
+take_whole : (xs : List Bool) (n : ℕ) → length xs ≡ n → take n xs ≡ xs
 take_whole [] zero all = refl
 take_whole [] (suc n) all = refl
 take_whole (x ∷ xs) zero all = absurd (omega arith)
@@ -48,6 +52,46 @@ filled_step step f xs i q bit u so_far low call =
     rw (take_set xs i bit low)
     (filled_push step f (take i xs) i q bit u so_far (length_taken xs i (omega arith)) call)
 
+take_front : (xs zs : List Bool) (n : ℕ) → n ≤ length xs → take n (take n xs ++ zs) ≡ take n xs
+take_front xs zs zero low = refl
+take_front [] zs (suc n) low = absurd (omega arith)
+take_front (x ∷ xs) zs (suc n) low = ap (λ l. x ∷ l) (take_front xs zs n (omega arith))
+
+take_kept : (xs ys : List Bool) (at : ℕ) → at ≤ length xs → take at (with_piece xs at ys) ≡ take at xs
+unfolding with_piece
+take_kept xs ys at low = rw append_assoc (take_front xs (ys ++ drop (at + length ys) xs) at low)
+
+-- those below a part that is written over are still filled
+pub filled_start : {F : Type 0} (step : F → ℕ → Bool → F → Type 0) (f : F) (xs ys : List Bool) (at i : ℕ) (q : F)
+    → i ≡ at → at ≤ length xs → Filled step f (take i xs) q → Filled step f (take (at + 0) (with_piece xs at ys)) q
+filled_start step f xs ys at i q is low filled =
+    let none : at + 0 ≡ at = omega arith in
+    rw (none, take_kept xs ys at low) (rw is at filled)
+
+-- the bits below one of a part are filled, and then that one
+pub filled_next : {F : Type 0} (step : F → ℕ → Bool → F → Type 0) (f : F) (xs ys zs : List Bool) (at j n : ℕ) (q : F)
+    (bit : Bool) (u : F) → at + n ≤ length xs → length ys ≡ n → j < n → zs ≡ set ys j bit
+    → Filled step f (take (at + j) (with_piece xs at ys)) q → step q (at + j) bit u
+    → Filled step f (take (at + (j + 1)) (with_piece xs at zs)) u
+filled_next step f xs ys zs at j n q bit u room size low is filled call =
+    let many : length (with_piece xs at ys) ≡ length xs = length-with_piece xs at ys (omega arith) in
+    let wrote : with_piece xs at zs ≡ set (with_piece xs at ys) (at + j) bit =
+    ap (with_piece xs at) is ∙ piece_set xs ys at j bit (omega arith) (omega arith) in
+    let next : at + (j + 1) ≡ at + j + 1 = omega arith in
+    rw (wrote, next) (filled_step step f (with_piece xs at ys) (at + j) q bit u filled (omega arith) call)
+
+-- the same bits by other names
+pub filled_as : {F : Type 0} (step : F → ℕ → Bool → F → Type 0) (f : F) (xs ys : List Bool) (i j : ℕ) (q : F)
+    → xs ≡ ys → j ≡ i → Filled step f (take i ys) q → Filled step f (take j xs) q
+filled_as step f xs ys i j q same is filled = rw (same, is) filled
+
+-- the bits behind a part that is written over are as they were
+pub kept_above : (xs bits ys zs : List Bool) (at n : ℕ) → at + length ys ≤ length xs → length ys ≤ n
+    → bits ≡ with_piece xs at ys → ((i : ℕ) → at ≤ i → get_or xs i false ≡ get_or zs i false)
+    → (i : ℕ) → at + n ≤ i → get_or bits i false ≡ get_or zs i false
+kept_above xs bits ys zs at n room few same rest i past =
+    rw same (with_piece_above xs at ys i false room (omega arith) ∙ rest i (omega arith))
+
 -- all bits are filled
 pub filled_whole : {F : Type 0} (step : F → ℕ → Bool → F → Type 0) (f : F) (xs : List Bool) (n : ℕ) (q : F)
     → Filled step f (take n xs) q → length xs ≡ n → Filled step f xs q
@@ -73,5 +117,3 @@ pub filled_by : {F : Type 0} (step : F → ℕ → Bool → F → Type 0) (g : �
 filled_by step g each f bits last filled k low =
     let same : 0 + k ≡ k = omega arith in
     subst (λ m. get_or bits k false ≡ g m) same (filled_from step g each bits f 0 (last, length bits) filled k low)
-
-pub ruleset fills = (filled_step, take_whole)

@@ -33,8 +33,15 @@ pub(crate) fn extend_words<T: BitStore>(
     ensures succeeds { words_for T.BITS upto ≤ vec_capacity words.old → IsOk result }
     ensures capacity { vec_capacity words.old ≤ vec_capacity words.new }
 {
-    words.truncate(words_taken::<T>(end));
-    words.resize(words_taken::<T>(upto), T::ZERO)
+    let kept = words_taken::<T>(end);
+    let wanted = words_taken::<T>(upto);
+
+    // Most bits that are pushed come into a word that is there.
+    if kept == wanted && kept == words.len() {
+        return Ok(());
+    }
+    words.truncate(kept);
+    words.resize(wanted, T::ZERO)
 }
 
 // Makes the bit at a place `bit`.

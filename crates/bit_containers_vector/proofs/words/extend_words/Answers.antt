@@ -13,6 +13,6 @@ returns-clause-items g c =
     rw (← ends) (words_more b c.args.end more (omega (arith, g.met.T.BitRegister.least_bits))) in
     let cut = c.truncate.new.self in
     extended c.resize.result c.args.words.now.items cut.items c.resize.new.self.items (words_for b c.args.end)
-    (words_for b c.args.upto) cut.len c.words_taken-2.result g.T.BitRegister.ZERO c.ZERO.result c.requires.held order
-    (c.truncate.ensures.items ∙ ap (λ k. take k c.args.words.now.items) c.words_taken.ensures) cut.ok.0
-    c.words_taken-2.ensures c.ZERO.ensures c.resize.ensures.items
+    (words_for b c.args.upto) cut.len c.words_taken-wanted.result g.T.BitRegister.ZERO c.ZERO.result c.requires.held order
+    (c.truncate.ensures.items ∙ ap (λ k. take k c.args.words.now.items) c.words_taken-kept.ensures) cut.ok.0
+    c.words_taken-wanted.ensures c.ZERO.ensures c.resize.ensures.items

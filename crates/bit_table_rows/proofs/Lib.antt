@@ -18,5 +18,7 @@ pub mod WalkLemmas
 pub mod PutLemmas
 pub mod ColumnLemmas
 pub mod ListLemmas
+mod OneBitLemmas
+pub mod OneRowLemmas
 pub mod CombineLemmas
 pub mod DropLemmas

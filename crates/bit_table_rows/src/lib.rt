@@ -9,6 +9,8 @@ mod edits;
 mod keep;
 mod letters;
 mod lists;
+mod one_bit;
+mod one_row;
 mod rows;
 mod vectors;
 mod windows;

@@ -1,16 +1,14 @@
--- One word of a move, bit by bit.
+-- One word of a move, of the two at most that hold its bits.
 --
 -- `moved_bit_inside`, `moved_bit_below`, `moved_bit_above`: what the move leaves at a place.
--- `gather_first`, `gather_next`, `gather_rest`: the word begun, with one more digit, and whole.
-use Rattle.std.proofs.Common.{◌≡◌, ℕ, ◌+◌, ◌-◌, ◌*◌, ◌<◌, ◌≤◌, min, Bool, List, Option, sym, ◌∙◌, inl, inr, arith}
-use Rattle.std.proofs.Common.{below_more}
+-- `gathered_of`: the word whole. `taken_of_one`, `taken_of_two`: the source's bits in it.
+use Rattle.std.proofs.Common.{◌≡◌, ℕ, ◌+◌, ◌-◌, ◌*◌, ◌<◌, ◌≤◌, min, List, length, get_or, ap, sym, ◌∙◌, inl, inr, arith}
 use Rattle.std.proofs.lemmas.Bool.{cases_lt}
 use Rattle.std.proofs.lemmas.Bool.Decides.{nat_tests}
-use Rattle.bit_addressing_order.specs.Bits.{with_digit}
-use Rattle.bit_addressing_order.specs.BitOrder.{IsLawful}
-use Rattle.bit_addressing_memory.specs.Memory.{Reading, reading_in, entry}
-use Rattle.bit_addressing_memory.proofs.EntryLemmas.{indexed_same, indexed_other}
-use Rattle.bit_addressing_memory.specs.MoveSteps.{moved_bit, IsGathered, IsOwnFrom}
+use Rattle.bit_addressing_memory.specs.Memory.{Reading, indexed, reading_in, entry}
+use Rattle.bit_addressing_memory.specs.Partial.{IsStored}
+use Rattle.bit_addressing_memory.proofs.EntryLemmas.{entry_read}
+use Rattle.bit_addressing_memory.specs.MoveSteps.{moved_bit, IsGathered}
 
 pub moved_bit_inside : {R : Type 0} (reading : Reading R) (before : List R) (source target len p : ℕ)
     → target ≤ p → p < target + len
@@ -28,48 +26,62 @@ pub moved_bit_above : {R : Type 0} (reading : Reading R) (before : List R) (sour
 unfolding moved_bit
 moved_bit_above reading before source target len p h = grind (arith, nat_tests)
 
--- the digits below the target are the word's own
-pub gather_first : {R : Type 0} (reading : Reading R) (before : List R) (k source target len : ℕ) (word : R)
-    (from : ℕ) → from ≡ target - k * reading.bits → target < k * reading.bits + reading.bits
-    → IsOwnFrom reading before k word 0
-    → IsGathered reading before k source target len word from
-gather_first reading before k source target len word from is ends own i h =
-    own i (omega arith) (omega arith)
-    ∙ sym (moved_bit_below reading before source target len (k * reading.bits + i) (omega arith))
+-- a word that has the source's bits where the target lies, and its own beside them
+pub gathered_of : {R : Type 0} (reading : Reading R) (before : List R) (k source target len from upto place : ℕ)
+    (own word : R) → k < length before → own ≡ get_or before k own
+    → k * reading.bits < target + len → target < k * reading.bits + reading.bits → from ≡ target - k * reading.bits
+    → upto ≡ min reading.bits (target + len - k * reading.bits)
+    → place ≡ source + (k * reading.bits + from - target)
+    → IsStored reading own word from upto (λ i. entry reading before (place + (i - from)))
+    → IsGathered reading before k source target len word reading.bits
+gathered_of reading before k source target len from upto place own word within read begins ends is_from is_upto
+    is_place stored i small = elim (cases_lt i from) [
+      | inl low ↦
+          stored.below i low small
+          ∙ entry_read reading before k i own small within read
+          ∙ sym (moved_bit_below reading before source target len (k * reading.bits + i) (omega arith))
+      | inr high ↦ elim (cases_lt i upto) [
+        | inl inside ↦
+            let here : place + (i - from) ≡ source + (k * reading.bits + i - target) = omega arith in
+            stored.inside i high inside small
+            ∙ ap (entry reading before) here
+            ∙ sym (moved_bit_inside reading before source target len (k * reading.bits + i) (omega arith) (omega arith))
+        | inr past ↦
+            stored.above i past small
+            ∙ entry_read reading before k i own small within read
+            ∙ sym (moved_bit_above reading before source target len (k * reading.bits + i) (omega arith))
+      ]
+    ]
 
--- one more digit, written
-pub gather_next : {R : Type 0} (b : ℕ) (number : R → ℕ) (at select : ℕ → ℕ) (mask : Option ℕ → Option ℕ → ℕ)
-    (before : List R) (k source target len : ℕ) (word next : R) (n : ℕ) (bit : Bool)
-    → IsLawful b at select mask → n < b → target ≤ k * b + n → k * b + n < target + len
-    → bit ≡ entry (reading_in b number at) before (source + (k * b + n - target))
-    → number next ≡ with_digit (number word) (at n) bit
-    → IsGathered (reading_in b number at) before k source target len word n
-    → IsGathered (reading_in b number at) before k source target len next (n + 1)
-gather_next b number at select mask before k source target len word next n bit law low from upto is made had =
-    let reading = reading_in b number at in
-    let here : reading.digit next n ≡ moved_bit reading before source target len (k * b + n) =
-    indexed_same number at word next n bit made
-    ∙ is
-    ∙ sym (moved_bit_inside reading before source target len (k * b + n) from upto) in
-    below_more (λ i. reading.digit next i ≡ moved_bit reading before source target len (k * b + i)) n
-    (λ i h. indexed_other b number at select mask word next n bit i law low made (omega arith) (omega arith) ∙ had i h)
-    here
+-- the bits of one word, from an index on
+pub taken_of_one : {R : Type 0} (b : ℕ) (number : R → ℕ) (at : ℕ → ℕ) (words : List R) (j index from upto place : ℕ)
+    (own x word : R) → j * b + index ≡ place → index + (upto - from) ≤ b → j < length words → x ≡ get_or words j x
+    → IsStored (reading_in b number at) own word from upto (λ i. indexed number at x (index + (i - from)))
+    → IsStored (reading_in b number at) own word from upto
+    (λ i. entry (reading_in b number at) words (place + (i - from)))
+taken_of_one b number at words j index from upto place own x word is few within read stored = record {
+  inside = λ i high low small.
+      let here : j * b + (index + (i - from)) ≡ place + (i - from) = omega arith in
+      stored.inside i high low small
+      ∙ entry_read (reading_in b number at) words j (index + (i - from)) x (omega arith) within read
+      ∙ ap (entry (reading_in b number at) words) here;
+  below = stored.below;
+  above = stored.above;
+}
 
--- the digits after it stay
-pub own_next : {R : Type 0} (b : ℕ) (number : R → ℕ) (at select : ℕ → ℕ) (mask : Option ℕ → Option ℕ → ℕ)
-    (before : List R) (k : ℕ) (word next : R) (n : ℕ) (bit : Bool)
-    → IsLawful b at select mask → n < b → number next ≡ with_digit (number word) (at n) bit
-    → IsOwnFrom (reading_in b number at) before k word n → IsOwnFrom (reading_in b number at) before k next (n + 1)
-own_next b number at select mask before k word next n bit law low made own j h g =
-    indexed_other b number at select mask word next n bit j law low made g (omega arith) ∙ own j (omega arith) g
-
--- the digits above the target are the word's own
-pub gather_rest : {R : Type 0} (reading : Reading R) (before : List R) (k source target len : ℕ) (word : R)
-    (n : ℕ) → min reading.bits (target + len - k * reading.bits) ≤ n
-    → IsGathered reading before k source target len word n
-    → IsOwnFrom reading before k word n → IsGathered reading before k source target len word reading.bits
-gather_rest reading before k source target len word n high had own i h = elim (cases_lt i n) [
-  | inl low ↦ had i low
-  | inr up ↦
-      own i up h ∙ sym (moved_bit_above reading before source target len (k * reading.bits + i) (omega arith))
-]
+-- and those of the next one behind them
+pub taken_of_two : {R : Type 0} (reading : Reading R) (words : List R) (from middle upto place next : ℕ)
+    (own begun word : R) → from ≤ middle → middle ≤ upto → next ≡ place + (middle - from)
+    → IsStored reading own begun from middle (λ i. entry reading words (place + (i - from)))
+    → IsStored reading begun word middle upto (λ i. entry reading words (next + (i - middle)))
+    → IsStored reading own word from upto (λ i. entry reading words (place + (i - from)))
+taken_of_two reading words from middle upto place next own begun word first last is one two = record {
+  inside = λ i high low small. elim (cases_lt i middle) [
+    | inl before ↦ two.below i before small ∙ one.inside i high before small
+    | inr behind ↦
+        let here : next + (i - middle) ≡ place + (i - from) = omega arith in
+        two.inside i behind low small ∙ ap (entry reading words) here
+  ];
+  below = λ i low small. two.below i (omega arith) small ∙ one.below i low small;
+  above = λ i high small. two.above i high small ∙ one.above i (omega arith) small;
+}

@@ -12,6 +12,7 @@ pub mod Changes
 pub mod Gathers
 pub mod Puts
 pub mod ShiftedWords
+pub mod SpreadLemmas
 pub mod Sweeps
 pub mod WayLemmas
 -- what public clauses cite of the crates below

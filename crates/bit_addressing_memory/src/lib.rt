@@ -11,6 +11,7 @@ mod place;
 pub mod places;
 mod shift;
 mod shifted;
+mod spreads;
 mod sweep;
 
 pub use bit_addressing_order::{
@@ -23,4 +24,5 @@ pub use entry::{read_bit, read_entry, replace_entry, write_bit, write_entry};
 pub use masking::{each_digit, flipped, load_in, masked, no_digits, store_in, stored};
 pub use moves::move_in;
 pub use shift::{joined, raised};
+pub use spreads::spread;
 pub use sweep::{Sweep, Way, way_for};

@@ -2,6 +2,7 @@
 
 ghost use Rattle.std.specs.Prelude.{◌≡◌, ◌+◌, ◌-◌, ◌*◌, ◌/◌, ◌^◌, ◌<◌, ◌≤◌, length};
 ghost use Rattle.bit_addressing_memory.specs.Memory.{read_by, entry, touched};
+ghost use Rattle.bit_addressing_memory.specs.Partial.{IsStored};
 ghost use Rattle.bit_addressing_memory.specs.Straight.{IsStraight};
 ghost use Rattle.bit_addressing_memory.specs.Moves.{Moves, changed};
 ghost use Rattle.bit_addressing_memory.specs.MoveSteps.{IsGathered, PutsWords};
@@ -10,11 +11,11 @@ ghost use Rattle.bit_addressing_memory.specs.Sweep.{reads_of};
 ghost use Rattle.bit_addressing_memory.specs.Ways.{way_for};
 
 use crate::direction::direction_of;
-use crate::entry::{read_bit, write_bit};
 use crate::shifted::put_shifted;
+use crate::spreads::spread;
 use crate::sweep::{Sweep, Way};
 use bit_addressing_order::mem::bits_of;
-use bit_addressing_order::{BitIdx, BitOrder, BitRegister};
+use bit_addressing_order::{BitOrder, BitRegister};
 
 /// Moves `len` bits of the words of a fresh sweep from the place `source` on to the place `target` on,
 /// in the order `O`; the two may overlap. A place is a number: word times `BITS`, plus the index there.
@@ -96,7 +97,8 @@ fn put_gathered<R: BitRegister, O: BitOrder<R>>(
     }
 }
 
-// The word `k` as the move leaves it: the source's bits inside the target, its own beside it.
+// The word `k` as the move leaves it: the source's bits inside the target, its own beside it. It counts a read for each of
+// these bits.
 fn gathered<R: BitRegister, O: BitOrder<R>>(
     sweep: &mut Sweep<'_, R>,
     k: usize,
@@ -104,6 +106,7 @@ fn gathered<R: BitRegister, O: BitOrder<R>>(
     target: usize,
     len: usize,
 ) -> R
+    requires some { 0 < len }
     requires within { k < length (sweep_words sweep.old) }
     requires source_within { source + len ≤ length (sweep_words sweep.old) * R.BITS }
     requires source_ends { source + len < 2 ^ 64 }
@@ -119,22 +122,38 @@ fn gathered<R: BitRegister, O: BitOrder<R>>(
     let start = k * bits;
     let from = target.saturating_sub(start);
     let upto = bits.min(target + len - start);
-    let mut word = sweep.read(k);
-    for i in from..upto {
-        let bit = bit_at_place::<R, O>(sweep, source + (start + i - target));
-        word = write_bit::<R, O>(word, BitIdx::new_unchecked(i as u8), bit);
-    }
+    let own = sweep.read(k);
+    let place = source + (start + from - target);
+    let word = taken::<R, O>(sweep, place, own, from as u8, upto as u8);
+    sweep.count_reads(upto - from);
     word
 }
 
-// The bit of the words at a place.
-fn bit_at_place<R: BitRegister, O: BitOrder<R>>(sweep: &mut Sweep<'_, R>, place: usize) -> bool
-    requires { place < length (sweep_words sweep.old) * R.BITS }
-    ensures value { result ≡ entry (read_by R.BitRegister O.position) (sweep_words sweep.old) place }
-    ensures same { SameButReads sweep.old sweep.new }
-    ensures lender { sweep_lender sweep.new ≡ sweep_lender sweep.old }
+// A word with the bits of the words from a place on at its indices from one up to before another: they are of two words at
+// most.
+fn taken<R: BitRegister, O: BitOrder<R>>(
+    sweep: &Sweep<'_, R>,
+    place: usize,
+    own: R,
+    from: u8,
+    upto: u8,
+) -> R
+    requires order { from < upto }
+    requires index { upto ≤ R.BITS }
+    requires within { place + (upto - from) ≤ length (sweep_words sweep.now) * R.BITS }
+    requires ends { place + (upto - from) < 2 ^ 64 }
+    ensures { IsStored (read_by R.BitRegister O.position) own result from upto
+        (λ i. entry (read_by R.BitRegister O.position) (sweep_words sweep.now) (place + (i - from))) }
 {
     let bits = bits_of::<R>();
-    let index = BitIdx::new_unchecked((place % bits) as u8);
-    read_bit::<R, O>(sweep.read(place / bits), index)
+    let word = place / bits;
+    let index = (place % bits) as u8;
+    let first = sweep.look(word);
+    if upto - from <= R::BITS - index {
+        return spread::<R, O, R, O>(first, index, own, from, upto);
+    }
+    let middle = from + (R::BITS - index);
+    let begun = spread::<R, O, R, O>(first, index, own, from, middle);
+    let next = sweep.look(word + 1);
+    spread::<R, O, R, O>(next, 0, begun, middle, upto)
 }

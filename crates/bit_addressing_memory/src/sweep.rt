@@ -3,7 +3,7 @@
 //!
 //! While a sweep is there, its words are read and written through it alone.
 
-ghost use Rattle.std.specs.Prelude.{◌≡◌, ℕ, ◌+◌, ◌<◌, ◌≤◌, length, slice_index_or, slice_set};
+ghost use Rattle.std.specs.Prelude.{◌≡◌, ℕ, ◌+◌, ◌-◌, ◌^◌, ◌<◌, ◌≤◌, length, min, slice_index_or, slice_set};
 ghost use Rattle.bit_addressing_memory.specs.Ways.{IsPast, edge_after, passed, way_for};
 
 /// The way in which a sweep writes.
@@ -85,6 +85,25 @@ impl<'a, R: Copy> Sweep<'a, R> {
             self.reads += 1;
         }
         self.words[k]
+    }
+
+    // The word `k`, which is one of the words. No read is counted.
+    #[inline(always)]
+    pub(crate) fn look(&self, k: usize) -> R
+        requires { k < length (sweep_words self.now) }
+        ensures { result ≡ slice_index_or (sweep_words self.now) k result }
+    {
+        self.words[k]
+    }
+
+    // Counts so many reads more.
+    #[inline(always)]
+    pub(crate) fn count_reads(&mut self, more: usize)
+        ensures reads { reads_of self.new ≡ min (reads_of self.old + more) (2 ^ 64 - 1) }
+        ensures same { SameButReads self.old self.new }
+        ensures lender { sweep_lender self.new ≡ sweep_lender self.old }
+    {
+        self.reads = self.reads.saturating_add(more as u64);
     }
 
     /// Writes the word `k`, which is one of the words and strictly past the last written one in the

@@ -1,0 +1,28 @@
+-- Bits of one word put into another.
+use Rattle.std.proofs.Common.{◌≡◌, ◌≢◌, ℕ, ◌+◌, ◌<◌, ◌≤◌, Bool, Option, ◌∙◌, inl, inr, arith}
+use Rattle.std.proofs.lemmas.Bool.{cases_lt}
+use Rattle.bit_addressing_order.specs.Bits.{with_digit}
+use Rattle.bit_addressing_order.specs.BitOrder.{IsLawful}
+use Rattle.bit_addressing_memory.specs.Memory.{indexed, reading_in}
+use Rattle.bit_addressing_memory.specs.Partial.{IsStored}
+use Rattle.bit_addressing_memory.proofs.EntryLemmas.{indexed_same, indexed_other}
+
+-- one bit more of a word written
+pub stored_next : {Q : Type 0} (b : ℕ) (number : Q → ℕ) (at select : ℕ → ℕ) (mask : Option ℕ → Option ℕ → ℕ)
+    (word made next : Q) (from i : ℕ) (bit : Bool) (now : ℕ → Bool) → IsLawful b at select mask → i < b → from ≤ i
+    → bit ≡ now i → number next ≡ with_digit (number made) (at i) bit
+    → IsStored (reading_in b number at) word made from i now
+    → IsStored (reading_in b number at) word next from (i + 1) now
+stored_next b number at select mask word made next from i bit now law low order is written had =
+    let other = λ (j : ℕ) (small : j < b) (apart : j ≢ i).
+    indexed_other b number at select mask made next i bit j law low written small apart in
+    record {
+      inside = λ j above below small. elim (cases_lt j i) [
+        | inl before ↦ other j small (omega arith) ∙ had.inside j above before small
+        | inr behind ↦
+            let here : j ≡ i = omega arith in
+            rw here (indexed_same number at made next i bit written ∙ is)
+      ];
+      below = λ j before small. other j small (omega arith) ∙ had.below j before small;
+      above = λ j behind small. other j small (omega arith) ∙ had.above j (omega arith) small;
+    }

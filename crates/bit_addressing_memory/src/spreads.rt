@@ -1,0 +1,32 @@
+//! Bits of one word put into another, whatever the order of each.
+
+ghost use Rattle.std.specs.Prelude.{◌+◌, ◌-◌, ◌≤◌};
+ghost use Rattle.bit_addressing_memory.specs.Memory.{indexed, read_by};
+ghost use Rattle.bit_addressing_memory.specs.Partial.{IsStored};
+
+use crate::entry::{read_bit, write_bit};
+use bit_addressing_order::{BitIdx, BitOrder, BitRegister};
+
+/// The word `target` with the bits of the word `source`, those from the index `first` on, at its indices from one up to
+/// before another. The two words may have different types and orders.
+#[inline(always)]
+pub fn spread<R: BitRegister, O: BitOrder<R>, Q: BitRegister, P: BitOrder<Q>>(
+    source: R,
+    first: u8,
+    target: Q,
+    from: u8,
+    upto: u8,
+) -> Q
+    requires order { from ≤ upto }
+    requires within { upto ≤ Q.BITS }
+    requires source { first + (upto - from) ≤ R.BITS }
+    ensures { IsStored (read_by Q.BitRegister P.position) target result from upto
+        (λ i. indexed R.number O.position source (first + (i - from))) }
+{
+    let mut made = target;
+    for i in from..upto {
+        let bit = read_bit::<R, O>(source, BitIdx::new_unchecked(first + (i - from)));
+        made = write_bit::<Q, P>(made, BitIdx::new_unchecked(i), bit);
+    }
+    made
+}

@@ -1,3 +1,4 @@
+pub mod AnyOrderLemmas
 pub mod ChunkLemmas
 pub mod CombineLemmas
 mod ExchangeLemmas

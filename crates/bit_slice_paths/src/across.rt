@@ -3,15 +3,13 @@
 
 ghost use Rattle.std.specs.Prelude.{◌≡◌, ℕ, ◌+◌, ◌*◌, ◌^◌, ◌<◌, ◌≤◌, length};
 ghost use Rattle.bit_addressing_memory.specs.Memory.{read_by};
-ghost use Rattle.bit_addressing_memory.specs.Straight.{Goes};
 ghost use Rattle.bit_slice_chunks.specs.Chunk.{IsChunk};
 ghost use Rattle.bit_slice_chunks.specs.Combined.{combined_bit, Combines};
 ghost use Rattle.bit_slice_paths.specs.Agrees.{Agrees};
 
 use bit_addressing_memory::{BitOrder, BitRegister, Direction};
-use bit_slice_chunks::{
-    Combination, combine_bits, combine_chunk, faced, first_difference, read_bits, read_chunk,
-};
+use bit_slice_chunks::any_order::{combine_bits, combine_chunk, read_bits, read_chunk};
+use bit_slice_chunks::{Combination, faced, first_difference};
 
 // The 64 bits of a memory from a place on, as a chunk of another direction.
 #[inline(always)]
@@ -21,7 +19,6 @@ fn whole_facing<R: BitRegister, O: BitOrder<R>>(
     words: &[R],
     place: usize,
 ) -> u64
-    requires goes { Goes R.BITS O.position from }
     requires within { place + 64 ≤ length words.now * R.BITS }
     requires ends { place + 64 < 2 ^ 64 }
     ensures { IsChunk (read_by R.BitRegister O.position) words.now place 64 to result }
@@ -38,7 +35,6 @@ pub(crate) fn rest_facing<R: BitRegister, O: BitOrder<R>>(
     place: usize,
     count: usize,
 ) -> u64
-    requires goes { Goes R.BITS O.position from }
     requires some { 0 < count }
     requires few { count ≤ 64 }
     requires within { place + count ≤ length words.now * R.BITS }
@@ -59,8 +55,6 @@ fn combine_whole<R: BitRegister, O: BitOrder<R>, Q: BitRegister, P: BitOrder<Q>>
     others: &[Q],
     other_place: usize,
 )
-    requires goes { Goes R.BITS O.position direction }
-    requires other_goes { Goes Q.BITS P.position other_direction }
     requires within { place + 64 ≤ length words.old * R.BITS }
     requires ends { place + 64 < 2 ^ 64 }
     requires other_within { other_place + 64 ≤ length others.now * Q.BITS }
@@ -84,8 +78,6 @@ fn combine_rest<R: BitRegister, O: BitOrder<R>, Q: BitRegister, P: BitOrder<Q>>(
     other_place: usize,
     count: usize,
 )
-    requires goes { Goes R.BITS O.position direction }
-    requires other_goes { Goes Q.BITS P.position other_direction }
     requires some { 0 < count }
     requires few { count ≤ 64 }
     requires within { place + count ≤ length words.old * R.BITS }
@@ -111,8 +103,6 @@ pub fn combine<R: BitRegister, O: BitOrder<R>, Q: BitRegister, P: BitOrder<Q>>(
     other_place: usize,
     len: usize,
 )
-    requires goes { Goes R.BITS O.position direction }
-    requires other_goes { Goes Q.BITS P.position other_direction }
     requires within { place + len ≤ length words.old * R.BITS }
     requires ends { place + len < 2 ^ 64 }
     requires other_within { other_place + len ≤ length others.now * Q.BITS }
@@ -159,8 +149,6 @@ fn difference_of_whole<R: BitRegister, O: BitOrder<R>, Q: BitRegister, P: BitOrd
     others: &[Q],
     other_place: usize,
 ) -> usize
-    requires goes { Goes R.BITS O.position direction }
-    requires other_goes { Goes Q.BITS P.position other_direction }
     requires within { place + 64 ≤ length words.now * R.BITS }
     requires ends { place + 64 < 2 ^ 64 }
     requires other_within { other_place + 64 ≤ length others.now * Q.BITS }
@@ -184,8 +172,6 @@ fn difference_of_rest<R: BitRegister, O: BitOrder<R>, Q: BitRegister, P: BitOrde
     other_place: usize,
     count: usize,
 ) -> usize
-    requires goes { Goes R.BITS O.position direction }
-    requires other_goes { Goes Q.BITS P.position other_direction }
     requires some { 0 < count }
     requires few { count ≤ 64 }
     requires within { place + count ≤ length words.now * R.BITS }
@@ -211,8 +197,6 @@ pub fn difference<R: BitRegister, O: BitOrder<R>, Q: BitRegister, P: BitOrder<Q>
     other_place: usize,
     len: usize,
 ) -> usize
-    requires goes { Goes R.BITS O.position direction }
-    requires other_goes { Goes Q.BITS P.position other_direction }
     requires within { place + len ≤ length words.now * R.BITS }
     requires ends { place + len < 2 ^ 64 }
     requires other_within { other_place + len ≤ length others.now * Q.BITS }

@@ -2,10 +2,9 @@
 
 ghost use Rattle.std.specs.Prelude.{◌+◌, ◌*◌, ◌^◌, ◌<◌, ◌≤◌, length};
 ghost use Rattle.bit_addressing_memory.specs.Memory.{read_by, Swaps};
-ghost use Rattle.bit_addressing_memory.specs.Straight.{Goes};
 
 use bit_addressing_memory::{BitOrder, BitRegister, Direction};
-use bit_slice_chunks::{read_bits, read_chunk, write_bits, write_chunk};
+use bit_slice_chunks::any_order::{read_bits, read_chunk, write_bits, write_chunk};
 
 // Exchanges 64 bits with 64 behind them.
 #[inline(always)]
@@ -15,7 +14,6 @@ fn exchange_wholes<R: BitRegister, O: BitOrder<R>>(
     first: usize,
     second: usize,
 )
-    requires goes { Goes R.BITS O.position direction }
     requires apart { first + 64 ≤ second }
     requires within { second + 64 ≤ length words.old * R.BITS }
     requires ends { second + 64 < 2 ^ 64 }
@@ -36,7 +34,6 @@ fn exchange_rests<R: BitRegister, O: BitOrder<R>>(
     second: usize,
     count: usize,
 )
-    requires goes { Goes R.BITS O.position direction }
     requires some { 0 < count }
     requires few { count ≤ 64 }
     requires apart { first + count ≤ second }
@@ -59,7 +56,6 @@ pub fn exchange<R: BitRegister, O: BitOrder<R>>(
     second: usize,
     len: usize,
 )
-    requires goes { Goes R.BITS O.position direction }
     requires apart { first + len ≤ second }
     requires within { second + len ≤ length words.old * R.BITS }
     requires ends { second + len < 2 ^ 64 }

@@ -2,11 +2,11 @@
 
 ghost use Rattle.std.specs.Prelude.{ℕ, ◌+◌, ◌-◌, ◌*◌, ◌^◌, ◌<◌, ◌≤◌, length};
 ghost use Rattle.bit_addressing_memory.specs.Memory.{entry, read_by, Overwrites};
-ghost use Rattle.bit_addressing_memory.specs.Straight.{Goes};
 ghost use Rattle.bit_slice_paths.specs.Mirrored.{Mirrored};
 
 use bit_addressing_memory::{BitOrder, BitRegister, Direction};
-use bit_slice_chunks::{read_bits, read_chunk, turned, write_bits, write_chunk};
+use bit_slice_chunks::any_order::{read_bits, read_chunk, write_bits, write_chunk};
+use bit_slice_chunks::turned;
 
 // Exchanges 64 bits with 64 behind them, both in reverse.
 #[inline(always)]
@@ -16,7 +16,6 @@ fn turn_wholes<R: BitRegister, O: BitOrder<R>>(
     first: usize,
     second: usize,
 )
-    requires goes { Goes R.BITS O.position direction }
     requires apart { first + 64 ≤ second }
     requires within { second + 64 ≤ length words.old * R.BITS }
     requires ends { second + 64 < 2 ^ 64 }
@@ -38,7 +37,6 @@ fn turn_ends<R: BitRegister, O: BitOrder<R>>(
     second: usize,
     count: usize,
 )
-    requires goes { Goes R.BITS O.position direction }
     requires some { 0 < count }
     requires few { count ≤ 64 }
     requires apart { first + count ≤ second }
@@ -63,7 +61,6 @@ fn turn_rest<R: BitRegister, O: BitOrder<R>>(
     place: usize,
     count: usize,
 )
-    requires goes { Goes R.BITS O.position direction }
     requires some { 0 < count }
     requires few { count ≤ 64 }
     requires within { place + count ≤ length words.old * R.BITS }
@@ -84,7 +81,6 @@ pub fn reverse<R: BitRegister, O: BitOrder<R>>(
     place: usize,
     len: usize,
 )
-    requires goes { Goes R.BITS O.position direction }
     requires within { place + len ≤ length words.old * R.BITS }
     requires ends { place + len < 2 ^ 64 }
     ensures { Overwrites (read_by R.BitRegister O.position) words.old words.new place len

@@ -3,13 +3,13 @@
 
 ghost use Rattle.std.specs.Prelude.{◌≡◌, ℕ, ◌+◌, ◌*◌, ◌^◌, ◌<◌, ◌≤◌, length, min, true, false};
 ghost use Rattle.bit_addressing_memory.specs.Memory.{entry, read_by};
-ghost use Rattle.bit_addressing_memory.specs.Straight.{Goes};
 ghost use Rattle.bit_slice_chunks.specs.Chunk.{chunk_bit, IsChunk};
 ghost use Rattle.bit_slice_paths.specs.Stands.{Stands, StandsFirst};
 
 use crate::across::{difference, rest_facing};
 use bit_addressing_memory::{BitOrder, BitRegister, Direction};
-use bit_slice_chunks::{first_bits, lowered, read_bits};
+use bit_slice_chunks::any_order::read_bits;
+use bit_slice_chunks::{first_bits, lowered};
 
 // Whether so many bits of two memories are the same.
 #[inline(never)]
@@ -22,8 +22,6 @@ fn same<R: BitRegister, O: BitOrder<R>, Q: BitRegister, P: BitOrder<Q>>(
     other_place: usize,
     len: usize,
 ) -> bool
-    requires goes { Goes R.BITS O.position direction }
-    requires other_goes { Goes Q.BITS P.position other_direction }
     requires within { place + len ≤ length words.now * R.BITS }
     requires ends { place + len < 2 ^ 64 }
     requires other_within { other_place + len ≤ length others.now * Q.BITS }
@@ -59,8 +57,6 @@ fn shows<R: BitRegister, O: BitOrder<R>, Q: BitRegister, P: BitOrder<Q>>(
     from: usize,
     sought: u64,
 ) -> bool
-    requires goes { Goes R.BITS O.position direction }
-    requires other_goes { Goes Q.BITS P.position other_direction }
     requires some { 0 < len }
     requires few { from < 33 }
     requires within { place + from + len ≤ length words.now * R.BITS }
@@ -103,8 +99,6 @@ fn start_near<R: BitRegister, O: BitOrder<R>, Q: BitRegister, P: BitOrder<Q>>(
     starts: usize,
     sought: u64,
 ) -> usize
-    requires goes { Goes R.BITS O.position direction }
-    requires other_goes { Goes Q.BITS P.position other_direction }
     requires some { 0 < len }
     requires some_starts { 0 < starts }
     requires few { starts ≤ 33 }
@@ -150,8 +144,6 @@ pub fn start<R: BitRegister, O: BitOrder<R>, Q: BitRegister, P: BitOrder<Q>>(
     len: usize,
     starts: usize,
 ) -> usize
-    requires goes { Goes R.BITS O.position direction }
-    requires other_goes { Goes Q.BITS P.position other_direction }
     requires some { 0 < len }
     requires some_starts { 0 < starts }
     requires within { place + starts + len ≤ length words.now * R.BITS + 1 }

@@ -1,5 +1,4 @@
-//! Word paths bit by bit, one step a bit: what an order whose `SPAN` is 1 calls. A step is counted in the loop that
-//! moves, once for each bit.
+//! Word paths that count one step a bit: what an order whose `SPAN` is 1 calls.
 
 ghost use Rattle.std.specs.Prelude.{◌≡◌, ℕ, ◌+◌, ◌*◌, ◌^◌, ◌<◌, ◌≤◌, ◌↔◌, ◌&&◌, ◌||◌};
 ghost use Rattle.std.specs.Prelude.{length, IsTrue, true, false};
@@ -8,9 +7,10 @@ ghost use Rattle.bit_addressing_memory.specs.Memory.{entry, read_by, Copies, Ove
 ghost use Rattle.bit_slice_paths.specs.Combined.{combined_bit, Combines};
 ghost use Rattle.bit_slice_paths.specs.Steps.{groups, Takes};
 
-use crate::combine::combined;
+use crate::agree::agree_in;
 use bit_addressing_memory::{BitOrder, BitRegister, read_entry, write_entry};
-use bit_slice_paths::{Combination, Steps};
+use bit_slice_chunks::any_order::direction_for;
+use bit_slice_paths::{Combination, Steps, across};
 
 /// `WordPaths::equal`, a step a bit.
 pub fn equal<R: BitRegister, O: BitOrder<R>>(
@@ -31,15 +31,13 @@ pub fn equal<R: BitRegister, O: BitOrder<R>>(
     ensures same { result ≡ true → Takes steps.old steps.new (groups len 64) (groups len 1) }
     ensures other { result ≡ false → Takes steps.old steps.new 1 (groups len 1) }
 {
-    for k in 0..len {
-        steps.step();
-        let bit = read_entry::<R, O>(words, place + k);
-        let other = read_entry::<R, O>(others, other_place + k);
-        if bit != other {
-            return false;
-        }
+    let same = agree_in::<R, O, R, O>(words, place, others, other_place, len);
+    if same == len {
+        steps.many(len);
+        return true;
     }
-    true
+    steps.many(same + 1);
+    false
 }
 
 /// `WordPaths::copy`, a step a bit.
@@ -219,7 +217,7 @@ pub fn xor<R: BitRegister, O: BitOrder<R>>(
 }
 
 // Makes each of `len` bits what `how` makes of it and of one of another memory.
-#[tactic(auto, using(crate::proofs::ChangedStretchLemmas::stretch_steps, crate::proofs::PathLemmas::count_steps))]
+#[tactic(auto, using(crate::proofs::PathLemmas::count_steps))]
 fn combine<R: BitRegister, O: BitOrder<R>>(
     words: &mut [R],
     place: usize,
@@ -237,10 +235,7 @@ fn combine<R: BitRegister, O: BitOrder<R>>(
         (combined_bit how) (read_by R.BitRegister O.position) others.now other_place }
     ensures steps { Takes steps.old steps.new (groups len 64) (groups len 1) }
 {
-    for k in 0..len {
-        let bit = read_entry::<R, O>(words, place + k);
-        let other = read_entry::<R, O>(others, other_place + k);
-        write_entry::<R, O>(words, place + k, combined(how, bit, other));
-        steps.step();
-    }
+    let way = direction_for::<R, O>();
+    across::combine::<R, O, R, O>(way, way, how, words, place, others, other_place, len);
+    steps.many(len);
 }

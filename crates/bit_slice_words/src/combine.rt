@@ -5,23 +5,11 @@ ghost use Rattle.std.specs.Bool.{xor};
 ghost use Rattle.bit_addressing_memory.specs.Memory.{entry, read_by, Overwrites};
 ghost use Rattle.bit_slice_paths.specs.Combined.{combined_bit, Combines};
 
-use crate::straight::directions_of;
-use bit_addressing_memory::{BitOrder, BitRegister, read_entry, write_entry};
+use bit_addressing_memory::{BitOrder, BitRegister};
+use bit_slice_chunks::any_order::direction_for;
 use bit_slice_paths::{Combination, across};
 
-// The bit that two make.
-pub(crate) fn combined(how: Combination, bit: bool, other: bool) -> bool
-    ensures { result ≡ combined_bit how bit other }
-{
-    match how {
-        Combination::Take => other,
-        Combination::And => bit && other,
-        Combination::Or => bit || other,
-        Combination::Xor => bit != other,
-    }
-}
-
-// Combines each of `len` bits with one of another memory, by chunks where both orders go straight.
+// Combines each of `len` bits with one of another memory.
 #[inline(always)]
 fn combine_in<R: BitRegister, O: BitOrder<R>, Q: BitRegister, P: BitOrder<Q>>(
     words: &mut [R],
@@ -38,43 +26,16 @@ fn combine_in<R: BitRegister, O: BitOrder<R>, Q: BitRegister, P: BitOrder<Q>>(
     ensures { Combines (read_by R.BitRegister O.position) words.old words.new place len
         (combined_bit how) (read_by Q.BitRegister P.position) others.now other_place }
 {
-    match directions_of::<R, O, Q, P>() {
-        Some(both) => across::combine::<R, O, Q, P>(
-            both.0,
-            both.1,
-            how,
-            words,
-            place,
-            others,
-            other_place,
-            len,
-        ),
-        None => combine_by_bits::<R, O, Q, P>(words, place, others, other_place, len, how),
-    }
-}
-
-// `combine_in`, bit by bit: for every order.
-#[tactic(auto, using(crate::proofs::ChangedStretchLemmas::stretch_steps))]
-fn combine_by_bits<R: BitRegister, O: BitOrder<R>, Q: BitRegister, P: BitOrder<Q>>(
-    words: &mut [R],
-    place: usize,
-    others: &[Q],
-    other_place: usize,
-    len: usize,
-    how: Combination,
-)
-    requires within { place + len ≤ length words.old * R.BITS }
-    requires ends { place + len < 2 ^ 64 }
-    requires other_within { other_place + len ≤ length others.now * Q.BITS }
-    requires other_ends { other_place + len < 2 ^ 64 }
-    ensures { Combines (read_by R.BitRegister O.position) words.old words.new place len
-        (combined_bit how) (read_by Q.BitRegister P.position) others.now other_place }
-{
-    for k in 0..len {
-        let bit = read_entry::<R, O>(words, place + k);
-        let other = read_entry::<Q, P>(others, other_place + k);
-        write_entry::<R, O>(words, place + k, combined(how, bit, other));
-    }
+    across::combine::<R, O, Q, P>(
+        direction_for::<R, O>(),
+        direction_for::<Q, P>(),
+        how,
+        words,
+        place,
+        others,
+        other_place,
+        len,
+    );
 }
 
 /// Clears each of `len` bits of a memory, from `place` on, where the memory `others` has a zero, from

@@ -2,12 +2,10 @@
 
 ghost use Rattle.std.specs.Prelude.{◌+◌, ◌*◌, ◌^◌, ◌<◌, ◌≤◌, ◌↔◌, length, IsTrue};
 ghost use Rattle.bit_addressing_memory.specs.Memory.{memory, piece, read_by};
-ghost use Rattle.bit_slice_paths.specs.Stands.{StandsFirst};
 ghost use Rattle.bit_slice_words.specs.Holds.{Holds};
 
-use crate::agree::agree_by_bits;
-use crate::straight::directions_of;
 use bit_addressing_memory::{BitOrder, BitRegister};
+use bit_slice_chunks::any_order::direction_for;
 use bit_slice_paths::seek;
 
 /// Whether the `other_len` bits of the memory `others` from a place on stand, in order and next to each other, in the
@@ -37,66 +35,14 @@ pub fn contains_in<R: BitRegister, O: BitOrder<R>, Q: BitRegister, P: BitOrder<Q
         return false;
     }
     let starts = len - other_len + 1;
-    start_in::<R, O, Q, P>(words, place, others, other_place, other_len, starts) < starts
-}
-
-// The first of `starts` places, counted from `place` on, at which `len` bits of another memory stand, `starts` where they
-// stand at none: by chunks where both orders go straight.
-#[inline(always)]
-fn start_in<R: BitRegister, O: BitOrder<R>, Q: BitRegister, P: BitOrder<Q>>(
-    words: &[R],
-    place: usize,
-    others: &[Q],
-    other_place: usize,
-    len: usize,
-    starts: usize,
-) -> usize
-    requires some { 0 < len }
-    requires some_starts { 0 < starts }
-    requires within { place + starts + len ≤ length words.now * R.BITS + 1 }
-    requires ends { place + starts + len ≤ 2 ^ 64 }
-    requires other_within { other_place + len ≤ length others.now * Q.BITS }
-    requires other_ends { other_place + len < 2 ^ 64 }
-    ensures { StandsFirst (read_by R.BitRegister O.position) words.now place
-        (read_by Q.BitRegister P.position) others.now other_place len starts result }
-{
-    match directions_of::<R, O, Q, P>() {
-        Some(both) => seek::start::<R, O, Q, P>(
-            both.0,
-            both.1,
-            words,
-            place,
-            others,
-            other_place,
-            len,
-            starts,
-        ),
-        None => start_by_bits::<R, O, Q, P>(words, place, others, other_place, len, starts),
-    }
-}
-
-// `start_in`, bit by bit: for every order.
-fn start_by_bits<R: BitRegister, O: BitOrder<R>, Q: BitRegister, P: BitOrder<Q>>(
-    words: &[R],
-    place: usize,
-    others: &[Q],
-    other_place: usize,
-    len: usize,
-    starts: usize,
-) -> usize
-    requires some_starts { 0 < starts }
-    requires within { place + starts + len ≤ length words.now * R.BITS + 1 }
-    requires ends { place + starts + len ≤ 2 ^ 64 }
-    requires other_within { other_place + len ≤ length others.now * Q.BITS }
-    requires other_ends { other_place + len < 2 ^ 64 }
-    ensures { StandsFirst (read_by R.BitRegister O.position) words.now place
-        (read_by Q.BitRegister P.position) others.now other_place len starts result }
-{
-    for i in 0..starts {
-        let same = agree_by_bits::<R, O, Q, P>(words, place + i, others, other_place, len);
-        if same == len {
-            return i;
-        }
-    }
-    starts
+    seek::start::<R, O, Q, P>(
+        direction_for::<R, O>(),
+        direction_for::<Q, P>(),
+        words,
+        place,
+        others,
+        other_place,
+        other_len,
+        starts,
+    ) < starts
 }

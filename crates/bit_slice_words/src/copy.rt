@@ -3,15 +3,15 @@
 ghost use Rattle.std.specs.Prelude.{◌+◌, ◌*◌, ◌^◌, ◌<◌, ◌≤◌, length};
 ghost use Rattle.bit_addressing_memory.specs.Memory.{read_by, Copies};
 
-use crate::straight::directions_of;
-use bit_addressing_memory::{BitOrder, BitRegister, copy_between};
+use bit_addressing_memory::{BitOrder, BitRegister};
+use bit_slice_chunks::any_order::direction_for;
 use bit_slice_paths::{Combination, across};
 
 /// Copies `len` bits of the memory `from`, those from `source` on, to the places from `target` on of the memory
 /// `words`. Both stretches lie in their memories, and their ends fit a `usize`; the two may have different words and
 /// orders. Every other bit of `words` stays.
 ///
-/// It does what `copy_between` of `bit_addressing_memory` does, by chunks where both orders go straight.
+/// It does what `copy_between` of `bit_addressing_memory` does, by chunks of 64 bits.
 pub fn copy_in<Q: BitRegister, P: BitOrder<Q>, R: BitRegister, O: BitOrder<R>>(
     from: &[Q],
     source: usize,
@@ -26,17 +26,14 @@ pub fn copy_in<Q: BitRegister, P: BitOrder<Q>, R: BitRegister, O: BitOrder<R>>(
     ensures copied { Copies (read_by R.BitRegister O.position) words.old words.new
         (read_by Q.BitRegister P.position) from.now source target len }
 {
-    match directions_of::<R, O, Q, P>() {
-        Some(both) => across::combine::<R, O, Q, P>(
-            both.0,
-            both.1,
-            Combination::Take,
-            words,
-            target,
-            from,
-            source,
-            len,
-        ),
-        None => copy_between::<Q, P, R, O>(from, source, words, target, len),
-    }
+    across::combine::<R, O, Q, P>(
+        direction_for::<R, O>(),
+        direction_for::<Q, P>(),
+        Combination::Take,
+        words,
+        target,
+        from,
+        source,
+        len,
+    );
 }

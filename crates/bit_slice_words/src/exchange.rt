@@ -3,13 +3,14 @@
 ghost use Rattle.std.specs.Prelude.{◌+◌, ◌*◌, ◌^◌, ◌<◌, ◌≤◌, length};
 ghost use Rattle.bit_addressing_memory.specs.Memory.{read_by, Swaps};
 
-use bit_addressing_memory::{BitOrder, BitRegister, direction_of, swap_within};
+use bit_addressing_memory::{BitOrder, BitRegister};
+use bit_slice_chunks::any_order::direction_for;
 use bit_slice_paths::exchange;
 
 /// Exchanges `len` bits of a memory, those from `first` on, with those from `second` on. The first stretch ends before
 /// the second begins, which lies in the memory, and its end fits a `usize`. Every other bit stays.
 ///
-/// It does what `swap_within` of `bit_addressing_memory` does, by chunks where the order goes straight.
+/// It does what `swap_within` of `bit_addressing_memory` does, by chunks of 64 bits.
 pub fn exchange_in<R: BitRegister, O: BitOrder<R>>(
     words: &mut [R],
     first: usize,
@@ -21,10 +22,5 @@ pub fn exchange_in<R: BitRegister, O: BitOrder<R>>(
     requires ends { second + len < 2 ^ 64 }
     ensures swapped { Swaps (read_by R.BitRegister O.position) words.old words.new first second len }
 {
-    match direction_of::<R, O>() {
-        Some(direction) => {
-            exchange::exchange::<R, O>(direction, words, first, second, len);
-        }
-        None => swap_within::<R, O>(words, first, second, len),
-    }
+    exchange::exchange::<R, O>(direction_for::<R, O>(), words, first, second, len);
 }

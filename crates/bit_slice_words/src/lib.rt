@@ -23,7 +23,6 @@ mod paths;
 mod reverse;
 mod rotate;
 mod shift;
-mod straight;
 
 pub use bit_slice_paths::Steps;
 pub use combine::{and_in, or_in, xor_in};

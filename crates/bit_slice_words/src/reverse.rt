@@ -3,7 +3,8 @@
 ghost use Rattle.std.specs.Prelude.{◌+◌, ◌-◌, ◌*◌, ◌^◌, ◌<◌, ◌≤◌, length};
 ghost use Rattle.bit_addressing_memory.specs.Memory.{entry, read_by, Overwrites};
 
-use bit_addressing_memory::{BitOrder, BitRegister, direction_of, swap_entries};
+use bit_addressing_memory::{BitOrder, BitRegister};
+use bit_slice_chunks::any_order::direction_for;
 use bit_slice_paths::mirror;
 
 /// Turns `len` bits of a memory round, those from `place` on: the last comes first. They lie in the memory,
@@ -16,21 +17,5 @@ pub fn reverse_in<R: BitRegister, O: BitOrder<R>>(words: &mut [R], place: usize,
     ensures reversed { Overwrites (read_by R.BitRegister O.position) words.old words.new place len
         (λ k. entry (read_by R.BitRegister O.position) words.old (place + (len - 1 - k))) }
 {
-    match direction_of::<R, O>() {
-        Some(direction) => mirror::reverse::<R, O>(direction, words, place, len),
-        None => reverse_by_bits::<R, O>(words, place, len),
-    }
-}
-
-// `reverse_in`, bit by bit: for every order.
-#[tactic(auto, using(crate::proofs::MirrorLemmas::mirror_steps))]
-fn reverse_by_bits<R: BitRegister, O: BitOrder<R>>(words: &mut [R], place: usize, len: usize)
-    requires within { place + len ≤ length words.old * R.BITS }
-    requires ends { place + len < 2 ^ 64 }
-    ensures reversed { Overwrites (read_by R.BitRegister O.position) words.old words.new place len
-        (λ k. entry (read_by R.BitRegister O.position) words.old (place + (len - 1 - k))) }
-{
-    for k in 0..len / 2 {
-        swap_entries::<R, O>(words, place + k, place + (len - 1 - k));
-    }
+    mirror::reverse::<R, O>(direction_for::<R, O>(), words, place, len);
 }

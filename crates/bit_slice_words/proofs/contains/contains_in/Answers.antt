@@ -23,6 +23,6 @@ pub returns : goal.returns
 returns g c =
     holds_first (read_by g.R.BitRegister g.O.Positions.position) c.args.words.now
     (read_by g.Q.BitRegister g.P.Positions.position) c.args.others.now c.args.place c.args.len c.args.other_place
-    c.args.other_len (c.args.len - c.args.other_len + 1) c.start_in.result
+    c.args.other_len (c.args.len - c.args.other_len + 1) c.start.result
     (omega (arith, g.met.R.BitRegister.least_bits)) (omega (arith, g.met.Q.BitRegister.least_bits)) c.requires.within
-    c.requires.other_within (omega arith) c.start_in.ensures
+    c.requires.other_within (omega arith) c.start.ensures

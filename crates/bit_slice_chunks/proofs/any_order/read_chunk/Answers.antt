@@ -1,0 +1,19 @@
+use Rattle.std.proofs.Common.{arith}
+use Rattle.bit_addressing_memory.specs.Memory.{read_by}
+use Rattle.bit_addressing_memory.specs.declared.direction.Direction.TheVariants.{Ascending}
+use Rattle.bit_slice_chunks.proofs.TurnLemmas.{faced_chunk}
+use Rattle.bit_slice_chunks.proofs.any_order.read_chunk.Goals as goal
+
+pub read_chunk-chunk-requires-clause-goes : goal.read_chunk-chunk-requires-clause-goes
+read_chunk-chunk-requires-clause-goes g c = (c.direction_of.ensures c.in-Some.way).0 c.in-Some.is
+
+pub returns-in-Some : goal.returns-in-Some
+returns-in-Some g c =
+    faced_chunk (read_by g.R.BitRegister g.O.Positions.position) c.args.words.now c.args.place 64 c.in-Some.way
+    c.args.direction c.read_chunk-chunk.result c.faced.result (omega arith) c.read_chunk-chunk.ensures c.faced.ensures
+
+pub returns-in-None : goal.returns-in-None
+returns-in-None g c =
+    faced_chunk (read_by g.R.BitRegister g.O.Positions.position) c.args.words.now c.args.place 64 Ascending
+    c.args.direction c.gather-chunk.result c.faced-in-None.result (omega arith) c.gather-chunk.ensures
+    c.faced-in-None.ensures

@@ -1,0 +1,22 @@
+use Rattle.std.proofs.Common.{◌≡◌, ◌+◌, ◌-◌, ◌*◌, ◌<◌, ◌≤◌, min, refl, ap, arith}
+use Rattle.bit_addressing_memory.specs.Memory.{read_by}
+use Rattle.bit_slice_chunks.proofs.AnyOrderLemmas.{scatter_more}
+use Rattle.bit_slice_chunks.proofs.TransferLemmas.{begins_before, begins_behind, ends_behind}
+use Rattle.bit_slice_chunks.proofs.any_order.scatter.Goals as goal
+
+pub loop-k-preserved : goal.loop-k-preserved
+loop-k-preserved g c =
+    let b = g.R.BitRegister.BITS in
+    let bits = c.bits_of-bits.result in
+    let k = c.loop-k.k in
+    let place = c.args.place in
+    let count = c.args.count in
+    let some : 0 < b = omega (arith, g.met.R.BitRegister.least_bits) in
+    let begins : place < (k + 1) * b = begins_behind b bits place (k + 1) c.bits_of-bits.ensures some (omega arith) in
+    let ends : k * b < place + count =
+    begins_before b bits (place + count) k c.bits_of-bits.ensures some (omega arith) (omega arith) in
+    let row : k * bits ≡ k * b = ap (λ n. k * n) c.bits_of-bits.ensures in
+    scatter_more (read_by g.R.BitRegister g.O.Positions.position) c.args.words.now c.loop-k.words
+    c.spread_in.new.words place count k b (k * bits) bits c.saturating_sub-from.result c.min-upto.result
+    (k * bits + c.saturating_sub-from.result - place) c.args.chunk c.bits_of-bits.ensures row begins ends
+    c.saturating_sub-from.ensures c.min-upto.ensures refl c.loop-k.invariant c.spread_in.ensures

@@ -1,0 +1,244 @@
+//! Chunks of a memory in any lawful order, counted in any direction: by words and shifts where its positions go straight,
+//! else bit by bit, each word taken and put once.
+
+ghost use Rattle.std.specs.Prelude.{◌≡◌, ℕ, ◌+◌, ◌-◌, ◌*◌, ◌/◌, ◌^◌, ◌<◌, ◌≤◌, length};
+ghost use Rattle.bit_addressing_memory.specs.Memory.{entry, read_by, Overwrites};
+ghost use Rattle.bit_addressing_memory.specs.Straight.{Goes, IsStraight};
+ghost use Rattle.bit_addressing_memory.specs.declared.direction.Direction.{Direction};
+ghost use Rattle.bit_addressing_memory.specs.declared.direction.Direction.TheVariants.{Ascending};
+ghost use Rattle.bit_slice_chunks.specs.Chunk.{chunk_bit, IsChunk};
+ghost use Rattle.bit_slice_chunks.specs.Combined.{combined_bit};
+
+use crate::chunk::faced;
+use crate::combination::{Combination, combined};
+use crate::{combine, transfer, whole};
+use bit_addressing_memory::mem::bits_of;
+use bit_addressing_memory::{BitOrder, BitRegister, Direction, Lsb0, direction_of, spread};
+
+/// The direction in which chunks of an order are had without a turn: that of its positions where they go straight.
+#[inline(always)]
+pub fn direction_for<R: BitRegister, O: BitOrder<R>>() -> Direction
+    ensures goes { (way : Direction) → Goes R.BITS O.position way → result ≡ way }
+    ensures other { (IsStraight R.BITS O.position → ⊥) → result ≡ Ascending }
+{
+    match direction_of::<R, O>() {
+        Some(way) => way,
+        None => Direction::Ascending,
+    }
+}
+
+/// The `count` bits of a memory from a place on, 1 to 64, as a chunk of the direction: bit k of it is entry
+/// `place + k`, and the bits behind them are zero.
+#[inline(always)]
+pub fn read_bits<R: BitRegister, O: BitOrder<R>>(
+    direction: Direction,
+    words: &[R],
+    place: usize,
+    count: usize,
+) -> u64
+    requires some { 0 < count }
+    requires few { count ≤ 64 }
+    requires within { place + count ≤ length words.now * R.BITS }
+    requires ends { place + count < 2 ^ 64 }
+    ensures { IsChunk (read_by R.BitRegister O.position) words.now place count direction result }
+{
+    match direction_of::<R, O>() {
+        Some(way) => {
+            let chunk = transfer::read_bits::<R, O>(way, words, place, count);
+            faced(way, direction, chunk)
+        }
+        None => {
+            let chunk = gather::<R, O>(words, place, count);
+            faced(Direction::Ascending, direction, chunk)
+        }
+    }
+}
+
+/// The 64 bits of a memory from a place on, as `read_bits` has them.
+#[inline(always)]
+pub fn read_chunk<R: BitRegister, O: BitOrder<R>>(
+    direction: Direction,
+    words: &[R],
+    place: usize,
+) -> u64
+    requires within { place + 64 ≤ length words.now * R.BITS }
+    requires ends { place + 64 < 2 ^ 64 }
+    ensures { IsChunk (read_by R.BitRegister O.position) words.now place 64 direction result }
+{
+    match direction_of::<R, O>() {
+        Some(way) => {
+            let chunk = whole::read_chunk::<R, O>(way, words, place);
+            faced(way, direction, chunk)
+        }
+        None => {
+            let chunk = gather::<R, O>(words, place, 64);
+            faced(Direction::Ascending, direction, chunk)
+        }
+    }
+}
+
+/// Makes the `count` bits of a memory from a place on, 1 to 64, those of a chunk of the direction: entry `place + k`
+/// is bit k of it. Every other bit of the memory stays.
+#[inline(always)]
+pub fn write_bits<R: BitRegister, O: BitOrder<R>>(
+    direction: Direction,
+    words: &mut [R],
+    place: usize,
+    count: usize,
+    chunk: u64,
+)
+    requires some { 0 < count }
+    requires few { count ≤ 64 }
+    requires within { place + count ≤ length words.old * R.BITS }
+    requires ends { place + count < 2 ^ 64 }
+    ensures { Overwrites (read_by R.BitRegister O.position) words.old words.new place count
+        (chunk_bit direction chunk) }
+{
+    match direction_of::<R, O>() {
+        Some(way) => {
+            let facing = faced(direction, way, chunk);
+            transfer::write_bits::<R, O>(way, words, place, count, facing);
+        }
+        None => {
+            let facing = faced(direction, Direction::Ascending, chunk);
+            scatter::<R, O>(words, place, count, facing);
+        }
+    }
+}
+
+/// Makes the 64 bits of a memory from a place on those of a chunk, as `write_bits` does.
+#[inline(always)]
+pub fn write_chunk<R: BitRegister, O: BitOrder<R>>(
+    direction: Direction,
+    words: &mut [R],
+    place: usize,
+    chunk: u64,
+)
+    requires within { place + 64 ≤ length words.old * R.BITS }
+    requires ends { place + 64 < 2 ^ 64 }
+    ensures { Overwrites (read_by R.BitRegister O.position) words.old words.new place 64
+        (chunk_bit direction chunk) }
+{
+    match direction_of::<R, O>() {
+        Some(way) => {
+            let facing = faced(direction, way, chunk);
+            combine::write_chunk::<R, O>(way, words, place, facing);
+        }
+        None => {
+            let facing = faced(direction, Direction::Ascending, chunk);
+            scatter::<R, O>(words, place, 64, facing);
+        }
+    }
+}
+
+/// Makes each of the `count` bits of a memory from a place on, 1 to 64, what `how` makes of it and of a chunk's: entry
+/// `place + k` by bit k. Every other bit of the memory stays.
+#[inline(always)]
+pub fn combine_bits<R: BitRegister, O: BitOrder<R>>(
+    direction: Direction,
+    how: Combination,
+    words: &mut [R],
+    place: usize,
+    count: usize,
+    other: u64,
+)
+    requires some { 0 < count }
+    requires few { count ≤ 64 }
+    requires within { place + count ≤ length words.old * R.BITS }
+    requires ends { place + count < 2 ^ 64 }
+    ensures { Overwrites (read_by R.BitRegister O.position) words.old words.new place count
+        (λ k. combined_bit how (entry (read_by R.BitRegister O.position) words.old (place + k))
+        (chunk_bit direction other k)) }
+{
+    let chunk = read_bits::<R, O>(direction, words, place, count);
+    write_bits::<R, O>(direction, words, place, count, combined(how, chunk, other));
+}
+
+/// Makes each of the 64 bits of a memory from a place on what `how` makes of it and of a chunk's, as `combine_bits`.
+#[inline(always)]
+pub fn combine_chunk<R: BitRegister, O: BitOrder<R>>(
+    direction: Direction,
+    how: Combination,
+    words: &mut [R],
+    place: usize,
+    other: u64,
+)
+    requires within { place + 64 ≤ length words.old * R.BITS }
+    requires ends { place + 64 < 2 ^ 64 }
+    ensures { Overwrites (read_by R.BitRegister O.position) words.old words.new place 64
+        (λ k. combined_bit how (entry (read_by R.BitRegister O.position) words.old (place + k))
+        (chunk_bit direction other k)) }
+{
+    match direction_of::<R, O>() {
+        Some(way) => {
+            let facing = faced(direction, way, other);
+            combine::combine_chunk::<R, O>(way, how, words, place, facing);
+        }
+        None => combine_bits::<R, O>(direction, how, words, place, 64, other),
+    }
+}
+
+// Bits of a memory as a chunk that is counted up, for every order.
+fn gather<R: BitRegister, O: BitOrder<R>>(words: &[R], place: usize, count: usize) -> u64
+    requires some { 0 < count }
+    requires few { count ≤ 64 }
+    requires within { place + count ≤ length words.now * R.BITS }
+    requires ends { place + count < 2 ^ 64 }
+    ensures { IsChunk (read_by R.BitRegister O.position) words.now place count Ascending result }
+{
+    let bits = bits_of::<R>();
+    let first = place / bits;
+    let last = (place + count - 1) / bits;
+    let mut chunk = 0u64;
+    for k in first..last + 1 {
+        let start = k * bits;
+        let from = place.saturating_sub(start);
+        let upto = bits.min(place + count - start);
+        let done = start + from - place;
+        let more = done + (upto - from);
+        chunk = spread::<R, O, u64, Lsb0>(words[k], from as u8, chunk, done as u8, more as u8);
+    }
+    chunk
+}
+
+// Makes bits of a memory those of a chunk that is counted up, for every order.
+fn scatter<R: BitRegister, O: BitOrder<R>>(words: &mut [R], place: usize, count: usize, chunk: u64)
+    requires some { 0 < count }
+    requires few { count ≤ 64 }
+    requires within { place + count ≤ length words.old * R.BITS }
+    requires ends { place + count < 2 ^ 64 }
+    ensures { Overwrites (read_by R.BitRegister O.position) words.old words.new place count
+        (chunk_bit Ascending chunk) }
+{
+    let bits = bits_of::<R>();
+    let first = place / bits;
+    let last = (place + count - 1) / bits;
+    for k in first..last + 1 {
+        let start = k * bits;
+        let from = place.saturating_sub(start);
+        let upto = bits.min(place + count - start);
+        let done = start + from - place;
+        spread_in::<R, O>(words, k, from as u8, upto as u8, chunk, done as u8);
+    }
+}
+
+// Makes the indices of one word of a memory from one up to before another the bits of a chunk from `first` on.
+#[inline(always)]
+fn spread_in<R: BitRegister, O: BitOrder<R>>(
+    words: &mut [R],
+    at: usize,
+    from: u8,
+    upto: u8,
+    chunk: u64,
+    first: u8,
+)
+    requires inside { at < length words.old }
+    requires order { from ≤ upto }
+    requires within { upto ≤ R.BITS }
+    requires few { first + (upto - from) ≤ 64 }
+    ensures { Overwrites (read_by R.BitRegister O.position) words.old words.new (at * R.BITS + from)
+        (upto - from) (λ i. chunk_bit Ascending chunk (first + (from + i - from))) }
+{
+    let word = words[at];
+    words[at] = spread::<u64, Lsb0, R, O>(chunk, first, word, from, upto);
+}

@@ -14,7 +14,7 @@ use bit_slice_views_mut::BitsMut;
 /// The closure is called once for each bit, in ascending order.
 pub trait BitsFill: BitsMut {
     /// Makes each bit the closure's answer at its index.
-    final fn fill_with<F: FnMut(usize) -> bool>(&mut self, f: F)
+    final fn fill_with<F: FnMut(usize) -> bool>(&mut self, mut f: F)
         requires { F.IsAlwaysCallable f }
         ensures bits { (last : F) × Filled F.step f (Self.bits self.new) last }
         ensures len { length (Self.bits self.new) ≡ length (Self.bits self.old) }
@@ -25,7 +25,7 @@ pub trait BitsFill: BitsMut {
     }
 
     /// Makes each bit the closure's answer at its index and what it was.
-    final fn for_each<F: FnMut(usize, bool) -> bool>(&mut self, f: F)
+    final fn for_each<F: FnMut(usize, bool) -> bool>(&mut self, mut f: F)
         requires { F.IsAlwaysCallable f }
         ensures bits { (last : F)
             × Filled (λ p i bit q. F.step p i (slice_index_or (Self.bits self.old) i false) bit q) f

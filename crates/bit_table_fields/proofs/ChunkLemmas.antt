@@ -15,7 +15,6 @@ use Rattle.bit_addressing_memory.specs.Bits.{digit_at}
 use Rattle.bit_addressing_memory.specs.Memory.{Reading, memory, piece, with_piece, Overwrites}
 use Rattle.bit_addressing_memory.proofs.ShiftLemmas.{bit_at_shr, bit_at_cut, bit_at_shl_high}
 use Rattle.bit_addressing_memory.proofs.WindowLemmas.{window_bit, length-window, window_overwritten}
-use Rattle.bit_addressing_memory.specs.declared.direction.Direction.{Direction}
 use Rattle.bit_slice_chunks.specs.Chunk.{chunk_bit, IsChunk}
 use Rattle.bit_slice_chunks.proofs.TransferLemmas.{no_digit}
 use Rattle.bit_table_layout.specs.declared.layout.Rule.{Rule}
@@ -115,13 +114,12 @@ chunk_of_high v n d r few is made k low =
 
 -- a number's chunk written into a window
 pub number_written : {R : Type 0} (rule : Rule) (reading : Reading R) (before after : List R)
-    (place all at n chunk faced : ℕ) (v : ℤ) (direction : Direction) → 0 < reading.bits
-    → place + all ≤ length before * reading.bits → at + n ≤ all → n ≤ 64 → ChunkOf rule n v chunk
-    → ((i : ℕ) → i < 64 → chunk_bit direction faced i ≡ chunk_bit (rule_way rule) chunk i)
-    → Overwrites reading before after (place + at) n (chunk_bit direction faced)
+    (place all at n chunk : ℕ) (v : ℤ) → 0 < reading.bits → place + all ≤ length before * reading.bits → at + n ≤ all
+    → n ≤ 64 → ChunkOf rule n v chunk
+    → Overwrites reading before after (place + at) n (chunk_bit (rule_way rule) chunk)
     → piece (memory reading after) place all
     ≡ with_piece (piece (memory reading before) place all) at (field_bits rule n v)
-number_written rule reading before after place all at n chunk faced v direction some fits inside few is same wrote =
-    window_overwritten reading before after place all (place + at) at n (chunk_bit direction faced)
+number_written rule reading before after place all at n chunk v some fits inside few is wrote =
+    window_overwritten reading before after place all (place + at) at n (chunk_bit (rule_way rule) chunk)
     (field_bits rule n v) some fits refl inside (length-field_bits rule n v)
-    (λ k low. same k (omega arith) ∙ is k low ∙ sym (get_or-field_bits rule n v k low)) wrote
+    (λ k low. is k low ∙ sym (get_or-field_bits rule n v k low)) wrote

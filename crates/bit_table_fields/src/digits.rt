@@ -1,8 +1,8 @@
 //! Numbers in windows of bits by a digit rule.
 //!
 //! An order writes the calls that end in `_at`, which have no body here: one whose two constants are false calls the
-//! functions of the same names in `digits_by_bits`, but for `Lsb0` and `Msb0`, which go by chunks. Users make the calls
-//! over windows.
+//! functions of the same names in `digits_by_bits`, but for the orders of this crate, which go by chunks. Users make the
+//! calls over windows.
 
 ghost use Rattle.std.specs.Prelude.{◌≡◌, ℕ, ◌+◌, ◌*◌, ◌^◌, ◌<◌, ◌≤◌, Bool, true, false, length};
 ghost use Rattle.bit_addressing_memory.specs.Memory.{memory, piece, read_by, with_piece};
@@ -12,9 +12,9 @@ ghost use Rattle.bit_table_fields.specs.Windows.{most_for, number_held};
 ghost use Rattle.bit_table_layout.specs.Rows.{field_bits};
 ghost use Rattle.bit_table_layout.specs.declared.layout.Rule.TheVariants.{Low, High};
 
+use crate::digits_by_chunks;
 use crate::hi_lo::HiLo;
-use crate::{digits_by_bits, digits_by_chunks};
-use bit_addressing_memory::{BitOrder, BitRegister, Direction, Lsb0, Msb0};
+use bit_addressing_memory::{BitOrder, BitRegister, Lsb0, Msb0};
 use bit_slice_views::{BitSlice, Bits};
 use bit_slice_views_mut::BitsMut;
 use bit_slice_words::Steps;
@@ -171,15 +171,7 @@ impl<R: BitRegister> Digits<R> for Lsb0 {
     const HIGH_WORDS: bool = false;
 
     fn load_low_at(words: &[R], place: usize, width: u32, signed: bool, steps: &mut Steps) -> i128 {
-        digits_by_chunks::load::<R, Lsb0>(
-            Rule::Low,
-            Direction::Ascending,
-            words,
-            place,
-            width,
-            signed,
-            steps,
-        )
+        digits_by_chunks::load::<R, Lsb0>(Rule::Low, words, place, width, signed, steps)
     }
 
     fn load_high_at(
@@ -189,15 +181,7 @@ impl<R: BitRegister> Digits<R> for Lsb0 {
         signed: bool,
         steps: &mut Steps,
     ) -> i128 {
-        digits_by_chunks::load::<R, Lsb0>(
-            Rule::High,
-            Direction::Ascending,
-            words,
-            place,
-            width,
-            signed,
-            steps,
-        )
+        digits_by_chunks::load::<R, Lsb0>(Rule::High, words, place, width, signed, steps)
     }
 
     fn store_low_at<V: BitsMut<Store = R, Order = Lsb0>>(
@@ -207,15 +191,7 @@ impl<R: BitRegister> Digits<R> for Lsb0 {
         value: i128,
         steps: &mut Steps,
     ) {
-        digits_by_chunks::store::<V>(
-            Rule::Low,
-            Direction::Ascending,
-            view,
-            at,
-            width,
-            value,
-            steps,
-        );
+        digits_by_chunks::store::<V>(Rule::Low, view, at, width, value, steps);
     }
 
     fn store_high_at<V: BitsMut<Store = R, Order = Lsb0>>(
@@ -225,15 +201,7 @@ impl<R: BitRegister> Digits<R> for Lsb0 {
         value: i128,
         steps: &mut Steps,
     ) {
-        digits_by_chunks::store::<V>(
-            Rule::High,
-            Direction::Ascending,
-            view,
-            at,
-            width,
-            value,
-            steps,
-        );
+        digits_by_chunks::store::<V>(Rule::High, view, at, width, value, steps);
     }
 }
 
@@ -247,15 +215,7 @@ impl<R: BitRegister> Digits<R> for Msb0 {
     const HIGH_WORDS: bool = false;
 
     fn load_low_at(words: &[R], place: usize, width: u32, signed: bool, steps: &mut Steps) -> i128 {
-        digits_by_chunks::load::<R, Msb0>(
-            Rule::Low,
-            Direction::Descending,
-            words,
-            place,
-            width,
-            signed,
-            steps,
-        )
+        digits_by_chunks::load::<R, Msb0>(Rule::Low, words, place, width, signed, steps)
     }
 
     fn load_high_at(
@@ -265,15 +225,7 @@ impl<R: BitRegister> Digits<R> for Msb0 {
         signed: bool,
         steps: &mut Steps,
     ) -> i128 {
-        digits_by_chunks::load::<R, Msb0>(
-            Rule::High,
-            Direction::Descending,
-            words,
-            place,
-            width,
-            signed,
-            steps,
-        )
+        digits_by_chunks::load::<R, Msb0>(Rule::High, words, place, width, signed, steps)
     }
 
     fn store_low_at<V: BitsMut<Store = R, Order = Msb0>>(
@@ -283,15 +235,7 @@ impl<R: BitRegister> Digits<R> for Msb0 {
         value: i128,
         steps: &mut Steps,
     ) {
-        digits_by_chunks::store::<V>(
-            Rule::Low,
-            Direction::Descending,
-            view,
-            at,
-            width,
-            value,
-            steps,
-        );
+        digits_by_chunks::store::<V>(Rule::Low, view, at, width, value, steps);
     }
 
     fn store_high_at<V: BitsMut<Store = R, Order = Msb0>>(
@@ -301,15 +245,7 @@ impl<R: BitRegister> Digits<R> for Msb0 {
         value: i128,
         steps: &mut Steps,
     ) {
-        digits_by_chunks::store::<V>(
-            Rule::High,
-            Direction::Descending,
-            view,
-            at,
-            width,
-            value,
-            steps,
-        );
+        digits_by_chunks::store::<V>(Rule::High, view, at, width, value, steps);
     }
 }
 
@@ -323,7 +259,7 @@ impl<R: BitRegister> Digits<R> for HiLo {
     const HIGH_WORDS: bool = false;
 
     fn load_low_at(words: &[R], place: usize, width: u32, signed: bool, steps: &mut Steps) -> i128 {
-        digits_by_bits::load_low_at::<R, HiLo>(words, place, width, signed, steps)
+        digits_by_chunks::load::<R, HiLo>(Rule::Low, words, place, width, signed, steps)
     }
 
     fn load_high_at(
@@ -333,7 +269,7 @@ impl<R: BitRegister> Digits<R> for HiLo {
         signed: bool,
         steps: &mut Steps,
     ) -> i128 {
-        digits_by_bits::load_high_at::<R, HiLo>(words, place, width, signed, steps)
+        digits_by_chunks::load::<R, HiLo>(Rule::High, words, place, width, signed, steps)
     }
 
     fn store_low_at<V: BitsMut<Store = R, Order = HiLo>>(
@@ -343,7 +279,7 @@ impl<R: BitRegister> Digits<R> for HiLo {
         value: i128,
         steps: &mut Steps,
     ) {
-        digits_by_bits::store_low_at::<V>(view, at, width, value, steps);
+        digits_by_chunks::store::<V>(Rule::Low, view, at, width, value, steps);
     }
 
     fn store_high_at<V: BitsMut<Store = R, Order = HiLo>>(
@@ -353,6 +289,6 @@ impl<R: BitRegister> Digits<R> for HiLo {
         value: i128,
         steps: &mut Steps,
     ) {
-        digits_by_bits::store_high_at::<V>(view, at, width, value, steps);
+        digits_by_chunks::store::<V>(Rule::High, view, at, width, value, steps);
     }
 }

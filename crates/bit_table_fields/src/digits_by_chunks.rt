@@ -1,10 +1,8 @@
-//! Numbers in windows by chunks: what an order does whose positions go straight with the indices. A call counts one
-//! step a bit, as `digits_by_bits` does.
+//! Numbers in windows by chunks, for every order. A call counts one step a bit, as `digits_by_bits` does.
 
 ghost use Rattle.std.specs.Prelude.{◌≡◌, ℕ, ◌+◌, ◌*◌, ◌^◌, ◌<◌, ◌≤◌, length};
 ghost use Rattle.bit_addressing_memory.specs.Bits.{digit_at};
 ghost use Rattle.bit_addressing_memory.specs.Memory.{memory, piece, read_by, with_piece};
-ghost use Rattle.bit_addressing_memory.specs.Straight.{Goes};
 ghost use Rattle.bit_slice_views_mut.specs.Frame.{KeepsBeside};
 ghost use Rattle.bit_slice_words.specs.Steps.{Takes};
 ghost use Rattle.bit_table_fields.specs.Chunks.{digits_in, rule_way, ChunkOf};
@@ -14,7 +12,7 @@ ghost use Rattle.bit_table_layout.specs.Rows.{field_bits};
 
 use crate::digits_by_bits::number_of;
 use bit_addressing_memory::{BitOrder, BitRegister, Direction};
-use bit_slice_chunks::{faced, read_bits, write_bits};
+use bit_slice_chunks::any_order::{read_bits, write_bits};
 use bit_slice_views_mut::BitsMut;
 use bit_slice_words::Steps;
 use bit_table_layout::Rule;
@@ -22,14 +20,12 @@ use bit_table_layout::Rule;
 /// `Digits::load_low_at` or `Digits::load_high_at`, as the rule says.
 pub(crate) fn load<R: BitRegister, O: BitOrder<R>>(
     rule: Rule,
-    direction: Direction,
     words: &[R],
     place: usize,
     width: u32,
     signed: bool,
     steps: &mut Steps,
 ) -> i128
-    requires goes { Goes R.BITS O.position direction }
     requires some { 1 ≤ width }
     requires narrow { width ≤ 64 }
     requires within { place + width ≤ length words.now * R.BITS }
@@ -38,9 +34,8 @@ pub(crate) fn load<R: BitRegister, O: BitOrder<R>>(
         (piece (memory (read_by R.BitRegister O.position) words.now) place width) }
     ensures steps { Takes steps.old steps.new width width }
 {
-    let chunk = read_bits::<R, O>(direction, words, place, width as usize);
-    let turned = faced(direction, way_of(rule), chunk);
-    let digits = digits_of(rule, turned, width);
+    let chunk = read_bits::<R, O>(way_of(rule), words, place, width as usize);
+    let digits = digits_of(rule, chunk, width);
     steps.many(width as usize);
     number_of(u128::from(digits), width, signed)
 }
@@ -48,14 +43,12 @@ pub(crate) fn load<R: BitRegister, O: BitOrder<R>>(
 /// `Digits::store_low_at` or `Digits::store_high_at`, as the rule says.
 pub(crate) fn store<V: BitsMut>(
     rule: Rule,
-    direction: Direction,
     view: &mut V,
     at: usize,
     width: u32,
     value: i128,
     steps: &mut Steps,
 )
-    requires goes { Goes V.Store.BITS V.Order.position direction }
     requires some { 1 ≤ width }
     requires narrow { width ≤ 64 }
     requires within { at + width ≤ length (V.bits view.old) }
@@ -67,7 +60,7 @@ pub(crate) fn store<V: BitsMut>(
     let place = view.first_place();
     let all = view.len();
     view.write(|words| {
-        write_number::<V::Store, V::Order>(rule, direction, words, place, all, at, width, value)
+        write_number::<V::Store, V::Order>(rule, words, place, all, at, width, value)
     });
     steps.many(width as usize);
 }
@@ -75,7 +68,6 @@ pub(crate) fn store<V: BitsMut>(
 // Makes the `width` bits from `at` on of a window digits of a number.
 fn write_number<R: BitRegister, O: BitOrder<R>>(
     rule: Rule,
-    direction: Direction,
     words: &mut [R],
     place: usize,
     all: usize,
@@ -83,7 +75,6 @@ fn write_number<R: BitRegister, O: BitOrder<R>>(
     width: u32,
     value: i128,
 )
-    requires goes { Goes R.BITS O.position direction }
     requires some { 1 ≤ width }
     requires narrow { width ≤ 64 }
     requires within { place + all ≤ length words.old * R.BITS }
@@ -95,8 +86,7 @@ fn write_number<R: BitRegister, O: BitOrder<R>>(
     ensures beside { KeepsBeside (read_by R.BitRegister O.position) words.old words.new place all }
 {
     let chunk = chunk_of(rule, value, width);
-    let turned = faced(way_of(rule), direction, chunk);
-    write_bits::<R, O>(direction, words, place + at, width as usize, turned);
+    write_bits::<R, O>(way_of(rule), words, place + at, width as usize, chunk);
 }
 
 // The direction in which the digits of a rule lie in a chunk as they do in a number.

@@ -2,7 +2,6 @@
 
 ghost use Rattle.std.specs.Prelude.{◌≡◌, ◌+◌, ◌*◌, ◌^◌, ◌<◌, ◌≤◌, Bool, List, [], length, map, take, IfOk, OnOk, Some};
 ghost use Rattle.bit_addressing_memory.specs.Memory.{read_by};
-ghost use Rattle.bit_addressing_memory.specs.Straight.{Goes};
 ghost use Rattle.bit_containers_vector.specs.Vector.{vec_bits};
 ghost use Rattle.bit_slice_chunks.specs.Chunk.{chunk_bit, IsChunk};
 ghost use Rattle.bit_slice_views.specs.View.{view_bits};
@@ -12,9 +11,9 @@ ghost use Rattle.bit_table_commands.specs.LetterSets.{letter_count};
 ghost use Rattle.bit_table_commands.specs.Marks.{number_in_field, passes};
 ghost use Rattle.bit_table.specs.Told.{ones_from, told, HasChunk};
 
-use bit_addressing_memory::{BitOrder, BitRegister, Direction, direction_of};
+use bit_addressing_memory::{BitOrder, BitRegister, Direction};
 use bit_containers_vector::BitVec;
-use bit_slice_chunks::{read_bits, read_chunk};
+use bit_slice_chunks::any_order::{direction_for, read_bits, read_chunk};
 use bit_slice_views::{BitSlice, BitStore, Bits};
 use bit_slice_words::{Steps, WordPaths};
 use bit_table_commands::Test;
@@ -68,38 +67,16 @@ pub(crate) fn places_of_ones<T: BitRegister, O: BitOrder<T>>(
         ≡ ones_from 0 (view_bits (read_by T.BitRegister O.position) bits.entry)) }
 {
     let mut places = Vec::with_capacity(alloc, bits.count_ones())?;
-    match direction_of::<T, O>() {
-        Some(direction) => add_by_chunks(direction, &mut places, bits)?,
-        None => add_by_bits(&mut places, bits)?,
-    }
+    add_by_chunks(direction_for::<T, O>(), &mut places, bits)?;
     Ok(places)
 }
 
-// Adds the places of the ones to none, bit by bit.
-fn add_by_bits<T: BitRegister, O: BitOrder<T>>(
-    places: &mut Vec<usize>,
-    bits: BitSlice<'_, T, O>,
-) -> Result<(), AllocError>
-    requires { places.old.items ≡ [] }
-    ensures { OnOk result (places.new.items
-        ≡ ones_from 0 (view_bits (read_by T.BitRegister O.position) bits.entry)) }
-{
-    let (_, _, len) = bits.parts();
-    for place in 0..len {
-        if bits.bit(place) {
-            places.push(place)?;
-        }
-    }
-    Ok(())
-}
-
-// The same in an order that goes straight, chunk by chunk.
+// Adds the places of the ones to none, chunk by chunk.
 fn add_by_chunks<T: BitRegister, O: BitOrder<T>>(
     direction: Direction,
     places: &mut Vec<usize>,
     bits: BitSlice<'_, T, O>,
 ) -> Result<(), AllocError>
-    requires goes { Goes T.BITS O.position direction }
     requires none { places.old.items ≡ [] }
     ensures { OnOk result (places.new.items
         ≡ ones_from 0 (view_bits (read_by T.BitRegister O.position) bits.entry)) }
@@ -122,7 +99,6 @@ fn chunk_at<T: BitRegister, O: BitOrder<T>>(
     place: usize,
     count: usize,
 ) -> u64
-    requires goes { Goes T.BITS O.position direction }
     requires some { 0 < count }
     requires few { count ≤ 64 }
     requires within { place + count ≤ length words.now * T.BITS }

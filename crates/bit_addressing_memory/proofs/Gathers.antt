@@ -1,11 +1,11 @@
 -- One word of a move, of the two at most that hold its bits.
 --
 -- `moved_bit_inside`, `moved_bit_below`, `moved_bit_above`: what the move leaves at a place.
--- `gathered_of`: the word whole. `taken_of_one`, `taken_of_two`: the source's bits in it.
+-- `gathered_of`: the word whole.
 use Rattle.std.proofs.Common.{◌≡◌, ℕ, ◌+◌, ◌-◌, ◌*◌, ◌<◌, ◌≤◌, min, List, length, get_or, ap, sym, ◌∙◌, inl, inr, arith}
 use Rattle.std.proofs.lemmas.Bool.{cases_lt}
 use Rattle.std.proofs.lemmas.Bool.Decides.{nat_tests}
-use Rattle.bit_addressing_memory.specs.Memory.{Reading, indexed, reading_in, entry}
+use Rattle.bit_addressing_memory.specs.Memory.{Reading, entry}
 use Rattle.bit_addressing_memory.specs.Partial.{IsStored}
 use Rattle.bit_addressing_memory.proofs.EntryLemmas.{entry_read}
 use Rattle.bit_addressing_memory.specs.MoveSteps.{moved_bit, IsGathered}
@@ -52,36 +52,3 @@ gathered_of reading before k source target len from upto place own word within r
             ∙ sym (moved_bit_above reading before source target len (k * reading.bits + i) (omega arith))
       ]
     ]
-
--- the bits of one word, from an index on
-pub taken_of_one : {R : Type 0} (b : ℕ) (number : R → ℕ) (at : ℕ → ℕ) (words : List R) (j index from upto place : ℕ)
-    (own x word : R) → j * b + index ≡ place → index + (upto - from) ≤ b → j < length words → x ≡ get_or words j x
-    → IsStored (reading_in b number at) own word from upto (λ i. indexed number at x (index + (i - from)))
-    → IsStored (reading_in b number at) own word from upto
-    (λ i. entry (reading_in b number at) words (place + (i - from)))
-taken_of_one b number at words j index from upto place own x word is few within read stored = record {
-  inside = λ i high low small.
-      let here : j * b + (index + (i - from)) ≡ place + (i - from) = omega arith in
-      stored.inside i high low small
-      ∙ entry_read (reading_in b number at) words j (index + (i - from)) x (omega arith) within read
-      ∙ ap (entry (reading_in b number at) words) here;
-  below = stored.below;
-  above = stored.above;
-}
-
--- and those of the next one behind them
-pub taken_of_two : {R : Type 0} (reading : Reading R) (words : List R) (from middle upto place next : ℕ)
-    (own begun word : R) → from ≤ middle → middle ≤ upto → next ≡ place + (middle - from)
-    → IsStored reading own begun from middle (λ i. entry reading words (place + (i - from)))
-    → IsStored reading begun word middle upto (λ i. entry reading words (next + (i - middle)))
-    → IsStored reading own word from upto (λ i. entry reading words (place + (i - from)))
-taken_of_two reading words from middle upto place next own begun word first last is one two = record {
-  inside = λ i high low small. elim (cases_lt i middle) [
-    | inl before ↦ two.below i before small ∙ one.inside i high before small
-    | inr behind ↦
-        let here : next + (i - middle) ≡ place + (i - from) = omega arith in
-        two.inside i behind low small ∙ ap (entry reading words) here
-  ];
-  below = λ i low small. two.below i (omega arith) small ∙ one.below i low small;
-  above = λ i high small. two.above i high small ∙ one.above i (omega arith) small;
-}

@@ -1,5 +1,6 @@
 pub mod CopyLemmas
 pub mod EntryLemmas
+pub mod LimbLemmas
 pub mod MemoryLemmas
 pub mod OverwriteLemmas
 pub mod PlaceLemmas

@@ -1,9 +1,9 @@
 -- One entry overwritten, and what it tells of each entry.
 --
 -- From the record: `written_there`, `written_others`. To the record: `writes_from`.
-use Rattle.std.proofs.Common.{◌≡◌, ◌≢◌, ℕ, ◌+◌, Bool, List, length, sym, ap, ◌∙◌, inl, inr, arith}
+use Rattle.std.proofs.Common.{◌≡◌, ◌≢◌, ℕ, ◌+◌, ◌-◌, ◌<◌, Bool, List, length, sym, ap, ◌∙◌, inl, inr, arith}
 use Rattle.std.proofs.lemmas.Bool.{cases_lt}
-use Rattle.bit_addressing_memory.specs.Memory.{Reading, entry, Writes}
+use Rattle.bit_addressing_memory.specs.Memory.{Reading, entry, Overwrites, Writes}
 
 -- the entry written is the bit
 pub written_there : {R : Type 0} {reading : Reading R} {before after : List R} {place : ℕ} {bit : Bool}
@@ -30,4 +30,25 @@ writes_from {reading} {after} {place} there others words = record {
   below = λ p low. others p (omega arith);
   above = λ p high. others p (omega arith);
   words = words;
+}
+
+-- two stretches end to end
+pub overwrites_join : {R : Type 0} (reading : Reading R) (before mid after : List R) (place n next m all : ℕ)
+    (now then : ℕ → Bool) → next ≡ place + n → all ≡ n + m → ((i : ℕ) → i < m → then i ≡ now (n + i))
+    → Overwrites reading before mid place n now → Overwrites reading mid after next m then
+    → Overwrites reading before after place all now
+overwrites_join reading before mid after place n next m all now then ends sum same one two = record {
+  there = λ k small. elim (cases_lt k n) [
+    | inl low ↦ two.below (place + k) (omega arith) ∙ one.there k low
+    | inr high ↦
+        let at : next + (k - n) ≡ place + k = omega arith in
+        let back : n + (k - n) ≡ k = omega arith in
+        ap (entry reading after) (sym at)
+        ∙ two.there (k - n) (omega arith)
+        ∙ same (k - n) (omega arith)
+        ∙ ap now back
+  ];
+  below = λ p low. two.below p (omega arith) ∙ one.below p low;
+  above = λ p high. two.above p (omega arith) ∙ one.above p (omega arith);
+  words = two.words ∙ one.words;
 }

@@ -40,3 +40,28 @@ place_order b v i w j low before =
     let next : v + 1 ≤ w = omega arith in
     let past : (v + 1) * b ≤ w * b = mul-le-mul_right b next in
     omega arith
+
+-- ---- the words of a stretch, by numbers of bits that are known by an equation
+
+-- the first and the last word of some bits
+pub first_word : (b bits place : ℕ) → bits ≡ b → place / bits * b + place % bits ≡ place
+first_word b bits place is = rw is (div-add-mod' place b)
+
+-- a word up to the last one begins before the end
+pub begins_before : (b bits end k : ℕ) → bits ≡ b → 0 < b → 0 < end → k < (end - 1) / bits + 1 → k * b < end
+begins_before b bits end k is some any low =
+    let whole : (end - 1) / bits * b + (end - 1) % bits ≡ end - 1 = first_word b bits (end - 1) is in
+    let row : k * b ≤ (end - 1) / bits * b = mul-le-mul_right b (omega arith) in
+    omega arith
+
+-- a word behind the first one begins behind the place
+pub begins_behind : (b bits place k : ℕ) → bits ≡ b → 0 < b → place / bits + 1 ≤ k → place < k * b
+begins_behind b bits place k is some high =
+    let whole : place / bits * b + place % bits ≡ place = first_word b bits place is in
+    let row : (place / bits + 1) * b ≤ k * b = mul-le-mul_right b high in
+    let rest : place % bits < b = rw is (omega arith) in
+    omega arith
+
+-- the last word ends behind the end
+pub ends_behind : (b bits end k : ℕ) → bits ≡ b → 0 < b → (end - 1) / bits + 1 ≤ k → end ≤ k * b
+ends_behind b bits end k is some high = omega (arith, begins_behind b bits (end - 1) k is some high)

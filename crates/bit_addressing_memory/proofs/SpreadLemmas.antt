@@ -3,7 +3,7 @@ use Rattle.std.proofs.Common.{◌≡◌, ◌≢◌, ℕ, ◌+◌, ◌<◌, ◌�
 use Rattle.std.proofs.lemmas.Bool.{cases_lt}
 use Rattle.bit_addressing_order.specs.Bits.{with_digit}
 use Rattle.bit_addressing_order.specs.BitOrder.{IsLawful}
-use Rattle.bit_addressing_memory.specs.Memory.{indexed, reading_in}
+use Rattle.bit_addressing_memory.specs.Memory.{Reading, reading_in}
 use Rattle.bit_addressing_memory.specs.Partial.{IsStored}
 use Rattle.bit_addressing_memory.proofs.EntryLemmas.{indexed_same, indexed_other}
 
@@ -26,3 +26,17 @@ stored_next b number at select mask word made next from i bit now law low order 
       below = λ j before small. other j small (omega arith) ∙ had.below j before small;
       above = λ j behind small. other j small (omega arith) ∙ had.above j (omega arith) small;
     }
+
+-- more bits behind those that are put
+pub stored_more : {Q : Type 0} (reading : Reading Q) (word mid next : Q) (from middle upto : ℕ) (now then : ℕ → Bool)
+    → from ≤ middle → middle ≤ upto → ((i : ℕ) → middle ≤ i → i < upto → then i ≡ now i)
+    → IsStored reading word mid from middle now → IsStored reading mid next middle upto then
+    → IsStored reading word next from upto now
+stored_more reading word mid next from middle upto now then first last same one two = record {
+  inside = λ i high low small. elim (cases_lt i middle) [
+    | inl before ↦ two.below i before small ∙ one.inside i high before small
+    | inr behind ↦ two.inside i behind low small ∙ same i behind low
+  ];
+  below = λ i low small. two.below i (omega arith) small ∙ one.below i low small;
+  above = λ i high small. two.above i high small ∙ one.above i (omega arith) small;
+}

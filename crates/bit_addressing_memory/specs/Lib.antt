@@ -1,3 +1,4 @@
+pub mod Limbs
 pub mod Memory
 pub mod Place
 pub mod Partial

@@ -11,8 +11,8 @@ ghost use Rattle.bit_addressing_memory.specs.Sweep.{reads_of};
 ghost use Rattle.bit_addressing_memory.specs.Ways.{way_for};
 
 use crate::direction::direction_of;
+use crate::limbs::with_bits;
 use crate::shifted::put_shifted;
-use crate::spreads::spread;
 use crate::sweep::{Sweep, Way};
 use bit_addressing_order::mem::bits_of;
 use bit_addressing_order::{BitOrder, BitRegister};
@@ -129,9 +129,9 @@ fn gathered<R: BitRegister, O: BitOrder<R>>(
     word
 }
 
-// A word with the bits of the words from a place on at its indices from one up to before another: they are of two words at
-// most.
-fn taken<R: BitRegister, O: BitOrder<R>>(
+/// A word with the bits of a sweep's words from a place on at its indices from one up to before another, in any lawful
+/// order: limb by limb. Its other bits stay. No read is counted.
+pub fn taken<R: BitRegister, O: BitOrder<R>>(
     sweep: &Sweep<'_, R>,
     place: usize,
     own: R,
@@ -145,15 +145,14 @@ fn taken<R: BitRegister, O: BitOrder<R>>(
     ensures { IsStored (read_by R.BitRegister O.position) own result from upto
         (λ i. entry (read_by R.BitRegister O.position) (sweep_words sweep.now) (place + (i - from))) }
 {
-    let bits = bits_of::<R>();
-    let word = place / bits;
-    let index = (place % bits) as u8;
-    let first = sweep.look(word);
-    if upto - from <= R::BITS - index {
-        return spread::<R, O, R, O>(first, index, own, from, upto);
+    let words = sweep.all();
+    if upto <= 64 {
+        return with_bits::<R, O>(own, 0, from, upto, words, place);
     }
-    let middle = from + (R::BITS - index);
-    let begun = spread::<R, O, R, O>(first, index, own, from, middle);
-    let next = sweep.look(word + 1);
-    spread::<R, O, R, O>(next, 0, begun, middle, upto)
+    if from >= 64 {
+        return with_bits::<R, O>(own, 64, from, upto, words, place);
+    }
+    let begun = with_bits::<R, O>(own, 0, from, 64, words, place);
+    let behind = place + (64 - from) as usize;
+    with_bits::<R, O>(begun, 64, 64, upto, words, behind)
 }

@@ -195,9 +195,10 @@ fn shifted<R: BitRegister, O: BitOrder<R>>(
     stored::<R, O>(own, there, head, tail)
 }
 
-// A word that begins with so many bits of the memory, those from a place on: of the word there, and
-// of the next one where they go on in it.
-fn bits_from<R: BitRegister, O: BitOrder<R>>(
+/// A word that begins with so many bits of a sweep's words, those from a place on: of the word there, and of the next
+/// one where they go on in it. The positions go in `direction`.
+#[inline(always)]
+pub fn bits_from<R: BitRegister, O: BitOrder<R>>(
     sweep: &mut Sweep<'_, R>,
     direction: Direction,
     place: usize,

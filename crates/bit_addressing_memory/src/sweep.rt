@@ -87,13 +87,12 @@ impl<'a, R: Copy> Sweep<'a, R> {
         self.words[k]
     }
 
-    // The word `k`, which is one of the words. No read is counted.
+    // All words. No read is counted.
     #[inline(always)]
-    pub(crate) fn look(&self, k: usize) -> R
-        requires { k < length (sweep_words self.now) }
-        ensures { result ≡ slice_index_or (sweep_words self.now) k result }
+    pub(crate) fn all(&self) -> &[R]
+        ensures { result.now ≡ sweep_words self.now }
     {
-        self.words[k]
+        self.words
     }
 
     // Counts so many reads more.

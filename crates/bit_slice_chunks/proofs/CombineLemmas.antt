@@ -11,8 +11,9 @@ use Rattle.bit_addressing_memory.specs.Memory.{Reading, entry, reading_in, Overw
 use Rattle.bit_addressing_memory.proofs.PartsLemmas.{stores_as}
 use Rattle.bit_addressing_memory.specs.declared.direction.Direction.{Direction}
 use Rattle.bit_addressing_memory.specs.Straight.{straight, Goes}
+use Rattle.bit_addressing_memory.proofs.LimbLemmas.{or_left, or_right}
 use Rattle.bit_slice_chunks.specs.Chunk.{chunk_bit, IsChunk, IsLowered, IsRaised, IsCut, IsRest, IsPart}
-use Rattle.bit_slice_chunks.proofs.TransferLemmas.{or_left, or_right, part_entry}
+use Rattle.bit_slice_chunks.proofs.TransferLemmas.{part_entry}
 
 -- ---- digits of two numbers combined
 

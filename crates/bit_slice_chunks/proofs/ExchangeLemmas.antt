@@ -7,7 +7,7 @@ use Rattle.std.proofs.lemmas.Bool.{agree_below, agree_below_at, and_parts, cases
 use Rattle.std.proofs.lemmas.Nat.Bits.{bit_at_and, bit_at_or, bit_at-lt}
 use Rattle.bit_addressing_memory.specs.Bits.{digit_at}
 use Rattle.bit_addressing_memory.proofs.ShiftLemmas.{bit_at_shr, bit_at_cut, bit_at_shl_low, bit_at_shl_high}
-use Rattle.bit_slice_chunks.proofs.TransferLemmas.{no_digit}
+use Rattle.bit_addressing_memory.proofs.LimbLemmas.{no_digit}
 use Rattle.bit_slice_chunks.specs.Exchanges.{exchange}
 
 -- the digit that an exchange takes digit p from, where `lower` tells whether p is one of a lower group

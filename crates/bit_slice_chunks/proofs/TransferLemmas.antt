@@ -9,15 +9,14 @@ use Rattle.std.specs.Int.{bit_at}
 use Rattle.bit_addressing_memory.specs.Bits.{digit_at}
 use Rattle.bit_addressing_memory.specs.Memory.{Reading, entry, reading_in, Overwrites}
 use Rattle.bit_addressing_memory.proofs.EntryLemmas.{entry_read}
+use Rattle.bit_addressing_memory.proofs.LimbLemmas.{or_left, or_right}
+use Rattle.bit_addressing_memory.proofs.OverwriteLemmas.{overwrites_join}
+use Rattle.bit_addressing_memory.proofs.PlaceLemmas.{begins_before}
 use Rattle.bit_addressing_memory.specs.declared.direction.Direction.{Direction}
 use Rattle.bit_addressing_memory.specs.Straight.{straight, Goes}
 use Rattle.bit_slice_chunks.specs.Chunk.{chunk_bit, IsChunk, ReadTo, IsLowered, IsRaised, IsCut, IsPart}
 
 -- ---- where words lie
-
--- the first and the last word of some bits
-pub first_word : (b bits place : ℕ) → bits ≡ b → place / bits * b + place % bits ≡ place
-first_word b bits place is = rw is (div-add-mod' place b)
 
 pub less_words : (x y w : ℕ) → x * w < y * w → x < y
 less_words x y w less = elim (cases_lt x y) [
@@ -25,14 +24,7 @@ less_words x y w less = elim (cases_lt x y) [
   | inr high ↦ absurd (omega (arith, mul-le-mul_right w high))
 ]
 
--- a word up to the last one begins before the end
-pub begins_before : (b bits end k : ℕ) → bits ≡ b → 0 < b → 0 < end → k < (end - 1) / bits + 1 → k * b < end
-begins_before b bits end k is some any low =
-    let whole : (end - 1) / bits * b + (end - 1) % bits ≡ end - 1 = first_word b bits (end - 1) is in
-    let row : k * b ≤ (end - 1) / bits * b = mul-le-mul_right b (omega arith) in
-    omega arith
-
--- and is one of the words
+-- a word up to the last one is one of the words
 pub word_in : (b bits end k words : ℕ) → bits ≡ b → 0 < b → 0 < end → k < (end - 1) / bits + 1 → end ≤ words * b
     → k < words
 word_in b bits end k words is some any low within =
@@ -43,31 +35,7 @@ word_in b bits end k words is some any low within =
 pub first_in : (b bits place n words : ℕ) → bits ≡ b → 0 < b → 0 < n → place + n ≤ words * b → place / bits < words
 first_in b bits place n words is some any within = rw is (div_below place b words some (omega arith))
 
--- a word behind the first one begins behind the place
-pub begins_behind : (b bits place k : ℕ) → bits ≡ b → 0 < b → place / bits + 1 ≤ k → place < k * b
-begins_behind b bits place k is some high =
-    let whole : place / bits * b + place % bits ≡ place = first_word b bits place is in
-    let row : (place / bits + 1) * b ≤ k * b = mul-le-mul_right b high in
-    let rest : place % bits < b = rw is (omega arith) in
-    omega arith
-
--- the last word ends behind the end
-pub ends_behind : (b bits end k : ℕ) → bits ≡ b → 0 < b → (end - 1) / bits + 1 ≤ k → end ≤ k * b
-ends_behind b bits end k is some high = omega (arith, begins_behind b bits (end - 1) k is some high)
-
 -- ---- reading
-
--- the digits of two numbers put together, where one of them has none
-pub no_digit : (y p : ℕ) → digit_at y p ≡ false → bit_at y p ≡ 0
-no_digit y p none =
-    let other : bit_at y p ≢ 1 = eqb-false (bit_at y p) 1 none in
-    omega (arith, bit_at-lt y p)
-
-pub or_left : (x y p : ℕ) → digit_at y p ≡ false → digit_at (bit_or x y) p ≡ digit_at x p
-or_left x y p none = ap (λ d. d == 1) (omega (arith, bit_at_or x y p, no_digit y p none))
-
-pub or_right : (x y p : ℕ) → digit_at x p ≡ false → digit_at (bit_or x y) p ≡ digit_at y p
-or_right x y p none = ap (λ d. d == 1) (omega (arith, bit_at_or x y p, no_digit x p none))
 
 module _ {R : Type 0} (b : ℕ) (number : R → ℕ) (at : ℕ → ℕ) (direction : Direction) (goes : Goes b at direction)
     (words : List R) (place : ℕ) where
@@ -125,27 +93,6 @@ read_all reading words place end count direction chunk r few within had cut = re
 }
 
 -- ---- writing
-
--- two stretches end to end
-pub overwrites_join : {R : Type 0} (reading : Reading R) (before mid after : List R) (place n next m all : ℕ)
-    (now then : ℕ → Bool) → next ≡ place + n → all ≡ n + m → ((i : ℕ) → i < m → then i ≡ now (n + i))
-    → Overwrites reading before mid place n now → Overwrites reading mid after next m then
-    → Overwrites reading before after place all now
-overwrites_join reading before mid after place n next m all now then ends sum same one two = record {
-  there = λ k small. elim (cases_lt k n) [
-    | inl low ↦ two.below (place + k) (omega arith) ∙ one.there k low
-    | inr high ↦
-        let at : next + (k - n) ≡ place + k = omega arith in
-        let back : n + (k - n) ≡ k = omega arith in
-        ap (entry reading after) (sym at)
-        ∙ two.there (k - n) (omega arith)
-        ∙ same (k - n) (omega arith)
-        ∙ ap now back
-  ];
-  below = λ p low. two.below p (omega arith) ∙ one.below p low;
-  above = λ p high. two.above p (omega arith) ∙ one.above p (omega arith);
-  words = two.words ∙ one.words;
-}
 
 -- one word more
 pub write_more : {R : Type 0} (reading : Reading R) (before mid after : List R)

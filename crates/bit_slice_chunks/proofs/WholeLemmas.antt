@@ -12,10 +12,13 @@ use Rattle.bit_addressing_memory.specs.Partial.{IsStored}
 use Rattle.bit_addressing_memory.proofs.PartsLemmas.{stores_part}
 use Rattle.bit_addressing_memory.specs.declared.direction.Direction.{Direction}
 use Rattle.bit_addressing_memory.specs.Straight.{straight, Goes}
+use Rattle.bit_addressing_memory.proofs.OverwriteLemmas.{overwrites_join}
+use Rattle.bit_addressing_memory.proofs.PlaceLemmas.{first_word}
+use Rattle.bit_addressing_memory.proofs.LimbLemmas.{or_left, or_right}
 use Rattle.bit_slice_chunks.specs.Chunk.{chunk_bit, IsChunk, ReadTo, IsLowered, IsRaised, IsPart}
 use Rattle.bit_slice_chunks.specs.Chunk.{IsPlaced}
-use Rattle.bit_slice_chunks.proofs.TransferLemmas.{or_left, or_right, part_entry, overwrites_join}
-use Rattle.bit_slice_chunks.proofs.TransferLemmas.{first_word, less_words}
+use Rattle.bit_slice_chunks.proofs.TransferLemmas.{part_entry}
+use Rattle.bit_slice_chunks.proofs.TransferLemmas.{less_words}
 
 -- words of at most 64 bits make up 64
 pub words_of_64 : (b bits : ℕ) → IsRegisterSize b → b ≤ 64 → bits ≡ b → 64 / bits * b ≡ 64

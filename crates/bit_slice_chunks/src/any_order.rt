@@ -1,5 +1,5 @@
 //! Chunks of a memory in any lawful order, counted in any direction: by words and shifts where its positions go straight,
-//! else bit by bit, each word taken and put once.
+//! else by limbs, each word turned to the order of its digits as a whole.
 
 ghost use Rattle.std.specs.Prelude.{◌≡◌, ℕ, ◌+◌, ◌-◌, ◌*◌, ◌/◌, ◌^◌, ◌<◌, ◌≤◌, length};
 ghost use Rattle.bit_addressing_memory.specs.Memory.{entry, read_by, Overwrites};
@@ -12,8 +12,7 @@ ghost use Rattle.bit_slice_chunks.specs.Combined.{combined_bit};
 use crate::chunk::faced;
 use crate::combination::{Combination, combined};
 use crate::{combine, transfer, whole};
-use bit_addressing_memory::mem::bits_of;
-use bit_addressing_memory::{BitOrder, BitRegister, Direction, Lsb0, direction_of, spread};
+use bit_addressing_memory::{BitOrder, BitRegister, Direction, bits_in, direction_of, put_bits_in};
 
 /// The direction in which chunks of an order are had without a turn: that of its positions where they go straight.
 #[inline(always)]
@@ -48,7 +47,7 @@ pub fn read_bits<R: BitRegister, O: BitOrder<R>>(
             faced(way, direction, chunk)
         }
         None => {
-            let chunk = gather::<R, O>(words, place, count);
+            let chunk = bits_in::<R, O>(words, place, count);
             faced(Direction::Ascending, direction, chunk)
         }
     }
@@ -71,7 +70,7 @@ pub fn read_chunk<R: BitRegister, O: BitOrder<R>>(
             faced(way, direction, chunk)
         }
         None => {
-            let chunk = gather::<R, O>(words, place, 64);
+            let chunk = bits_in::<R, O>(words, place, 64);
             faced(Direction::Ascending, direction, chunk)
         }
     }
@@ -101,7 +100,7 @@ pub fn write_bits<R: BitRegister, O: BitOrder<R>>(
         }
         None => {
             let facing = faced(direction, Direction::Ascending, chunk);
-            scatter::<R, O>(words, place, count, facing);
+            put_bits_in::<R, O>(words, place, count, facing);
         }
     }
 }
@@ -126,7 +125,7 @@ pub fn write_chunk<R: BitRegister, O: BitOrder<R>>(
         }
         None => {
             let facing = faced(direction, Direction::Ascending, chunk);
-            scatter::<R, O>(words, place, 64, facing);
+            put_bits_in::<R, O>(words, place, 64, facing);
         }
     }
 }
@@ -176,69 +175,4 @@ pub fn combine_chunk<R: BitRegister, O: BitOrder<R>>(
         }
         None => combine_bits::<R, O>(direction, how, words, place, 64, other),
     }
-}
-
-// Bits of a memory as a chunk that is counted up, for every order.
-fn gather<R: BitRegister, O: BitOrder<R>>(words: &[R], place: usize, count: usize) -> u64
-    requires some { 0 < count }
-    requires few { count ≤ 64 }
-    requires within { place + count ≤ length words.now * R.BITS }
-    requires ends { place + count < 2 ^ 64 }
-    ensures { IsChunk (read_by R.BitRegister O.position) words.now place count Ascending result }
-{
-    let bits = bits_of::<R>();
-    let first = place / bits;
-    let last = (place + count - 1) / bits;
-    let mut chunk = 0u64;
-    for k in first..last + 1 {
-        let start = k * bits;
-        let from = place.saturating_sub(start);
-        let upto = bits.min(place + count - start);
-        let done = start + from - place;
-        let more = done + (upto - from);
-        chunk = spread::<R, O, u64, Lsb0>(words[k], from as u8, chunk, done as u8, more as u8);
-    }
-    chunk
-}
-
-// Makes bits of a memory those of a chunk that is counted up, for every order.
-fn scatter<R: BitRegister, O: BitOrder<R>>(words: &mut [R], place: usize, count: usize, chunk: u64)
-    requires some { 0 < count }
-    requires few { count ≤ 64 }
-    requires within { place + count ≤ length words.old * R.BITS }
-    requires ends { place + count < 2 ^ 64 }
-    ensures { Overwrites (read_by R.BitRegister O.position) words.old words.new place count
-        (chunk_bit Ascending chunk) }
-{
-    let bits = bits_of::<R>();
-    let first = place / bits;
-    let last = (place + count - 1) / bits;
-    for k in first..last + 1 {
-        let start = k * bits;
-        let from = place.saturating_sub(start);
-        let upto = bits.min(place + count - start);
-        let done = start + from - place;
-        spread_in::<R, O>(words, k, from as u8, upto as u8, chunk, done as u8);
-    }
-}
-
-// Makes the indices of one word of a memory from one up to before another the bits of a chunk from `first` on.
-#[inline(always)]
-fn spread_in<R: BitRegister, O: BitOrder<R>>(
-    words: &mut [R],
-    at: usize,
-    from: u8,
-    upto: u8,
-    chunk: u64,
-    first: u8,
-)
-    requires inside { at < length words.old }
-    requires order { from ≤ upto }
-    requires within { upto ≤ R.BITS }
-    requires few { first + (upto - from) ≤ 64 }
-    ensures { Overwrites (read_by R.BitRegister O.position) words.old words.new (at * R.BITS + from)
-        (upto - from) (λ i. chunk_bit Ascending chunk (first + (from + i - from))) }
-{
-    let word = words[at];
-    words[at] = spread::<u64, Lsb0, R, O>(chunk, first, word, from, upto);
 }

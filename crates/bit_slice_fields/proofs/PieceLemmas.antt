@@ -17,8 +17,9 @@ use Rattle.bit_addressing_memory.proofs.WindowLemmas.{window_bit}
 use Rattle.bit_addressing_memory.specs.declared.direction.Direction.{Direction}
 use Rattle.bit_addressing_memory.specs.declared.direction.Direction.TheVariants.{Ascending, Descending}
 use Rattle.bit_addressing_memory.specs.Straight.{straight, Goes}
+use Rattle.bit_addressing_memory.proofs.OverwriteLemmas.{overwrites_join}
+use Rattle.bit_addressing_memory.proofs.LimbLemmas.{no_digit}
 use Rattle.bit_slice_chunks.specs.Chunk.{chunk_bit, IsChunk}
-use Rattle.bit_slice_chunks.proofs.TransferLemmas.{no_digit, overwrites_join}
 use Rattle.bit_slice_fields.specs.Number.{segment_start, segment_end, weight, CountsFrom}
 use Rattle.bit_slice_fields.specs.Pieces.{way_for, digits_in, least_bit, ChunkOf, IsPiece}
 use Rattle.bit_slice_fields.proofs.DigitsLemmas.{Gathered}

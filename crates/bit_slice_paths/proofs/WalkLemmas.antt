@@ -9,9 +9,10 @@ use Rattle.bit_addressing_memory.specs.Memory.{Reading, entry, Overwrites, Copie
 use Rattle.bit_addressing_memory.proofs.PartsLemmas.{stores_as}
 use Rattle.bit_addressing_memory.specs.declared.direction.Direction.{Direction}
 use Rattle.bit_addressing_memory.specs.declared.direction.Direction.TheVariants.{Ascending, Descending}
+use Rattle.bit_addressing_memory.proofs.OverwriteLemmas.{overwrites_join}
 use Rattle.bit_slice_chunks.specs.Chunk.{chunk_bit, IsChunk}
 use Rattle.bit_slice_chunks.specs.Combined.{Combines}
-use Rattle.bit_slice_chunks.proofs.TransferLemmas.{overwrites_join, write_none}
+use Rattle.bit_slice_chunks.proofs.TransferLemmas.{write_none}
 
 -- ---- one chunk
 

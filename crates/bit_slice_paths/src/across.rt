@@ -1,5 +1,5 @@
-//! Walks between two memories by chunks of 64 bits. Each goes straight in a direction of its own: a chunk of the other
-//! one is turned to the direction of the first.
+//! Walks between two memories by chunks of 64 bits, each in any lawful order. A memory has chunks of a direction of its
+//! own: a chunk of the other one is turned to the direction of the first.
 
 ghost use Rattle.std.specs.Prelude.{◌≡◌, ℕ, ◌+◌, ◌*◌, ◌^◌, ◌<◌, ◌≤◌, length};
 ghost use Rattle.bit_addressing_memory.specs.Memory.{read_by};

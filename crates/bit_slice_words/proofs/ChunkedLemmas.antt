@@ -1,6 +1,6 @@
 -- The first and the last bit of a kind in a chunk of a memory, and in stretches of chunks end to end.
-use Rattle.std.proofs.Common.{◌≡◌, ℕ, ◌+◌, ◌-◌, ◌^◌, ◌==◌, ◌<◌, ◌≤◌, ◌≢◌, Bool, true, false, not, List, Option, Some, None}
-use Rattle.std.proofs.Common.{refl, sym, ap, ◌∙◌, inl, inr, arith}
+use Rattle.std.proofs.Common.{◌≡◌, ℕ, ◌+◌, ◌-◌, ◌^◌, ◌==◌, ◌<◌, ◌≤◌, ◌≢◌, Bool, true, false, not}
+use Rattle.std.proofs.Common.{List, Option, Some, None, refl, sym, ap, ◌∙◌, inl, inr, arith}
 use Rattle.std.proofs.lemmas.Bool.{cases_lt}
 use Rattle.std.proofs.lemmas.Nat.Bits.{bit_at_ones}
 use Rattle.bit_addressing_memory.specs.declared.direction.Direction.{Direction}

@@ -15,8 +15,8 @@ use Rattle.bit_addressing_memory.specs.Bits.{digit_at}
 use Rattle.bit_addressing_memory.specs.Memory.{Reading, memory, piece, with_piece, Overwrites}
 use Rattle.bit_addressing_memory.proofs.ShiftLemmas.{bit_at_shr, bit_at_cut, bit_at_shl_high}
 use Rattle.bit_addressing_memory.proofs.WindowLemmas.{window_bit, length-window, window_overwritten}
+use Rattle.bit_addressing_memory.proofs.LimbLemmas.{no_digit}
 use Rattle.bit_slice_chunks.specs.Chunk.{chunk_bit, IsChunk}
-use Rattle.bit_slice_chunks.proofs.TransferLemmas.{no_digit}
 use Rattle.bit_table_layout.specs.declared.layout.Rule.{Rule}
 use Rattle.bit_table_layout.specs.declared.layout.Rule.TheVariants.{Low, High}
 use Rattle.bit_table_layout.specs.Digits.{binary, has_digit}

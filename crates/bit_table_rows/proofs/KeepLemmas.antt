@@ -1,28 +1,22 @@
 -- Bits filled in one after another by a sweep that goes up.
 --
 -- What stands at a place: `filled_inside`, `filled_before`, `filled_behind`, `filled_added`, `filled_beside`.
--- More bits in one word: `word_begun`, `word_made` (a bit), `word_moved` (several), `filled_within`, `filled_put`; by a
--- sweep `fills_within`, `fills_put`. A row: `fills_none`, `fills_more`, `fills_bit`, `fills_part`. All of them: `rest_none`,
--- `rest_put`.
+-- More bits in one word: `word_begun`, `word_moved`, `filled_within`, `filled_put`; by a sweep `fills_within`,
+-- `fills_put`. A row: `fills_none`, `fills_more`, `fills_part`. All of them: `rest_none`, `rest_put`.
 use Rattle.std.proofs.Common.{◌≡◌, ◌≢◌, ◌⊎◌, ℕ, suc, ◌+◌, ◌-◌, ◌*◌, ◌/◌, ◌%◌, ◌<◌, ◌≤◌}
 use Rattle.std.proofs.Common.{◌++◌, Bool, false, List, []}
-use Rattle.std.proofs.Common.{◌∷◌, Option, length, get_or, set, refl, sym, ap, ◌∙◌, inl, inr, arith, length-append}
-use Rattle.std.proofs.Common.{add-mul, mul-le-mul_right}
+use Rattle.std.proofs.Common.{length, get_or, set, refl, sym, ap, ◌∙◌, inl, inr, arith, length-append}
+use Rattle.std.proofs.Common.{mul-le-mul_right}
 use Rattle.std.proofs.lemmas.Bool.{cases_eq, cases_lt}
 use Rattle.std.proofs.lemmas.Bool.Decides.{nat_tests}
 use Rattle.std.proofs.lemmas.List.{get_or_append_left, get_or-append_right, append_assoc, append-nil, length-set}
 use Rattle.std.proofs.lemmas.Nat.{div-mul-add, mod-mul-add, div-add-mod', div_below, mod_below, le-div}
-use Rattle.bit_addressing_memory.proofs.EntryLemmas.{entry_read, entry-set_same, entry-set_other, indexed_same}
-use Rattle.bit_addressing_memory.proofs.EntryLemmas.{indexed_other}
+use Rattle.bit_addressing_memory.proofs.EntryLemmas.{entry_read, entry-set_same, entry-set_other}
 use Rattle.bit_addressing_memory.proofs.Changes.{changed-set}
 use Rattle.bit_addressing_memory.proofs.MemoryLemmas.{piece_join}
-use Rattle.bit_addressing_memory.proofs.ShiftedWords.{place_at}
-use Rattle.bit_addressing_memory.proofs.WindowLemmas.{length-window, window_bit, window_is, window_same}
-use Rattle.bit_addressing_memory.specs.Bits.{with_digit}
-use Rattle.bit_addressing_memory.specs.BitOrder.{IsLawful}
-use Rattle.bit_addressing_memory.specs.Memory.{Overwrites, Reading, entry, indexed, memory, piece, reading_in}
+use Rattle.bit_addressing_memory.proofs.WindowLemmas.{length-window, window_bit, window_same}
+use Rattle.bit_addressing_memory.specs.Memory.{Overwrites, Reading, entry, memory, piece}
 use Rattle.bit_addressing_memory.specs.Memory.{touched}
-use Rattle.bit_addressing_memory.specs.MoveSteps.{BeginsWith}
 use Rattle.bit_addressing_memory.specs.Moves.{changed}
 use Rattle.bit_addressing_memory.specs.Partial.{IsStored}
 use Rattle.bit_addressing_memory.specs.Sweep.{SameButReads, edge_of, sweep_lender, sweep_words, way_of, writes_of}
@@ -97,16 +91,6 @@ next_first b to n some last =
     let more : (to / b + 1) * b ≡ to / b * b + b = omega arith in
     let is : (to / b + 1) * b + 0 ≡ to + n = omega (arith, div-add-mod' to b) in
     ap (λ p. p % b) (sym is) ∙ mod-mul-add (to / b + 1) b 0 some
-
--- bits that go on in the next word have one
-pub next_within : (w b p n words : ℕ) → b ≡ w → b < p % b + n → p + n ≤ words * w → p / b + 1 < words
-next_within w b p n words is more within = elim (cases_lt (p / b + 1) words) [
-  | inl low ↦ low
-  | inr high ↦
-      let most = mul-le-mul_right w high in
-      let next : (p / b + 1) * w ≡ p / b * w + 1 * w = add-mul (p / b) 1 w in
-      absurd (omega (arith, place_at w b p is))
-]
 
 -- ---- more bits in a word
 
@@ -190,71 +174,34 @@ module _ {R : Type 0} (reading : Reading R) (before now : List R) (first to : �
         words = length-set now j next ∙ had.words;
       }
 
--- the word with one more bit
-pub word_made : {R : Type 0} (b : ℕ) (number : R → ℕ) (at select : ℕ → ℕ) (mask : Option ℕ → Option ℕ → ℕ)
-    (before : List R) (first : ℕ) (bits : List Bool) (j i : ℕ) (own next : R) (bit : Bool)
-    → IsLawful b at select mask → i < b → j * b + i ≡ first + length bits
-    → number next ≡ with_digit (number own) (at i) bit
-    → IsFilledWord (reading_in b number at) before first bits j own
-    → IsFilledWord (reading_in b number at) before first (bits ++ bit ∷ []) j next
-word_made b number at select mask before first bits j i own next bit law low place made had k small =
-    let reading = reading_in b number at in
-    elim (cases_eq k i) [
-      | inl same ↦
-          let here : j * b + k ≡ first + length bits + 0 = omega arith in
-          let one : 0 < length (bit ∷ []) = omega arith in
-          ap (indexed number at next) same
-          ∙ indexed_same number at own next i bit made
-          ∙ sym (ap (filled_bit reading before first (bits ++ bit ∷ [])) here
-          ∙ filled_added reading before first bits (bit ∷ []) 0 one)
-      | inr other ↦
-          indexed_other b number at select mask own next i bit k law low made small other
-          ∙ had k small
-          ∙ sym (filled_beside reading before first bits (bit ∷ []) (j * b + k) (λ past. omega arith))
-    ]
-
--- the word with more bits, stored from an index on
-word_stored : {R : Type 0} (reading : Reading R) (before : List R) (first : ℕ) (bits more : List Bool) (j i upto : ℕ)
-    (own there next : R) → j * reading.bits + i ≡ first + length bits → upto ≡ i + length more
-    → ((k : ℕ) → i ≤ k → k < upto → k < reading.bits → reading.digit there k ≡ get_or more (k - i) false)
-    → IsStored reading own next i upto (reading.digit there)
-    → IsFilledWord reading before first bits j own
-    → IsFilledWord reading before first (bits ++ more) j next
-word_stored reading before first bits more j i upto own there next place end is put had k small =
+-- the word with bits of the memory, stored from an index on
+pub word_moved : {R : Type 0} (reading : Reading R) (before words : List R) (first to from n index : ℕ)
+    (bits : List Bool) (word own next : R) → 0 < reading.bits → index ≡ to % reading.bits
+    → from + n ≤ length words * reading.bits
+    → IsStored reading own next index (index + n) (λ k. entry reading words (from + (k - index)))
+    → Filled reading before words first to word bits
+    → IsFilledWord reading before first bits (to / reading.bits) own
+    → IsFilledWord reading before first (bits ++ piece (memory reading words) from n) (to / reading.bits) next
+word_moved reading before words first to from n index bits word own next some at within put filled had k small =
+    let more = piece (memory reading words) from n in
+    let j : ℕ = to / reading.bits in
+    let count : length more ≡ n = length-window reading words from n within in
+    let size = filled.size in
+    let place : j * reading.bits + index ≡ first + length bits = omega (arith, div-add-mod' to reading.bits) in
     let beside = filled_beside reading before first bits more (j * reading.bits + k) in
-    elim (cases_lt k i) [
+    elim (cases_lt k index) [
       | inl under ↦ put.below k under small ∙ had k small ∙ sym (beside (λ past. absurd (omega arith)))
-      | inr up ↦ elim (cases_lt k upto) [
+      | inr up ↦ elim (cases_lt k (index + n)) [
         | inl inside ↦
-            let low : k - i < length more = omega arith in
-            let here : first + length bits + (k - i) ≡ j * reading.bits + k = omega arith in
+            let low : k - index < length more = omega arith in
+            let here : first + length bits + (k - index) ≡ j * reading.bits + k = omega arith in
             put.inside k up inside small
-            ∙ is k up inside small
-            ∙ sym (filled_added reading before first bits more (k - i) low)
+            ∙ sym (window_bit reading words from n (k - index) some (omega arith))
+            ∙ sym (filled_added reading before first bits more (k - index) low)
             ∙ ap (filled_bit reading before first (bits ++ more)) here
         | inr past ↦ put.above k past small ∙ had k small ∙ sym (beside (λ far. omega arith))
       ]
     ]
-
--- the word with bits of the memory, moved up to an index and stored there
-pub word_moved : {R : Type 0} (reading : Reading R) (before words : List R) (first to from n index : ℕ)
-    (bits : List Bool) (word own moved there next : R) → 0 < reading.bits → index ≡ to % reading.bits
-    → from + n ≤ length words * reading.bits → BeginsWith reading words from n moved
-    → ((k : ℕ) → index ≤ k → k < reading.bits → reading.digit there k ≡ reading.digit moved (k - index))
-    → IsStored reading own next index (index + n) (reading.digit there)
-    → Filled reading before words first to word bits
-    → IsFilledWord reading before first bits (to / reading.bits) own
-    → IsFilledWord reading before first (bits ++ piece (memory reading words) from n) (to / reading.bits) next
-word_moved reading before words first to from n index bits word own moved there next some at within begins raised put
-    filled had =
-    let more = piece (memory reading words) from n in
-    let count : length more ≡ n = length-window reading words from n within in
-    let size = filled.size in
-    let place : to / reading.bits * reading.bits + index ≡ first + length bits =
-    omega (arith, div-add-mod' to reading.bits) in
-    word_stored reading before first bits more (to / reading.bits) index (index + n) own there next place (omega arith)
-    (λ k low high small. raised k low small ∙ begins (k - index) (omega arith)
-    ∙ sym (window_bit reading words from n (k - index) some (omega arith))) put had
 
 -- ---- the sweep
 
@@ -381,38 +328,7 @@ module _ {R : Type 0} (reading : Reading R) (s t : Sweep R) (word next : R) (fir
         lender = lender ∙ loan;
       }
 
--- ---- a row, bit by bit and part by part
-
--- a window with one more entry
-window_more : {R : Type 0} (reading : Reading R) (words : List R) (from i : ℕ) (bit : Bool) → 0 < reading.bits
-    → from + i < length words * reading.bits → bit ≡ entry reading words (from + i)
-    → piece (memory reading words) from i ++ bit ∷ [] ≡ piece (memory reading words) from (i + 1)
-window_more reading words from i bit some within is =
-    let m = memory reading words in
-    let single : piece m (from + i) 1 ≡ bit ∷ [] =
-    window_is reading words (from + i) 1 (bit ∷ []) some (omega arith) refl (λ k low.
-    let none : k ≡ 0 = omega arith in
-    let at : from + i + 0 ≡ from + i = omega arith in
-    rw (none, at) (sym is)) in
-    ap (λ xs. piece m from i ++ xs) (sym single) ∙ piece_join m from i (from + i) 1 (i + 1) refl refl
-
--- a bit that was read from t to v, and then put
-pub fills_bit : {R : Type 0} (reading : Reading R) (s t v u : Sweep R) (word mid next : R) (first to from i : ℕ)
-    (bit : Bool) → 0 < reading.bits → to ≤ from → from + i < length (sweep_words s) * reading.bits
-    → Fills reading s t word mid first to (piece (memory reading (sweep_words s)) from i)
-    → SameButReads t v → sweep_lender v ≡ sweep_lender t → bit ≡ entry reading (sweep_words t) (from + i)
-    → Fills reading v u mid next first (to + i) (bit ∷ [])
-    → Fills reading s u word next first to (piece (memory reading (sweep_words s)) from (i + 1))
-fills_bit reading s t v u word mid next first to from i bit some order within had same loan is more =
-    let m = memory reading (sweep_words s) in
-    let size : length (piece m from i) ≡ i = length-window reading (sweep_words s) from i (omega arith) in
-    let end : to + length (piece m from i) ≡ to + i = omega arith in
-    let there : bit ≡ entry reading (sweep_words s) (from + i) =
-    is ∙ had.ahead (from + i) (rw end (omega (arith, div-add-mod' (to + i) reading.bits))) in
-    let put : Fills reading v u mid next first (to + length (piece m from i)) (bit ∷ []) = rw end more in
-    rw (← window_more reading (sweep_words s) from i bit some within there)
-    (fills_more reading s v u word mid next first to (piece m from i) (bit ∷ []) some
-    (fills_read reading s t v word mid first to (piece m from i) had same loan) put)
+-- ---- a row, part by part
 
 -- a part of the row that is still as it was, put from t on
 pub fills_part : {R : Type 0} (reading : Reading R) (s t u : Sweep R) (word mid next : R) (first to from i n : ℕ)

@@ -1,14 +1,14 @@
 //! Rows kept by one sweep, the others left out.
 //!
 //! The kept rows' bits are gathered into words one after another, and each word is put once, when it is full or when
-//! all rows are there. Where the positions of a word go straight with its indices, as many bits at a time are moved by
-//! shifts as fit into the word at hand, else one.
+//! all rows are there. As many bits at a time are moved as fit into the word at hand: by shifts where the positions of
+//! a word go straight with its indices, else by limbs.
 
-ghost use Rattle.std.specs.Prelude.{◌≡◌, ℕ, ◌+◌, ◌-◌, ◌*◌, ◌/◌, ◌%◌, ◌^◌, ◌<◌, ◌≤◌, Bool, false, List, [], ◌∷◌, length};
+ghost use Rattle.std.specs.Prelude.{◌≡◌, ℕ, ◌+◌, ◌-◌, ◌*◌, ◌/◌, ◌%◌, ◌^◌, ◌<◌, ◌≤◌, Bool, false, List, length};
 ghost use Rattle.std.specs.Prelude.{Some, count_by, not, slice_index_or};
 ghost use Rattle.bit_addressing_memory.specs.Memory.{Overwrites, entry, memory, piece, read_by, touched};
-ghost use Rattle.bit_addressing_memory.specs.MoveSteps.{BeginsWith};
 ghost use Rattle.bit_addressing_memory.specs.Moves.{changed};
+ghost use Rattle.bit_addressing_memory.specs.Partial.{IsStored};
 ghost use Rattle.bit_addressing_memory.specs.Straight.{Goes};
 ghost use Rattle.bit_addressing_memory.specs.declared.direction.Direction.{Direction};
 ghost use Rattle.bit_addressing_memory.specs.Sweep.{IsFresh, SameButReads, edge_of, sweep_lender, sweep_words, way_of};
@@ -20,8 +20,8 @@ ghost use Rattle.bit_table_rows.specs.RowsKept.{KeepsRows, rows_kept};
 
 use bit_addressing_memory::mem::bits_of;
 use bit_addressing_memory::{
-    BitEnd, BitIdx, BitOrder, BitRegister, Direction, Sweep, direction_of, joined, raised,
-    read_bit, stored, write_bit,
+    BitEnd, BitIdx, BitOrder, BitRegister, Direction, Sweep, bits_from, direction_of, raised,
+    stored, taken,
 };
 use bit_slice_views::{BitSlice, Bits};
 
@@ -31,7 +31,8 @@ use bit_slice_views::{BitSlice, Bits};
 ///
 /// The sweep is fresh and goes up. `off` has one entry a row, and the rows' bits are there.
 ///
-/// No word is written twice, and none that the kept rows do not touch at their new places.
+/// No word is written twice, and none that the kept rows do not touch at their new places. How many reads are counted is
+/// not said.
 pub fn keep_rows<T: BitRegister, O: BitOrder<T>>(
     sweep: &mut Sweep<'_, T>,
     head: BitIdx<T>,
@@ -102,9 +103,9 @@ fn stay_upto<T: BitRegister, O: BitOrder<T>>(off: BitSlice<'_, T, O>, k: usize, 
     n
 }
 
-// Puts the bits of rows, which stand from the place `from` on, to the place `to` on. `word` is at hand for the word of
-// `to`, and the word for the place behind them is answered. The positions go in `direction`, where there is one.
-#[inline(always)]
+// Puts the bits of rows, which stand from the place `from` on, to the place `to` on: each part of them that comes to lie
+// in one word at once. `word` is at hand for the word of `to`, and the word for the place behind them is answered. The
+// positions go in `direction`, where there is one.
 fn keep_run<T: BitRegister, O: BitOrder<T>>(
     sweep: &mut Sweep<'_, T>,
     direction: Option<Direction>,
@@ -115,31 +116,6 @@ fn keep_run<T: BitRegister, O: BitOrder<T>>(
     len: usize,
 ) -> T
     requires goes { (d : Direction) → direction ≡ Some d → Goes T.BITS O.position d }
-    requires way { way_of sweep.old ≡ Up }
-    requires edge { edge_of sweep.old ≤ to / T.BITS }
-    requires order { to ≤ from }
-    requires within { from + len ≤ length (sweep_words sweep.old) * T.BITS }
-    requires ends { from + len < 2 ^ 64 }
-    ensures { Fills (read_by T.BitRegister O.position) sweep.old sweep.new word result first to
-        (piece (memory (read_by T.BitRegister O.position) (sweep_words sweep.old)) from len) }
-{
-    match direction {
-        Some(direction) => keep_by_parts::<T, O>(sweep, direction, word, first, to, from, len),
-        None => keep_by_bits::<T, O>(sweep, word, first, to, from, len),
-    }
-}
-
-// The same in an order that goes straight: each part of them that comes to lie in one word at once.
-fn keep_by_parts<T: BitRegister, O: BitOrder<T>>(
-    sweep: &mut Sweep<'_, T>,
-    direction: Direction,
-    word: T,
-    first: usize,
-    to: usize,
-    from: usize,
-    len: usize,
-) -> T
-    requires goes { Goes T.BITS O.position direction }
     requires way { way_of sweep.old ≡ Up }
     requires edge { edge_of sweep.old ≤ to / T.BITS }
     requires order { to ≤ from }
@@ -164,115 +140,64 @@ fn keep_by_parts<T: BitRegister, O: BitOrder<T>>(
 #[inline(always)]
 fn keep_part<T: BitRegister, O: BitOrder<T>>(
     sweep: &mut Sweep<'_, T>,
-    direction: Direction,
+    direction: Option<Direction>,
     word: T,
     first: usize,
     to: usize,
     from: usize,
     count: usize,
 ) -> T
-    requires goes { Goes T.BITS O.position direction }
+    requires goes { (d : Direction) → direction ≡ Some d → Goes T.BITS O.position d }
     requires way { way_of sweep.old ≡ Up }
     requires edge { edge_of sweep.old ≤ to / T.BITS }
     requires some { 0 < count }
     requires fits { to % T.BITS + count ≤ T.BITS }
     requires order { to ≤ from }
     requires within { from + count ≤ length (sweep_words sweep.old) * T.BITS }
+    requires ends { from + count < 2 ^ 64 }
     ensures { Fills (read_by T.BitRegister O.position) sweep.old sweep.new word result first to
         (piece (memory (read_by T.BitRegister O.position) (sweep_words sweep.old)) from count) }
 {
     let bits = bits_of::<T>();
     let index = to % bits;
-    let moved = bits_from::<T, O>(sweep, direction, from, count);
-    let there = raised::<T, O>(direction, moved, index as u8);
     let own = begun::<T, O>(sweep, word, first, to);
-    let head = BitIdx::new_unchecked(index as u8);
-    let tail = BitEnd::new_unchecked((index + count) as u8);
-    let next = stored::<T, O>(own, there, head, tail);
+    let next = with_bits::<T, O>(sweep, direction, own, index as u8, from, count);
     if index + count == bits {
         sweep.put(to / bits, next);
     }
     next
 }
 
-// A word that begins with so many bits of the memory, those from a place on: of the word there, and of the next one
-// where they go on in it.
+// A word with so many bits of the sweep's words, those from a place on, at its own from an index on.
 #[inline(always)]
-fn bits_from<T: BitRegister, O: BitOrder<T>>(
+fn with_bits<T: BitRegister, O: BitOrder<T>>(
     sweep: &mut Sweep<'_, T>,
-    direction: Direction,
+    direction: Option<Direction>,
+    own: T,
+    index: u8,
     place: usize,
     count: usize,
 ) -> T
-    requires goes { Goes T.BITS O.position direction }
+    requires goes { (d : Direction) → direction ≡ Some d → Goes T.BITS O.position d }
     requires some { 0 < count }
-    requires most { count ≤ T.BITS }
+    requires fits { index + count ≤ T.BITS }
     requires within { place + count ≤ length (sweep_words sweep.old) * T.BITS }
-    ensures digits { BeginsWith (read_by T.BitRegister O.position) (sweep_words sweep.old) place count result }
+    requires ends { place + count < 2 ^ 64 }
+    ensures stored { IsStored (read_by T.BitRegister O.position) own result index (index + count)
+        (λ i. entry (read_by T.BitRegister O.position) (sweep_words sweep.old) (place + (i - index))) }
     ensures same { SameButReads sweep.old sweep.new }
     ensures lender { sweep_lender sweep.new ≡ sweep_lender sweep.old }
 {
-    let bits = bits_of::<T>();
-    let word = place / bits;
-    let index = place % bits;
-    let one = sweep.read(word);
-    if index == 0 {
-        return one;
+    let upto = index + count as u8;
+    match direction {
+        Some(direction) => {
+            let moved = bits_from::<T, O>(sweep, direction, place, count);
+            let there = raised::<T, O>(direction, moved, index);
+            let head = BitIdx::new_unchecked(index);
+            stored::<T, O>(own, there, head, BitEnd::new_unchecked(upto))
+        }
+        None => taken::<T, O>(sweep, place, own, index, upto),
     }
-    if index + count <= bits {
-        return joined::<T, O>(direction, one, one, index as u8);
-    }
-    let next = sweep.read(word + 1);
-    joined::<T, O>(direction, one, next, index as u8)
-}
-
-// The same in any order, bit by bit.
-#[inline(never)]
-fn keep_by_bits<T: BitRegister, O: BitOrder<T>>(
-    sweep: &mut Sweep<'_, T>,
-    word: T,
-    first: usize,
-    to: usize,
-    from: usize,
-    len: usize,
-) -> T
-    requires way { way_of sweep.old ≡ Up }
-    requires edge { edge_of sweep.old ≤ to / T.BITS }
-    requires order { to ≤ from }
-    requires within { from + len ≤ length (sweep_words sweep.old) * T.BITS }
-    requires ends { from + len < 2 ^ 64 }
-    ensures { Fills (read_by T.BitRegister O.position) sweep.old sweep.new word result first to
-        (piece (memory (read_by T.BitRegister O.position) (sweep_words sweep.old)) from len) }
-{
-    let mut next = word;
-    'bits: for i in 0..len {
-        let bit = bit_at_place::<T, O>(sweep, from + i);
-        next = keep_bit::<T, O>(sweep, next, first, to + i, bit);
-    }
-    next
-}
-
-// Puts one bit to the place `to`: into its word, which is put once it is full.
-fn keep_bit<T: BitRegister, O: BitOrder<T>>(
-    sweep: &mut Sweep<'_, T>,
-    word: T,
-    first: usize,
-    to: usize,
-    bit: bool,
-) -> T
-    requires way { way_of sweep.old ≡ Up }
-    requires edge { edge_of sweep.old ≤ to / T.BITS }
-    requires within { to < length (sweep_words sweep.old) * T.BITS }
-    ensures { Fills (read_by T.BitRegister O.position) sweep.old sweep.new word result first to (bit ∷ []) }
-{
-    let bits = bits_of::<T>();
-    let index = to % bits;
-    let own = begun::<T, O>(sweep, word, first, to);
-    let next = write_bit::<T, O>(own, BitIdx::new_unchecked(index as u8), bit);
-    if index + 1 == bits {
-        sweep.put(to / bits, next);
-    }
-    next
 }
 
 // The word of the place `to`: that at hand, or the memory's own where none is begun.
@@ -322,16 +247,4 @@ fn put_rest<T: BitRegister, O: BitOrder<T>>(
     if first < to && to % bits > 0 {
         sweep.put(to / bits, word);
     }
-}
-
-// The bit of the words at a place.
-fn bit_at_place<T: BitRegister, O: BitOrder<T>>(sweep: &mut Sweep<'_, T>, place: usize) -> bool
-    requires { place < length (sweep_words sweep.old) * T.BITS }
-    ensures value { result ≡ entry (read_by T.BitRegister O.position) (sweep_words sweep.old) place }
-    ensures same { SameButReads sweep.old sweep.new }
-    ensures lender { sweep_lender sweep.new ≡ sweep_lender sweep.old }
-{
-    let bits = bits_of::<T>();
-    let index = BitIdx::new_unchecked((place % bits) as u8);
-    read_bit::<T, O>(sweep.read(place / bits), index)
 }

@@ -1,5 +1,6 @@
 use Rattle.bit_addressing_memory.specs.Memory.{read_by}
 use Rattle.bit_addressing_memory.specs.declared.direction.Direction.TheVariants.{Ascending}
+use Rattle.bit_slice_chunks.proofs.AnyOrderLemmas.{chunk_of_entries}
 use Rattle.bit_slice_chunks.proofs.TurnLemmas.{faced_chunk}
 use Rattle.bit_slice_chunks.proofs.any_order.read_bits.Goals as goal
 
@@ -15,5 +16,5 @@ returns-in-Some g c =
 pub returns-in-None : goal.returns-in-None
 returns-in-None g c =
     faced_chunk (read_by g.R.BitRegister g.O.Positions.position) c.args.words.now c.args.place c.args.count
-    Ascending c.args.direction c.gather-chunk.result c.faced-in-None.result c.requires.few c.gather-chunk.ensures
+    Ascending c.args.direction c.bits_in-chunk.result c.faced-in-None.result c.requires.few (chunk_of_entries _ c.args.words.now _ _ _ c.bits_in-chunk.ensures)
     c.faced-in-None.ensures

@@ -14,4 +14,4 @@ returns-in-Some g c =
 pub returns-in-None : goal.returns-in-None
 returns-in-None g c =
     overwrites_as (read_by g.R.BitRegister g.O.Positions.position) c.args.words.now _ _ _ _ _
-    (λ k low. c.faced-facing-in-None.ensures k (omega arith)) c.scatter.ensures
+    (λ k low. c.faced-facing-in-None.ensures k (omega arith)) c.put_bits_in.ensures

@@ -1,7 +1,7 @@
 use Rattle.std.proofs.Common.{◌+◌, ◌*◌, ◌/◌, ◌%◌, ◌<◌, ◌≤◌, length, refl, arith}
 use Rattle.bit_addressing_memory.specs.Memory.{read_by}
+use Rattle.bit_addressing_memory.proofs.PlaceLemmas.{first_word}
 use Rattle.bit_slice_chunks.specs.Combined.{combined_bit}
-use Rattle.bit_slice_chunks.proofs.TransferLemmas.{first_word}
 use Rattle.bit_slice_chunks.proofs.WholeLemmas.{words_of_64, word_behind}
 use Rattle.bit_slice_chunks.proofs.CombineLemmas.{combined_chunk, combined_from, combined_across}
 use Rattle.bit_slice_chunks.proofs.combine.combine_chunk.Goals as goal

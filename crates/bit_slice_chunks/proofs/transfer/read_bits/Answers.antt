@@ -1,6 +1,7 @@
 use Rattle.std.proofs.Common.{◌≡◌, ◌+◌, ◌-◌, ◌*◌, ◌/◌, ◌<◌, ◌≤◌, length, refl, ap, arith}
 use Rattle.bit_addressing_memory.specs.Memory.{read_by}
-use Rattle.bit_slice_chunks.proofs.TransferLemmas.{first_word, first_in, word_in, begins_behind, ends_behind}
+use Rattle.bit_addressing_memory.proofs.PlaceLemmas.{first_word, begins_behind, ends_behind}
+use Rattle.bit_slice_chunks.proofs.TransferLemmas.{first_in, word_in}
 use Rattle.bit_slice_chunks.proofs.TransferLemmas.{read_first, read_more, read_all}
 use Rattle.bit_slice_chunks.proofs.transfer.read_bits.Goals as goal
 

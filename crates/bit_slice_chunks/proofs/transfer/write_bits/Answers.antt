@@ -1,6 +1,7 @@
 use Rattle.std.proofs.Common.{◌≡◌, ◌+◌, ◌-◌, ◌*◌, ◌<◌, refl, ap, arith}
 use Rattle.bit_addressing_memory.specs.Memory.{read_by}
-use Rattle.bit_slice_chunks.proofs.TransferLemmas.{begins_behind, begins_before, write_more}
+use Rattle.bit_addressing_memory.proofs.PlaceLemmas.{begins_behind, begins_before}
+use Rattle.bit_slice_chunks.proofs.TransferLemmas.{write_more}
 use Rattle.bit_slice_chunks.proofs.transfer.write_bits.Goals as goal
 
 pub loop-k-preserved : goal.loop-k-preserved

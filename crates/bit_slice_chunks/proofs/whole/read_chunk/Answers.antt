@@ -1,6 +1,6 @@
 use Rattle.std.proofs.Common.{◌+◌, ◌*◌, ◌/◌, ◌%◌, ◌<◌, ◌≤◌, length, refl, arith}
 use Rattle.bit_addressing_memory.specs.Memory.{read_by}
-use Rattle.bit_slice_chunks.proofs.TransferLemmas.{first_word}
+use Rattle.bit_addressing_memory.proofs.PlaceLemmas.{first_word}
 use Rattle.bit_slice_chunks.proofs.WholeLemmas.{words_of_64, word_behind, chunk_as, read_across}
 use Rattle.bit_slice_chunks.proofs.whole.read_chunk.Goals as goal
 

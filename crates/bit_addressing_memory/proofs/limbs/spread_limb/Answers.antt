@@ -1,0 +1,23 @@
+use Rattle.std.proofs.Common.{◌-◌, sym, ◌∙◌, arith}
+use Rattle.bit_addressing_memory.proofs.LimbLemmas.{wrapped}
+use Rattle.bit_addressing_memory.proofs.limbs.spread_limb.Goals as goal
+
+pub returns-clause-inside : goal.returns-clause-inside
+returns-clause-inside c i high low =
+    sym (wrapped c.stored.result i (omega arith))
+    ∙ c.stored.ensures.inside i (omega (arith, c.new_unchecked-head.ensures, high)) (omega (arith, c.new_unchecked.ensures, low)) (omega arith)
+    ∙ c.raised-there.ensures.raised i high (omega arith)
+    ∙ wrapped c.lowered_limb-low.result (i - c.args.from) (omega arith)
+    ∙ c.lowered_limb-low.ensures (i - c.args.from)
+
+pub returns-clause-below : goal.returns-clause-below
+returns-clause-below c i low =
+    sym (wrapped c.stored.result i (omega arith))
+    ∙ c.stored.ensures.below i (omega (arith, c.new_unchecked-head.ensures, low)) (omega arith)
+    ∙ wrapped c.args.target i (omega arith)
+
+pub returns-clause-above : goal.returns-clause-above
+returns-clause-above c i high small =
+    sym (wrapped c.stored.result i small)
+    ∙ c.stored.ensures.above i (omega (arith, c.new_unchecked.ensures, high)) small
+    ∙ wrapped c.args.target i small

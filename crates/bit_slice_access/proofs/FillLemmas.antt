@@ -1,12 +1,16 @@
 -- How a window is filled, bit by bit.
 --
 -- One more bit: `filled_step`; of a part that is written over: `filled_start`, `filled_next`, `filled_as`, `kept_above`. All of
--- them: `filled_whole`. A closure that answers by the index alone: `filled_by`.
+-- them: `filled_whole`. A closure that answers by the index alone: `filled_by`. Bits of one word: `word_written`.
 use Rattle.std.proofs.Common.{◌≡◌, ℕ, zero, suc, ◌+◌, ◌<◌, ◌≤◌, Bool, false, List, [], ◌∷◌, ◌++◌, length, take, get_or}
-use Rattle.std.proofs.Common.{append_assoc, drop, set, refl, ap, ◌∙◌, arith, subst}
+use Rattle.std.proofs.Common.{◌*◌, Option, append_assoc, drop, set, refl, ap, ◌∙◌, arith, subst}
 use Rattle.std.proofs.lemmas.Fn.{FoldsTo-push}
 use Rattle.std.specs.List.{FoldsTo}
-use Rattle.bit_addressing_memory.specs.Memory.{with_piece}
+use Rattle.bit_addressing_memory.specs.BitOrder.{IsLawful}
+use Rattle.bit_addressing_memory.specs.Bits.{with_digit}
+use Rattle.bit_addressing_memory.specs.Memory.{memory, piece, reading_in, with_piece}
+use Rattle.bit_addressing_memory.proofs.EntryLemmas.{writes_bit}
+use Rattle.bit_addressing_memory.proofs.WindowLemmas.{window_written}
 use Rattle.bit_addressing_memory.proofs.MemoryLemmas.{length-with_piece, with_piece_above}
 use Rattle.bit_slice_access.proofs.PartLemmas.{piece_set}
 use Rattle.bit_slice_access.specs.Fills.{Filled}
@@ -117,3 +121,14 @@ pub filled_by : {F : Type 0} (step : F → ℕ → Bool → F → Type 0) (g : �
 filled_by step g each f bits last filled k low =
     let same : 0 + k ≡ k = omega arith in
     subst (λ m. get_or bits k false ≡ g m) same (filled_from step g each bits f 0 (last, length bits) filled k low)
+
+-- bits of one word with one of them written
+pub word_written : {R : Type 0} (b : ℕ) (number : R → ℕ) (at select : ℕ → ℕ) (mask : Option ℕ → Option ℕ → ℕ)
+    (now next : R) (n j : ℕ) (bit : Bool) → IsLawful b at select mask → 0 + n ≤ length (now ∷ []) * b → j < b → j < n
+    → number next ≡ with_digit (number now) (at j) bit
+    → piece (memory (reading_in b number at) (next ∷ [])) 0 n
+    ≡ set (piece (memory (reading_in b number at) (now ∷ [])) 0 n) j bit
+word_written b number at select mask now next n j bit law fits small low is =
+    let here : 0 * b + j ≡ j = omega arith in
+    window_written (reading_in b number at) (now ∷ []) (next ∷ []) 0 n (0 * b + j) j bit (omega arith) fits (omega arith)
+    low (writes_bit b number at select mask (now ∷ []) now next 0 j bit law small (omega arith) refl is)

@@ -1,11 +1,12 @@
 //! Each bit of a window made what a closure answers.
 
-ghost use Rattle.std.specs.Prelude.{◌≡◌, ◌*◌, ◌≤◌, length, slice_index_or, false};
+ghost use Rattle.std.specs.Prelude.{◌≡◌, ◌<◌, ◌≤◌, length, slice_index_or, false};
+ghost use Rattle.std.specs.Mem.{FitsInMemory};
 ghost use Rattle.bit_slice_access.specs.Fills.{Filled};
 
 use crate::copies::hold;
 use crate::edits::BitsEdits;
-use bit_addressing_memory::{BitOrder, BitRegister, Lsb0, read_entry, write_entry};
+use bit_addressing_memory::{BitIdx, BitOrder, BitRegister, Lsb0, read_bit, write_bit};
 use bit_slice_views::{BitSlice, Bits};
 use bit_slice_views_mut::BitsMut;
 
@@ -20,8 +21,7 @@ pub trait BitsFill: BitsMut {
         ensures len { length (Self.bits self.new) ≡ length (Self.bits self.old) }
         ensures frame { Self.frame self.new ≡ Self.frame self.old }
     {
-        let mut now = [0u64; 1];
-        fill_held::<Self, F, u64, Lsb0>(self, f, &mut now);
+        fill_held::<Self, F, u64, Lsb0>(self, f);
     }
 
     /// Makes each bit the closure's answer at its index and what it was.
@@ -34,21 +34,20 @@ pub trait BitsFill: BitsMut {
         ensures frame { Self.frame self.new ≡ Self.frame self.old }
     {
         let mut was = [0u64; 1];
-        let mut now = [0u64; 1];
-        each_held::<Self, F, u64, Lsb0>(self, f, &mut was, &mut now);
+        each_held::<Self, F, u64, Lsb0>(self, f, &mut was);
     }
 }
 
 impl<V: BitsMut> BitsFill for V {}
 
-// `fill_with`, by parts of 64 bits: the answers are gathered in the words of the memory `now`.
+// `fill_with`, by parts of 64 bits: the answers are gathered in a word.
 fn fill_held<V: BitsMut, F: FnMut(usize) -> bool, R: BitRegister, O: BitOrder<R>>(
     view: &mut V,
     mut f: F,
-    now: &mut [R],
 )
     requires callable { F.IsAlwaysCallable f }
-    requires room { 64 ≤ length now.old * R.BITS }
+    requires wide { 64 ≤ R.BITS }
+    requires fits { FitsInMemory R.row }
     ensures bits { (last : F) × Filled F.step f (V.bits view.new) last }
     ensures len { length (V.bits view.new) ≡ length (V.bits view.old) }
     ensures frame { V.frame view.new ≡ V.frame view.old }
@@ -57,25 +56,27 @@ fn fill_held<V: BitsMut, F: FnMut(usize) -> bool, R: BitRegister, O: BitOrder<R>
     for k in 0..len / 64 + 1 {
         let at = 64 * k;
         let count = (len - at).min(64);
+        let mut now = R::ZERO;
         for j in 0..count {
             let bit = f(at + j);
-            write_entry::<R, O>(now, j, bit);
+            now = write_bit::<R, O>(now, BitIdx::new_unchecked(j as u8), bit);
         }
-        view.write_part(at, &BitSlice::<R, O>::from_place(now, 0, count));
+        let answers = std::slice::from_ref(&now);
+        view.write_part(at, &BitSlice::<R, O>::from_place(answers, 0, count));
     }
 }
 
-// `for_each`, by parts of 64 bits: the words of the memory `was` have them as they were, and the answers are gathered in
-// those of the memory `now`.
+// `for_each`, by parts of 64 bits: the first word of the memory `was` has them as they were, and the answers are gathered
+// in a word.
 fn each_held<V: BitsMut, F: FnMut(usize, bool) -> bool, R: BitRegister, O: BitOrder<R>>(
     view: &mut V,
     mut f: F,
     was: &mut [R],
-    now: &mut [R],
 )
     requires callable { F.IsAlwaysCallable f }
-    requires was_room { 64 ≤ length was.old * R.BITS }
-    requires room { 64 ≤ length now.old * R.BITS }
+    requires wide { 64 ≤ R.BITS }
+    requires fits { FitsInMemory R.row }
+    requires room { 0 < length was.old }
     ensures bits { (last : F)
         × Filled (λ p i bit q. F.step p i (slice_index_or (V.bits view.old) i false) bit q) f (V.bits view.new) last }
     ensures len { length (V.bits view.new) ≡ length (V.bits view.old) }
@@ -86,11 +87,14 @@ fn each_held<V: BitsMut, F: FnMut(usize, bool) -> bool, R: BitRegister, O: BitOr
         let at = 64 * k;
         let count = (len - at).min(64);
         hold::<V, R, O>(view, at, count, was);
+        let before = was[0];
+        let mut now = R::ZERO;
         for j in 0..count {
-            let old = read_entry::<R, O>(was, j);
-            let bit = f(at + j, old);
-            write_entry::<R, O>(now, j, bit);
+            let index = BitIdx::new_unchecked(j as u8);
+            let bit = f(at + j, read_bit::<R, O>(before, index));
+            now = write_bit::<R, O>(now, index, bit);
         }
-        view.write_part(at, &BitSlice::<R, O>::from_place(now, 0, count));
+        let answers = std::slice::from_ref(&now);
+        view.write_part(at, &BitSlice::<R, O>::from_place(answers, 0, count));
     }
 }

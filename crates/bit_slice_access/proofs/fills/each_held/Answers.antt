@@ -1,14 +1,16 @@
-use Rattle.std.proofs.Common.{◌+◌, ◌*◌, ◌<◌, ◌≤◌, ◌≡◌, length, ap, sym, ◌∙◌, rules, of_calls, arith, get_or, false}
-use Rattle.bit_addressing_memory.specs.Memory.{entry, memory, piece, read_by, with_piece}
+use Rattle.std.proofs.Common.{◌+◌, ◌*◌, ◌<◌, ◌≤◌, ◌≡◌, [], ◌∷◌, length, ap, sym, ◌∙◌, rules, of_calls, arith, get_or, false}
+use Rattle.bit_addressing_memory.specs.Bits.{with_digit}
+use Rattle.bit_addressing_memory.specs.Memory.{entry, indexed, memory, piece, read_by, with_piece}
+use Rattle.bit_addressing_memory.proofs.EntryLemmas.{entry_read}
 use Rattle.bit_addressing_memory.proofs.MemoryLemmas.{get_or-piece}
-use Rattle.bit_addressing_memory.proofs.WindowLemmas.{length-window, window_bit, window_written}
+use Rattle.bit_addressing_memory.proofs.WindowLemmas.{length-window, window_bit}
 use Rattle.bit_slice_access.proofs.FillLemmas.{filled_start, filled_next, filled_as, filled_whole, kept_above}
+use Rattle.bit_slice_access.proofs.FillLemmas.{word_written}
 use Rattle.bit_slice_access.proofs.fills.each_held.Goals as goal
 
 pub loop-j-init : goal.loop-j-init
 loop-j-init g c =
     record {
-      room = search rules;
       callable = search rules;
       filled = filled_start _ _ _ _ _ _ _ (omega arith) (omega arith) c.loop-k.invariant.filled;
     }
@@ -16,28 +18,34 @@ loop-j-init g c =
 pub loop-j-preserved : goal.loop-j-preserved
 loop-j-preserved g c =
     let reading = read_by g.R.BitRegister g.O.Positions.position in
+    let b = g.R.BitRegister.BITS in
     let n = c.min-count.result in
     let at = 64 * c.loop-k.k in
     let j = c.loop-j.j in
-    let before = c.loop-j.now in
-    let some : 0 < g.R.BitRegister.BITS = omega (arith, g.met.R.BitRegister.least_bits) in
-    let fits : 0 + n ≤ length before * g.R.BitRegister.BITS = rw c.loop-j.invariant.room (omega arith) in
-    let here : 0 + j ≡ j = omega arith in
-    let old : get_or (g.V.Bits.bits c.args.view.now) (at + j) false ≡ c.read_entry-old.result =
+    let now = c.loop-j.now in
+    let word = c.index-was-0.result in
+    let some : 0 < b = omega (arith, c.requires.wide) in
+    let small : j < b = omega (arith, c.requires.wide) in
+    let fits : 0 + n ≤ length (now ∷ []) * b = omega (arith, c.requires.wide) in
+    let here : 0 + j ≡ 0 * b + j = omega arith in
+    let old : get_or (g.V.Bits.bits c.args.view.now) (at + j) false ≡ c.read_bit.result =
     sym (c.loop-k.invariant.rest (at + j) (omega arith))
     ∙ sym (get_or-piece (g.V.Bits.bits c.loop-k.view) at n j false (omega arith))
     ∙ ap (λ xs. get_or xs j false) (sym c.hold.ensures.bits)
     ∙ window_bit reading c.hold.new.held 0 n j some (omega arith)
     ∙ ap (entry reading c.hold.new.held) here
-    ∙ sym c.read_entry-old.ensures.value in
+    ∙ sym (entry_read reading c.hold.new.held 0 j word small (omega arith) c.index-was-0.is)
+    ∙ ap (indexed g.R.BitRegister.number g.O.Positions.position word) (sym c.new_unchecked-index.ensures)
+    ∙ sym c.read_bit.ensures.value in
     record {
-      room = search rules;
       callable = search (rules, of_calls);
       filled =
-          filled_next _ _ _ (piece (memory reading before) 0 n) _ _ _ n _ _ _ (omega arith)
-          (length-window reading before 0 n fits) (omega arith)
-          (window_written reading before c.write_entry.new.words 0 n j j _ some fits (omega arith) (omega arith)
-          c.write_entry.ensures.written)
+          filled_next _ _ _ (piece (memory reading (now ∷ [])) 0 n) _ _ j n _ c.f-bit.result _ (omega arith)
+          (length-window reading (now ∷ []) 0 n fits) (omega arith)
+          (word_written b g.R.BitRegister.number g.O.Positions.position _ _ now c.write_bit-now.result n j c.f-bit.result
+          g.met.O.BitOrder.lawful fits small (omega arith)
+          (c.write_bit-now.ensures.value
+          ∙ ap (λ i. with_digit (g.R.BitRegister.number now) (g.O.Positions.position i) c.f-bit.result) c.new_unchecked-index.ensures))
           c.loop-j.invariant.filled (rw old (search rules));
     }
 
@@ -46,13 +54,14 @@ loop-k-preserved g c =
     let reading = read_by g.R.BitRegister g.O.Positions.position in
     let xs = g.V.Bits.bits c.loop-k.view in
     let n = c.min-count.result in
-    let part = piece (memory reading c.loop-j.now) 0 n in
-    let fits : 0 + n ≤ length c.loop-j.now * g.R.BitRegister.BITS = rw c.loop-j.invariant.room (omega arith) in
-    let size : length part ≡ n = length-window reading c.loop-j.now 0 n fits in
+    let part = piece (memory reading (c.loop-j.now ∷ [])) 0 n in
+    let fits : 0 + n ≤ length (c.loop-j.now ∷ []) * g.R.BitRegister.BITS = omega (arith, c.requires.wide) in
+    let size : length part ≡ n = length-window reading (c.loop-j.now ∷ []) 0 n fits in
     let same : g.V.Bits.bits c.write_part.new.self ≡ with_piece xs (64 * c.loop-k.k) part =
-    c.write_part.ensures.bits ∙ ap (with_piece xs (64 * c.loop-k.k)) c.from_place.ensures.bits in
+    c.write_part.ensures.bits
+    ∙ ap (with_piece xs (64 * c.loop-k.k)) (c.from_place.ensures.bits
+    ∙ ap (λ ws. piece (memory reading ws) 0 n) c.from_ref-answers.ensures.value) in
     record {
-      was_room = search rules;
       room = search rules;
       frame = search rules;
       len = search rules;

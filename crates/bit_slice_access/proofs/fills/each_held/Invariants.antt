@@ -1,12 +1,11 @@
-use Rattle.std.proofs.Common.{length, ◌≡◌, ◌+◌, ◌*◌, ◌≤◌, ℕ, min, take, get_or, false}
+use Rattle.std.proofs.Common.{[], ◌∷◌, length, ◌≡◌, ◌+◌, ◌*◌, ◌≤◌, ℕ, min, take, get_or, false}
 use Rattle.bit_addressing_memory.specs.Memory.{memory, piece, read_by, with_piece}
 use Rattle.bit_slice_access.specs.Fills.{Filled}
 use Rattle.bit_slice_access.proofs.fills.each_held.Given as goal
 
 abbrev pub invariant-loop-k : goal.invariant-loop-k
 invariant-loop-k g l = record {
-  was_room : length l.was ≡ length l.fn.was;
-  room : length l.now ≡ length l.fn.now;
+  room : length l.was ≡ length l.fn.was;
   frame : g.V.BitsMut.frame l.view ≡ g.V.BitsMut.frame l.fn.view;
   len : length (g.V.Bits.bits l.view) ≡ length (g.V.Bits.bits l.fn.view);
   callable : goal.F-IsAlwaysCallable g l.f;
@@ -18,9 +17,8 @@ invariant-loop-k g l = record {
 -- the part so far, written over the window's bits
 abbrev pub invariant-loop-j : goal.invariant-loop-j
 invariant-loop-j g l =
-    let part = piece (memory (read_by g.R.BitRegister g.O.Positions.position) l.now) 0 l.count in
+    let part = piece (memory (read_by g.R.BitRegister g.O.Positions.position) (l.now ∷ [])) 0 l.count in
     record {
-      room : length l.now ≡ length l.fn.now;
       callable : goal.F-IsAlwaysCallable g l.f;
       filled : Filled (λ p i bit q. goal.F-step g p i (get_or (g.V.Bits.bits l.fn.view) i false) bit q) l.fn.f
           (take (l.at + l.j) (with_piece (g.V.Bits.bits l.view) l.at part)) l.f;

@@ -1,11 +1,10 @@
-use Rattle.std.proofs.Common.{length, ◌≡◌, ◌+◌, ◌*◌, min, take}
+use Rattle.std.proofs.Common.{[], ◌∷◌, length, ◌≡◌, ◌+◌, ◌*◌, min, take}
 use Rattle.bit_addressing_memory.specs.Memory.{memory, piece, read_by, with_piece}
 use Rattle.bit_slice_access.specs.Fills.{Filled}
 use Rattle.bit_slice_access.proofs.fills.fill_held.Given as goal
 
 abbrev pub invariant-loop-k : goal.invariant-loop-k
 invariant-loop-k g l = record {
-  room : length l.now ≡ length l.fn.now;
   frame : g.V.BitsMut.frame l.view ≡ g.V.BitsMut.frame l.fn.view;
   len : length (g.V.Bits.bits l.view) ≡ length (g.V.Bits.bits l.fn.view);
   callable : goal.F-IsAlwaysCallable g l.f;
@@ -15,9 +14,8 @@ invariant-loop-k g l = record {
 -- the part so far, written over the window's bits
 abbrev pub invariant-loop-j : goal.invariant-loop-j
 invariant-loop-j g l =
-    let part = piece (memory (read_by g.R.BitRegister g.O.Positions.position) l.now) 0 l.count in
+    let part = piece (memory (read_by g.R.BitRegister g.O.Positions.position) (l.now ∷ [])) 0 l.count in
     record {
-      room : length l.now ≡ length l.fn.now;
       callable : goal.F-IsAlwaysCallable g l.f;
       filled : Filled (goal.F-step g) l.fn.f (take (l.at + l.j) (with_piece (g.V.Bits.bits l.view) l.at part)) l.f;
     }

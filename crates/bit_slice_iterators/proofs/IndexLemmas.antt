@@ -12,7 +12,7 @@ use Rattle.bit_slice_words.proofs.FoundLemmas.{position-None, last_position-Some
 use Rattle.bit_slice_iterators.proofs.BitLemmas.{piece_one}
 use Rattle.bit_slice_iterators.specs.Indices.{indices}
 
-cases_bool : (b : Bool) → (b ≡ true) ⊎ (b ≡ false)
+pub cases_bool : (b : Bool) → (b ≡ true) ⊎ (b ≡ false)
 cases_bool true = inl refl
 cases_bool false = inr refl
 

@@ -1,5 +1,6 @@
 pub mod BitLemmas
 pub mod IndexLemmas
+pub mod HeldLemmas
 pub mod KnownRows
 pub mod CutLemmas
 pub mod PieceLemmas

@@ -1,15 +1,21 @@
 //! The indices of the bits of a window that are 1, or 0, from both ends.
 
-ghost use Rattle.std.specs.Prelude.{◌≡◌, ◌+◌, ◌-◌, ◌<◌, ◌≤◌, ◌^◌, ⊤, Bool, true, false, [], length, count_by, position, IfSome};
-ghost use Rattle.std.specs.Prelude.{Some};
+ghost use Rattle.std.specs.Prelude.{◌≡◌, ℕ, ◌+◌, ◌-◌, ◌*◌, ◌<◌, ◌≤◌, ◌^◌, ⊤, Bool, true, false, [], length, get_or};
+ghost use Rattle.std.specs.Prelude.{count_by, position, IfSome, Some};
+ghost use Rattle.std.specs.Option.{MatchOption};
 ghost use Rattle.std.specs.Iterator.{YieldsFirst, YieldsLast, item_count, UpTo};
 ghost use Rattle.std.specs.Iterator.SizeHint.{IsWithinCount};
+ghost use Rattle.bit_addressing_memory.specs.Bits.{digit_at};
 ghost use Rattle.bit_addressing_memory.specs.Memory.{read_by};
+ghost use Rattle.bit_addressing_memory.specs.declared.direction.Direction.TheVariants.{Ascending};
+ghost use Rattle.bit_addressing_span.specs.declared.span.TheConstants.{MAX_BITS};
 ghost use Rattle.bit_slice_words.specs.Found.{is_bit, last_position};
 ghost use Rattle.bit_slice_views.specs.View.{view_bits};
-ghost use Rattle.bit_slice_iterators.specs.Indices.{indices};
+ghost use Rattle.bit_slice_iterators.specs.Indices.{indices, indices_from, AreDigits, IsLastFrom, TakesAhead};
 
-use bit_addressing_memory::{BitOrder, BitRegister};
+use bit_addressing_memory::{BitOrder, BitRegister, Direction, Lsb0, direction_of};
+use bit_slice_chunks::any_order::{direction_for, read_bits, read_chunk};
+use bit_slice_chunks::{faced, first_bits};
 use bit_slice_views::{BitSlice, Bits};
 use std::alloc::AllocError;
 use std::iter::FusedIterator;
@@ -30,6 +36,20 @@ pub trait Sought {
     /// How many there are.
     fn count<V: Bits>(view: &V) -> usize
         ensures { result ≡ count_by (is_bit bit) (V.bits view.now) };
+
+    /// The number whose digits are 1 where those of another are these bits.
+    ///
+    /// It is provided, so that an impl elsewhere need not have it: whether zeros are found tells the kind. A body that
+    /// knows the kind is quicker.
+    #[tactic(auto, using(crate::proofs::HeldLemmas::flipped_digit))]
+    fn among(digits: u64) -> u64
+        ensures { (k : ℕ) → k < 64 → digit_at result k ≡ is_bit bit (digit_at digits k) }
+    {
+        match Self::first(&BitSlice::<u8, Lsb0>::from_element(&0)) {
+            Some(_) => !digits,
+            None => digits,
+        }
+    }
 }
 
 /// The bits that are 1.
@@ -48,6 +68,11 @@ impl Sought for Ones {
 
     fn count<V: Bits>(view: &V) -> usize {
         view.count_ones()
+    }
+
+    #[inline(always)]
+    fn among(digits: u64) -> u64 {
+        digits
     }
 }
 
@@ -68,7 +93,18 @@ impl Sought for Zeros {
     fn count<V: Bits>(view: &V) -> usize {
         view.count_zeros()
     }
+
+    #[inline(always)]
+    fn among(digits: u64) -> u64 {
+        !digits
+    }
 }
+
+// How many bits are looked at as one number.
+const CHUNK: usize = 64;
+
+// How many bits lie before an index that comes alone.
+const FAR: usize = 16;
 
 /// The indices of the bits of one kind that are left, ascending; a contract sees their list.
 ///
@@ -76,7 +112,11 @@ impl Sought for Zeros {
 #[derive(Drop)]
 pub struct Indices<'a, T: BitRegister, O: BitOrder<T>, B: Sought> {
     view: BitSlice<'a, T, O>,
+    // The bits from here on were not looked at.
     from: usize,
+    // What is left of the last ones that were: `base + k` where digit k is 1.
+    ahead: u64,
+    base: usize,
     sought: PhantomData<B>,
 }
 
@@ -87,17 +127,20 @@ pub type IterOnes<'a, T, O> = Indices<'a, T, O, Ones>;
 pub type IterZeros<'a, T, O> = Indices<'a, T, O, Zeros>;
 
 impl<'a, T: BitRegister, O: BitOrder<T>, B: Sought> Model for Indices<'a, T, O, B> {
-    ghost use Rattle.std.specs.Prelude.{ℕ, List, ◌+◌, ◌<◌, ◌^◌, length};
+    ghost use Rattle.std.specs.Prelude.{ℕ, List, ◌++◌, ◌≤◌, length};
     ghost use Rattle.bit_addressing_memory.specs.Memory.{read_by};
+    ghost use Rattle.bit_addressing_span.specs.declared.span.TheConstants.{MAX_BITS};
     ghost use Rattle.bit_slice_words.specs.Found.{is_bit};
     ghost use Rattle.bit_slice_views.specs.View.{view_bits};
-    ghost use Rattle.bit_slice_iterators.specs.Indices.{indices};
+    ghost use Rattle.bit_slice_iterators.specs.Indices.{held, indices_from};
 
     ghost Value = { List ℕ };
 
-    ghost view = { λ iter. indices (is_bit B.bit) iter.from (view_bits (read_by T.BitRegister O.position) iter.view) };
+    ghost view = { λ iter. held iter.base iter.ahead
+        ++ indices_from (is_bit B.bit) (view_bits (read_by T.BitRegister O.position) iter.view) iter.from };
 
-    ghost invariant = { λ iter. iter.from + length (view_bits (read_by T.BitRegister O.position) iter.view) < 2 ^ 64 };
+    ghost invariant = { λ iter. (iter.base ≤ MAX_BITS)
+        × (iter.from ≤ length (view_bits (read_by T.BitRegister O.position) iter.view)) };
 }
 
 impl<'a, T: BitRegister, O: BitOrder<T>, B: Sought> Indices<'a, T, O, B> {
@@ -105,13 +148,141 @@ impl<'a, T: BitRegister, O: BitOrder<T>, B: Sought> Indices<'a, T, O, B> {
     pub fn new(view: BitSlice<'a, T, O>) -> Indices<'a, T, O, B>
         ensures { result ≡ indices (is_bit B.bit) 0 (view_bits (read_by T.BitRegister O.position) view.entry) }
     {
-        let _counted = view.len();
         Indices {
             view,
             from: 0,
+            ahead: 0,
+            base: 0,
             sought: PhantomData,
         }
     }
+}
+
+// The first index of those from a bit on, with others of the same 64 bits: `base + k` where digit k is 1. No digit is
+// where there is none. Most of the time one is near.
+#[inline(always)]
+fn take_ahead<T: BitRegister, O: BitOrder<T>, B: Sought>(
+    view: BitSlice<'_, T, O>,
+    from: usize,
+) -> (usize, u64)
+    requires { from ≤ length (view_bits (read_by T.BitRegister O.position) view) }
+    ensures { TakesAhead (is_bit B.bit) (view_bits (read_by T.BitRegister O.position) view.entry) from result.0
+        result.1 }
+{
+    if T::BITS < 32 && direction_of::<T, O>().is_none() {
+        return take_by_words::<T, O, B>(view, from);
+    }
+    let near = digits_at::<T, O, B>(view, from);
+    if near != 0 {
+        return (from, near);
+    }
+    take_behind::<T, O, B>(view, view.len().min(from + CHUNK))
+}
+
+// The same where it may be far.
+#[inline(never)]
+fn take_behind<T: BitRegister, O: BitOrder<T>, B: Sought>(
+    view: BitSlice<'_, T, O>,
+    from: usize,
+) -> (usize, u64)
+    requires { from ≤ length (view_bits (read_by T.BitRegister O.position) view) }
+    ensures { TakesAhead (is_bit B.bit) (view_bits (read_by T.BitRegister O.position) view.entry) from result.0
+        result.1 }
+{
+    let (_, _, len) = view.parts();
+    let Some(i) = B::first(&view.part(from, len - from)) else {
+        return (len, 0)
+    };
+    let base = from + i / CHUNK * CHUNK;
+    (base, digits_at::<T, O, B>(view, base))
+}
+
+// The same where a chunk has many words, each to be turned: an index that is far comes alone, as the last digit.
+#[inline(never)]
+fn take_by_words<T: BitRegister, O: BitOrder<T>, B: Sought>(
+    view: BitSlice<'_, T, O>,
+    from: usize,
+) -> (usize, u64)
+    requires { from ≤ length (view_bits (read_by T.BitRegister O.position) view) }
+    ensures { TakesAhead (is_bit B.bit) (view_bits (read_by T.BitRegister O.position) view.entry) from result.0
+        result.1 }
+{
+    let (_, _, len) = view.parts();
+    let Some(i) = B::first(&view.part(from, len - from)) else {
+        return (len, 0)
+    };
+    let at = from + i;
+    if FAR <= i && CHUNK <= at {
+        return (at - (CHUNK - 1), 1 << (CHUNK - 1));
+    }
+    (at, digits_at::<T, O, B>(view, at))
+}
+
+// The bits of a window from one on, 64 or all, as the digits of a number: 1 where they are of the kind.
+#[inline(always)]
+fn digits_at<T: BitRegister, O: BitOrder<T>, B: Sought>(
+    view: BitSlice<'_, T, O>,
+    from: usize,
+) -> u64
+    requires { from ≤ length (view_bits (read_by T.BitRegister O.position) view) }
+    ensures short { length (view_bits (read_by T.BitRegister O.position) view.entry) ≤ MAX_BITS }
+    ensures digits { AreDigits Ascending (is_bit B.bit) (view_bits (read_by T.BitRegister O.position) view.entry)
+        from result }
+{
+    let way = direction_for::<T, O>();
+    let chunk = chunk_at::<T, O, B>(way, view, from);
+    if chunk == 0 {
+        return 0;
+    }
+    faced(way, Direction::Ascending, chunk)
+}
+
+// The same as a chunk of a direction.
+#[inline(always)]
+fn chunk_at<T: BitRegister, O: BitOrder<T>, B: Sought>(
+    direction: Direction,
+    view: BitSlice<'_, T, O>,
+    from: usize,
+) -> u64
+    requires { from ≤ length (view_bits (read_by T.BitRegister O.position) view) }
+    ensures short { length (view_bits (read_by T.BitRegister O.position) view.entry) ≤ MAX_BITS }
+    ensures digits { AreDigits direction (is_bit B.bit) (view_bits (read_by T.BitRegister O.position) view.entry)
+        from result }
+{
+    let (words, head, len) = view.parts();
+    let place = head as usize + from;
+    let count = len - from;
+    if CHUNK <= count {
+        return B::among(read_chunk::<T, O>(direction, words, place));
+    }
+    if count == 0 {
+        return 0;
+    }
+    let chunk = B::among(read_bits::<T, O>(direction, words, place, count));
+    first_bits(direction, chunk, count as u8)
+}
+
+// The last index of a window, if it is not below one.
+#[inline(always)]
+fn last_from<T: BitRegister, O: BitOrder<T>, B: Sought>(
+    view: BitSlice<'_, T, O>,
+    from: usize,
+) -> Option<usize>
+    requires { from ≤ length (view_bits (read_by T.BitRegister O.position) view) }
+    ensures { MatchOption result
+        (indices_from (is_bit B.bit) (view_bits (read_by T.BitRegister O.position) view.entry) from ≡ [])
+        (IsLastFrom (is_bit B.bit) (view_bits (read_by T.BitRegister O.position) view.entry) from) }
+{
+    if from == view.len() {
+        return None;
+    }
+    let Some(at) = B::last(&view) else {
+        return None
+    };
+    if at < from {
+        return None;
+    }
+    Some(at)
 }
 
 impl<'a, T: BitRegister, O: BitOrder<T>, B: Sought> Default for Indices<'a, T, O, B> {
@@ -132,6 +303,8 @@ impl<'a, T: BitRegister, O: BitOrder<T>, B: Sought> Clone for Indices<'a, T, O, 
         Ok(Indices {
             view: self.view,
             from: self.from,
+            ahead: self.ahead,
+            base: self.base,
             sought: PhantomData,
         })
     }
@@ -146,13 +319,17 @@ impl<'a, T: BitRegister, O: BitOrder<T>, B: Sought> Iterator for Indices<'a, T, 
     ghost remaining = { item_count (λ left. left) };
 
     fn next(&mut self) -> Option<usize> {
-        let Some(i) = B::first(&self.view) else {
-            return None
-        };
-        let rest = i + 1;
-        let at = self.from + i;
-        self.view = self.view.part(rest, self.view.len() - rest);
-        self.from = at + 1;
+        if self.ahead == 0 {
+            let (base, ahead) = take_ahead::<T, O, B>(self.view, self.from);
+            self.from = self.view.len().min(base + CHUNK);
+            self.base = base;
+            self.ahead = ahead;
+            if ahead == 0 {
+                return None;
+            }
+        }
+        let at = self.base + self.ahead.trailing_zeros() as usize;
+        self.ahead = self.ahead & (self.ahead - 1);
         Some(at)
     }
 
@@ -171,18 +348,27 @@ impl<'a, T: BitRegister, O: BitOrder<T>, B: Sought> DoubleEndedIterator for Indi
     ghost next_back_gives = { YieldsLast (λ left. left) };
 
     fn next_back(&mut self) -> Option<usize> {
-        let Some(i) = B::last(&self.view) else {
-            return None
-        };
-        self.view = self.view.part(0, i);
-        Some(self.from + i)
+        if let Some(at) = last_from::<T, O, B>(self.view, self.from) {
+            self.view = self.view.part(0, at);
+            return Some(at);
+        }
+        // What has none is not looked at again.
+        self.view = self.view.part(0, self.from);
+        if self.ahead == 0 {
+            return None;
+        }
+        let k = self.ahead.ilog2();
+        self.ahead = self.ahead & !(1 << k);
+        Some(self.base + k as usize)
     }
 }
 
 #[tactic(auto, using(crate::proofs::IndexLemmas::ends_of_indices))]
 impl<'a, T: BitRegister, O: BitOrder<T>, B: Sought> ExactSizeIterator for Indices<'a, T, O, B> {
     fn len(&self) -> usize {
-        B::count(&self.view)
+        let (_, _, len) = self.view.parts();
+        let rest = self.view.part(self.from, len - self.from);
+        B::count(&rest) + self.ahead.count_ones() as usize
     }
 }
 

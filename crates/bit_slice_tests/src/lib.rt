@@ -17,9 +17,13 @@ pub mod fields;
 #[cfg(test)]
 pub mod header;
 #[cfg(test)]
+mod indices;
+#[cfg(test)]
 pub mod iter_callers;
 #[cfg(test)]
 mod iterators;
+#[cfg(test)]
+mod limbs;
 #[cfg(test)]
 mod list;
 #[cfg(test)]

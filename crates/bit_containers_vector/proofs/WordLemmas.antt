@@ -1,9 +1,11 @@
 -- Vectors of words that were cut and filled up.
-use Rattle.std.proofs.Common.{◌≡◌, ℕ, ◌+◌, ◌-◌, ◌*◌, ◌<◌, ◌≤◌, ◌++◌}
+use Rattle.std.proofs.Common.{◌≡◌, ◌≢◌, ℕ, ◌+◌, ◌-◌, ◌*◌, ◌/◌, ◌%◌, ◌<◌, ◌≤◌, ◌++◌, inl, inr}
 use Rattle.std.proofs.Common.{Bool, false, get_or, List, length, take, replicate, arith, ap, ap₂}
 use Rattle.std.proofs.Common.{sym, ◌∙◌, refl, Result, Ok, Err, OnOk, if◌then◌else◌, is_ok, length-append}
-use Rattle.std.proofs.Math.Nat.{mul-le-mul_right}
-use Rattle.std.proofs.lemmas.List.{take_all, take-take, length-take-le, length-replicate}
+use Rattle.std.proofs.Math.Nat.{mod-lt, mul-le-mul_right}
+use Rattle.std.proofs.lemmas.Bool.{cases_lt}
+use Rattle.std.proofs.lemmas.List.{append-nil, take_all, take-take, length-take-le, length-replicate}
+use Rattle.std.proofs.lemmas.Nat.{div-add-mod'}
 use Rattle.std.specs.Prelude.{vec_capacity}
 use Rattle.bit_addressing_memory.specs.Memory.{Reading, entry, memory, piece, Overwrites}
 use Rattle.bit_addressing_memory.proofs.MemoryLemmas.{length-memory, length-piece, get_or-piece, memory-append}
@@ -12,7 +14,7 @@ use Rattle.bit_containers_vector.specs.Count.{words_for}
 use Rattle.bit_containers_vector.specs.Grown.{Extends, Lengthened}
 use Rattle.bit_containers_vector.specs.Vector.{IsAsBefore, IsSame, vec_bits, vec_words, visible}
 use Rattle.bit_containers_vector.specs.declared.vector.BitVec.{BitVec}
-use Rattle.bit_containers_vector.proofs.CountLemmas.{words_hold, words_within}
+use Rattle.bit_containers_vector.proofs.CountLemmas.{words_hold, words_within, words_more}
 use Rattle.bit_containers_vector.proofs.GrownLemmas.{piece_front, piece_taken, grown_bits, grown_visible, grown_words}
 
 -- what `resize` leaves of a beginning of some words, where it succeeds
@@ -71,6 +73,39 @@ trimmed reading old new some fits head len words capacity =
     mul-le-mul_right reading.bits capacity in
     record { bits = same.bits; words = same.words; head = head; room = omega (arith, head) }
 
+-- a vector whose words were grown, and then written behind its old bits, is extended
+pub extends_by : {T O : Type 0} {g : _} (reading : Reading T) (zero : T) (old new : BitVec T O g)
+    (grown after : List T) (m : ℕ) (now : ℕ → Bool) (ys : List Bool) → 0 < reading.bits
+    → ((i : ℕ) → reading.digit zero i ≡ false) → old.head + old.len ≤ length old.words.items * reading.bits
+    → grown ≡ take (words_for reading.bits (old.head + old.len)) (vec_words old)
+    ++ replicate (words_for reading.bits (old.head + (old.len + m)) - words_for reading.bits (old.head + old.len)) zero
+    → length ys ≡ m → ((k : ℕ) → k < m → now k ≡ get_or ys k false)
+    → Overwrites reading grown after (old.head + old.len) m now → vec_words new ≡ after
+    → new.head ≡ old.head → new.len ≡ old.len + m → Extends reading old new ys
+extends_by reading zero old new grown after m now ys some none fits longer count same wrote words here size =
+    let more : ℕ = words_for reading.bits (old.head + (old.len + m)) - words_for reading.bits (old.head + old.len) in
+    let written : Overwrites reading grown (vec_words new) (old.head + old.len) m now = rw words wrote in
+    let bits : vec_bits reading new ≡ vec_bits reading old ++ ys =
+    rw (here, size) (grown_bits reading zero (vec_words old) grown (vec_words new) old.head old.len m more
+    now ys some none fits refl longer count same written) in
+    let held : length (vec_bits reading old) ≡ old.len = length-bits reading old fits in
+    let all : length (vec_bits reading new) ≡ old.len + m =
+    ap length bits ∙ length-append (vec_bits reading old) ys ∙ omega (arith, held, count) in
+    let shown : visible reading new ≡ vec_words new =
+    ap (λ h. take (words_for reading.bits (h + length (vec_bits reading new))) (vec_words new)) here
+    ∙ grown_visible reading zero (vec_words old) grown (vec_words new) old.head old.len m more now ys some none
+    fits refl longer count same written (length (vec_bits reading new)) all in
+    let was : visible reading old ≡ take (words_for reading.bits (old.head + old.len)) (vec_words old) =
+    ap (λ k. take (words_for reading.bits (old.head + k)) (vec_words old)) held in
+    record {
+      bits = bits;
+      head = here;
+      words =
+          grown_words reading zero (vec_words old) grown (vec_words new) old.head old.len m more now ys some
+          none fits refl longer count same written (visible reading old) (visible reading new)
+          (length (vec_bits reading old)) was shown held;
+    }
+
 -- a vector that was lengthened, and then written behind its old bits, is extended
 pub extends : {T O : Type 0} {g : _} (reading : Reading T) (zero : T) (old mid new : BitVec T O g) (after : List T)
     (m : ℕ) (now : ℕ → Bool) (ys : List Bool) → 0 < reading.bits → ((i : ℕ) → reading.digit zero i ≡ false)
@@ -79,30 +114,31 @@ pub extends : {T O : Type 0} {g : _} (reading : Reading T) (zero : T) (old mid n
     → Overwrites reading (vec_words mid) after (old.head + old.len) m now → vec_words new ≡ after
     → new.head ≡ mid.head → new.len ≡ mid.len → Extends reading old new ys
 extends reading zero old mid new after m now ys some none fits longer count same wrote words head len =
-    let more : ℕ = words_for reading.bits (old.head + (old.len + m)) - words_for reading.bits (old.head + old.len) in
-    let written : Overwrites reading (vec_words mid) (vec_words new) (old.head + old.len) m now = rw words wrote in
-    let here : new.head ≡ old.head = head ∙ longer.head in
-    let size : new.len ≡ old.len + m = len ∙ longer.len in
-    let bits : vec_bits reading new ≡ vec_bits reading old ++ ys =
-    rw (here, size) (grown_bits reading zero (vec_words old) (vec_words mid) (vec_words new) old.head old.len m more
-    now ys some none fits refl longer.words count same written) in
-    let held : length (vec_bits reading old) ≡ old.len = length-bits reading old fits in
-    let all : length (vec_bits reading new) ≡ old.len + m =
-    ap length bits ∙ length-append (vec_bits reading old) ys ∙ omega (arith, held, count) in
-    let shown : visible reading new ≡ vec_words new =
-    ap (λ h. take (words_for reading.bits (h + length (vec_bits reading new))) (vec_words new)) here
-    ∙ grown_visible reading zero (vec_words old) (vec_words mid) (vec_words new) old.head old.len m more now ys some none
-    fits refl longer.words count same written (length (vec_bits reading new)) all in
-    let was : visible reading old ≡ take (words_for reading.bits (old.head + old.len)) (vec_words old) =
-    ap (λ k. take (words_for reading.bits (old.head + k)) (vec_words old)) held in
-    record {
-      bits = bits;
-      head = here;
-      words =
-          grown_words reading zero (vec_words old) (vec_words mid) (vec_words new) old.head old.len m more now ys some
-          none fits refl longer.words count same written (visible reading old) (visible reading new)
-          (length (vec_bits reading old)) was shown held;
-    }
+    extends_by reading zero old new (vec_words mid) after m now ys some none fits longer.words count same wrote words
+    (head ∙ longer.head) (len ∙ longer.len)
+
+-- words of which the last one has the place behind some bits have room for one more
+pub room_for_one : (b end words : ℕ) → 0 < b → end / b + 1 ≡ words → end + 1 ≤ words * b
+room_for_one b end words some last =
+    let product : words * b ≡ end / b * b + b = ap (λ k. k * b) (sym last) ∙ omega arith in
+    omega (arith, product, div-add-mod' end b, mod-lt end some)
+
+-- and where some of those bits lie in it, they are the words that the bits take, with one more or without
+pub room_inside : {T : Type 0} (b end : ℕ) (words : List T) (zero : T) → 0 < b → end % b ≢ 0
+    → end / b + 1 ≡ length words
+    → words ≡ take (words_for b end) words ++ replicate (words_for b (end + 1) - words_for b end) zero
+room_inside b end words zero some part last =
+    let w : ℕ = length words in
+    let most : words_for b (end + 1) ≤ w = words_within b (end + 1) w some (room_for_one b end w some last) in
+    let fewer : words_for b end ≤ words_for b (end + 1) = words_more b end 1 some in
+    let enough : w ≤ words_for b end = elim (cases_lt (words_for b end) w) [
+      | inl few ↦
+          let less : words_for b end * b ≤ end / b * b = mul-le-mul_right b (omega (arith, few, last)) in
+          absurd (omega (arith, words_hold b end some, less, div-add-mod' end b, part))
+      | inr many ↦ many
+    ] in
+    let none : words_for b (end + 1) - words_for b end ≡ 0 = omega (arith, most, fewer, enough) in
+    rw none (sym (append-nil _ ∙ take_all (words_for b end) words enough))
 
 -- a lengthened vector has the old bits where they were
 pub lengthened_bits : {T O : Type 0} {g : _} (reading : Reading T) (zero : T) (old mid : BitVec T O g) (m : ℕ)

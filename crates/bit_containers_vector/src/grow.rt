@@ -32,7 +32,31 @@ impl<T: BitStore, O: BitOrder<T>> BitVec<T, O> {
     /// Adds a bit at the end.
     ///
     /// It takes memory where there is no room for a bit more, and a refusal leaves all as it was.
+    #[inline]
     pub fn push(&mut self, bit: bool) -> Result<(), AllocError>
+        requires { length (vec_bits (read_by T.BitRegister O.position) self.old) + 1 ≤ MAX_BITS }
+        ensures ok { OnOk result (Extends (read_by T.BitRegister O.position) self.old self.new (bit ∷ [])) }
+        ensures err { OnErr result (IsAsBefore (read_by T.BitRegister O.position) self.old self.new) }
+        ensures succeeds { HasRoomFor (read_by T.BitRegister O.position) self.old 1 → IsOk result }
+        ensures room { room (read_by T.BitRegister O.position) self.old
+            ≤ room (read_by T.BitRegister O.position) self.new }
+    {
+        let end = self.head + self.len;
+        let index = end % mem::bits_of::<T>();
+        let word = end / mem::bits_of::<T>();
+
+        // Most bits come into the last word, behind others.
+        if index == 0 || word + 1 != self.words.len() {
+            return self.push_word(bit);
+        }
+        self.len += 1;
+        put::<T, O>(&mut self.words, end, bit);
+        Ok(())
+    }
+
+    // What `push` does where the words that it leaves may be others.
+    #[inline(never)]
+    fn push_word(&mut self, bit: bool) -> Result<(), AllocError>
         requires { length (vec_bits (read_by T.BitRegister O.position) self.old) + 1 ≤ MAX_BITS }
         ensures ok { OnOk result (Extends (read_by T.BitRegister O.position) self.old self.new (bit ∷ [])) }
         ensures err { OnErr result (IsAsBefore (read_by T.BitRegister O.position) self.old self.new) }

@@ -1,73 +1,76 @@
-use Rattle.std.proofs.Common.{◌≡◌, ◌<◌, ◌+◌, ◌++◌, ◌∷◌, [], Bool, true, false, length, get_or}
-use Rattle.std.proofs.Common.{arith, refl, ap, ap₂, sym, ◌∙◌}
-use Rattle.std.proofs.Common.{ℕ, drop, take, set}
-use Rattle.std.proofs.Common.{of_calls, length-append}
-use Rattle.std.proofs.iter.Next.{called}
-use Rattle.bit_slice_splits.specs.Ways.{Asked}
-use Rattle.bit_containers.proofs.RetainLemmas.{answered, chosen_more, chosen_same, moved_front}
-use Rattle.bit_containers.proofs.RetainLemmas.{moved_rest, not_yet_moved}
-use Rattle.bit_containers.proofs.retain.gather.Goals.{then-keep, else-keep}
+use Rattle.std.proofs.Common.{◌≡◌, ◌≤◌, ◌<◌, ◌+◌, ◌*◌, ◌++◌, ℕ, false, get_or, length, take, drop, min}
+use Rattle.std.proofs.Common.{arith, ap, ◌∙◌, rules, of_calls}
+use Rattle.bit_addressing_memory.specs.Bits.{bits_in_order}
+use Rattle.bit_addressing_memory.proofs.OrderCallerLemmas.{length-bits_in_order}
+use Rattle.bit_containers.proofs.GatherLemmas.{asked_as, asked_more, chosen_next, chosen_still, chosen_below, counted}
+use Rattle.bit_containers.proofs.GatherLemmas.{put_front, put_rest}
+use Rattle.bit_containers.proofs.RetainLemmas.{not_yet_moved}
 use Rattle.bit_containers.proofs.retain.gather.Goals as goal
 
-pub loop-i-preserved : goal.loop-i-preserved
-loop-i-preserved g c =
-    let was = c.loop-i.invariant in
+pub loop-j-preserved : goal.loop-j-preserved
+loop-j-preserved g c =
+    let was = c.loop-j.invariant in
     let xs = g.V.Bits.bits c.args.bits.now in
-    let ys = g.V.Bits.bits c.loop-i.bits in
-    let bs = was.kept.0 in
-    let low : length bs < length xs =
-    omega (arith, was.kept.1, c.loop-i-test.true, c.len-i-end.ensures) in
-    let there : c.bit-bit.result ≡ get_or xs (length bs) false =
-    c.bit-bit.ensures
-    ∙ not_yet_moved ys xs c.loop-i.kept c.loop-i.i was.most was.rest
-    ∙ ap (λ i. get_or xs i false) (sym was.kept.1) in
-    let more : (b : Bool) → length (bs ++ b ∷ []) ≡ c.loop-i.i + 1 =
-    λ b. omega (arith, length-append bs (b ∷ []), was.kept.1) in
-    let R : g.row.F.Denot × ℕ → Bool → Bool → g.row.F.Denot × ℕ → Type 0 =
-    λ p bit answer q. Asked g.F.FnMut p.0 p.1 bit answer q.0 × (q.1 ≡ p.1 + 1) in
-    elim c.if-keep.branch [
-      | then-keep w ↦
-          let now = g.V.Bits.bits w.set.new.self in
-          let bit = c.bit-bit.result in
-          let is : now ≡ set ys c.loop-i.kept bit = w.set.ensures.bits in
-          rw (w.bits-is, w.kept-is) (record {
-            callable = search of_calls;
-            frame = w.set.ensures.frame ∙ was.frame;
-            len = w.set.ensures.len ∙ was.len;
-            most = omega (arith, was.most);
-            rest =
-                ap (drop (c.loop-i.kept + 1)) is
-                ∙ moved_rest ys xs c.loop-i.kept bit was.rest;
-            kept = (
-              bs ++ true ∷ [],
-              more true,
-              ap (take (c.loop-i.kept + 1)) is
-                  ∙ moved_front ys c.loop-i.kept bit (omega (arith, low, was.kept.1, was.most, was.len))
-                  ∙ ap₂ (λ l b. l ++ b ∷ []) was.kept.2 there
-                  ∙ sym (chosen_more bs xs low),
-              answered R (c.args.keep, 0) (c.loop-i.keep, c.loop-i.i) (c.keep.new.self, c.loop-i.i + 1) bs xs true low
-                  was.kept.3 ((_, there, called g.F.FnMut c.keep.ensures w.if-keep.true), refl),
-            );
-          })
-      | else-keep w ↦ rw (w.bits-is, w.kept-is) (record {
-        callable = search of_calls;
-        frame = was.frame;
-        len = was.len;
-        most = omega (arith, was.most);
-        rest = was.rest;
-        kept = (
-          bs ++ false ∷ [],
-          more false,
-          was.kept.2 ∙ sym (chosen_same bs xs),
-          answered R (c.args.keep, 0) (c.loop-i.keep, c.loop-i.i) (c.keep.new.self, c.loop-i.i + 1) bs xs false low
-              was.kept.3 ((_, there, called g.F.FnMut c.keep.ensures w.if-keep.false), refl),
-        );
-      })
-    ]
+    let ys = g.V.Bits.bits c.loop-k.bits in
+    let front = take c.loop-k.kept ys in
+    let taken = c.keep-taken.result in
+    let n : ℕ = 64 * c.loop-k.k + c.loop-j.j in
+    let low : n < length xs =
+    omega (arith, c.loop-j-test.true, c.min-count.ensures, c.len-len.ensures, c.loop-k.invariant.len) in
+    let past : c.loop-k.kept ≤ n = omega (arith, c.loop-k.invariant.most) in
+    let there : c.chunk_has-bit.result ≡ get_or xs n false =
+    c.chunk_has-bit.ensures
+    ∙ c.chunk_of-chunk.ensures c.loop-j.j c.loop-j-test.true
+    ∙ not_yet_moved ys xs c.loop-k.kept n past c.loop-k.invariant.rest in
+    let next : c.loop-j.more + c.from-more.result ≡ c.loop-j.more + _ = ap (λ k. c.loop-j.more + k) c.from-more.ensures in
+    let at : 64 * c.loop-k.k + (c.loop-j.j + 1) ≡ n + 1 = omega arith in
+    let made = c.with_bit-chosen.ensures in
+    record {
+      callable = search of_calls;
+      few = omega (arith, was.few, counted c.loop-j.more (c.loop-j.more + c.from-more.result) taken next);
+      zeros =
+          chosen_below c.loop-j.more (c.loop-j.more + c.from-more.result) c.loop-j.chosen c.with_bit-chosen.result taken
+          made.zeros made.other next was.zeros;
+      asked =
+          rw at (asked_more g.F.FnMut c.args.keep xs (front ++ bits_in_order (λ i. i) c.loop-j.more c.loop-j.chosen)
+          (front ++ bits_in_order (λ i. i) (c.loop-j.more + c.from-more.result) c.with_bit-chosen.result) n c.loop-j.keep
+          c.keep-taken.new.self _ taken low was.asked there c.keep-taken.ensures
+          (chosen_next front c.loop-j.more _ c.loop-j.chosen c.with_bit-chosen.result c.chunk_has-bit.result taken
+          made.taken next)
+          (chosen_still front c.loop-j.more _ c.loop-j.chosen c.with_bit-chosen.result taken made.other next));
+    }
+
+pub loop-k-preserved : goal.loop-k-preserved
+loop-k-preserved g c =
+    let was = c.loop-k.invariant in
+    let xs = g.V.Bits.bits c.args.bits.now in
+    let ys = g.V.Bits.bits c.loop-k.bits in
+    let kept = c.loop-k.kept in
+    let more = c.loop-j.more in
+    let part = bits_in_order (λ i. i) more c.loop-j.chosen in
+    let size : length part ≡ more = length-bits_in_order (λ i. i) more c.loop-j.chosen in
+    let all : c.loop-j.j ≡ c.min-count.result = omega (arith, c.loop-j-test.false, c.loop-j.auto.j-end) in
+    let fits : kept + more ≤ length ys =
+    omega (arith, was.most, c.loop-j.invariant.few, all, c.min-count.ensures, c.len-len.ensures, was.len) in
+    record {
+      callable = search rules;
+      frame = c.put_chunk.ensures.frame ∙ was.frame;
+      len = c.put_chunk.ensures.len ∙ was.len;
+      most = omega (arith, was.most, c.loop-j.invariant.few, all, c.min-count.ensures);
+      least = omega (arith, fits, was.len);
+      rest =
+          ap (drop (kept + more)) c.put_chunk.ensures.bits
+          ∙ put_rest ys part xs kept more size fits was.len was.rest;
+      asked =
+          asked_as g.F.FnMut c.args.keep xs _ _ _ _ c.loop-j.keep c.loop-j.invariant.asked
+          (ap (take (kept + more)) c.put_chunk.ensures.bits ∙ put_front ys part kept more size fits)
+          (omega (arith, all, c.min-count.ensures, c.len-len.ensures, was.len, c.loop-k-test.true));
+    }
 
 pub returns-clause-kept : goal.returns-clause-kept
 returns-clause-kept g c =
-    let was = c.loop-i.invariant in
-    let all : length was.kept.0 ≡ length (g.V.Bits.bits c.args.bits.now) =
-    omega (arith, was.kept.1, c.loop-i-test.false, c.loop-i.auto.i-end, c.len-i-end.ensures) in
-    (was.kept.0, _, all, was.kept.3, was.kept.2)
+    let xs = g.V.Bits.bits c.args.bits.now in
+    let asked = c.loop-k.invariant.asked in
+    let all : min (length xs) (64 * c.loop-k.k) ≡ length xs =
+    omega (arith, c.div_ceil-k-end.ensures, c.len-len.ensures, c.loop-k-test.false) in
+    (asked.answers, _, asked.count ∙ all, asked.calls, asked.chosen)

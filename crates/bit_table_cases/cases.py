@@ -389,6 +389,18 @@ def kept_rows():
         case(f"keep {word} {order} {held.hex()} {head} {n} {w} {off} {writes}", f"{after} {len(rows)} yes")
 
 
+def marked_rows():
+    """Rows of a byte each, their numbers, and one behind the other marked by them: 64, fewer and more."""
+    for rows in (63, 64, 65, 130):
+        script, answer = b"low f:i8\nload %d %s" % (rows, bytes(range(rows)).hex().encode()), "ok\nok\n"
+        numbers = [(row + 128) % 256 - 128 for row in range(rows)]
+        for test, value in (("<", 60), (">", 62), ("=", 64), ("<", 0), (">", -128)):
+            script += b"\nmark x f %s %d\nlist x" % (test.encode(), value)
+            passing = [row for row, n in enumerate(numbers) if (n < value, n == value, n > value)["<=>".index(test)]]
+            answer += f"ok\n{' '.join(map(str, passing)) or 'none'}\n"
+        run(script, answer, some_storages(5))
+
+
 def main():
     scripts()
     thrown_scripts()
@@ -404,6 +416,7 @@ def main():
     moved_rows()
     kept_rows()
     long_rows()
+    marked_rows()
     pathlib.Path("stdin").write_text("".join(f"{line}\n" for line in given))
     pathlib.Path("stdout").write_text("".join(f"{line}\n" for line in wanted))
 

@@ -13,7 +13,8 @@ use Rattle.bit_table_layout.specs.Rows.{Row, new_row}
 use Rattle.bit_addressing_memory.specs.Memory.{piece}
 use Rattle.bit_table_commands.specs.Marks.{number_in_field}
 use Rattle.bit_table_fields.specs.Windows.{number_held}
-use Rattle.bit_table_rows.proofs.RowListCallerLemmas.{field_inside, row_read}
+use Rattle.bit_table_rows.proofs.PlaceLemmas.{place_behind}
+use Rattle.bit_table_rows.proofs.RowListCallerLemmas.{field_inside, number_within, row_read}
 
 -- a part of a part
 pub part_of_part : (bits : List Bool) (a w b k : ℕ) → b + k ≤ w
@@ -50,3 +51,24 @@ number_at l n bits all p f field row low is =
     ap (number_from l.rule field) (sym (part_of_part bits (p * w) w off field.width (field_inside l.fields f field is)))
     ∙ sym (number_in l.rule l.fields f field (pos 0) (take w (drop (p * w) bits)) is)
     ∙ ap (λ r. number_in_field (Some f) r) (sym here)
+
+-- a number k rows behind row p, of bits and fields as they are read one by one
+module _ (l : LayoutShape) (n : ℕ) (bits : List Bool) (all : length bits ≡ n * row_width l.fields) (p k f : ℕ)
+    (field : FieldShape) (low : p + k < n) (is : slice_get l.fields f ≡ Some field) (held : List Bool) (w o d : ℕ)
+    (same : held ≡ bits) (is_w : w ≡ row_width l.fields) (is_o : o ≡ row_width (take f l.fields))
+    (is_d : d ≡ field.width) where
+  -- it lies among the bits
+  pub behind_within : p * w + o + k * w + d ≤ length held
+  behind_within =
+      rw (same, is_w, is_o, is_d)
+      (omega (arith, place_behind p k (row_width l.fields), number_within l n bits all (p + k) f field low is))
+
+  -- and is the row's
+  pub number_behind : (row : Row) (rule : Rule) (signed : Bool) → rule ≡ l.rule → signed ≡ field.signed
+      → number_held rule signed d (piece held (p * w + o + k * w) d)
+      ≡ number_in_field (Some f) (get_or (rows_from l n bits) (p + k) row)
+  number_behind row rule signed is_rule is_signed =
+      let at : p * row_width l.fields + row_width (take f l.fields) + k * row_width l.fields
+      ≡ (p + k) * row_width l.fields + row_width (take f l.fields) =
+      omega (arith, place_behind p k (row_width l.fields)) in
+      rw (same, is_w, is_o, is_d, is_rule, is_signed, at) (number_at l n bits all (p + k) f field row low is)

@@ -1,7 +1,8 @@
 //! Rows marked by their numbers, and the numbers of marked rows.
 
-ghost use Rattle.std.specs.Prelude.{◌≡◌, ◌+◌, ◌*◌, ◌^◌, ◌<◌, ◌≤◌, Bool, List, [], length, map, take, IfOk, OnOk, Some};
-ghost use Rattle.bit_addressing_memory.specs.Memory.{read_by};
+ghost use Rattle.std.specs.Prelude.{◌≡◌, ℕ, ◌+◌, ◌*◌, ◌^◌, ◌<◌, ◌≤◌, Bool, List, [], length, map, take, IfOk, OnOk};
+ghost use Rattle.std.specs.Prelude.{Some};
+ghost use Rattle.bit_addressing_memory.specs.Memory.{memory, piece, read_by};
 ghost use Rattle.bit_containers_vector.specs.Vector.{vec_bits};
 ghost use Rattle.bit_slice_chunks.specs.Chunk.{chunk_bit, IsChunk};
 ghost use Rattle.bit_slice_views.specs.View.{view_bits};
@@ -9,7 +10,8 @@ ghost use Rattle.bit_table_layout.specs.Layouts.{row_width};
 ghost use Rattle.bit_table_layout.specs.Readings.{rows_from};
 ghost use Rattle.bit_table_commands.specs.LetterSets.{letter_count};
 ghost use Rattle.bit_table_commands.specs.Marks.{number_in_field, passes};
-ghost use Rattle.bit_table.specs.Told.{ones_from, told, HasChunk};
+ghost use Rattle.bit_table_fields.specs.Windows.{number_held};
+ghost use Rattle.bit_table.specs.Told.{ones_from, told, AreDigits, HasChunk};
 
 use bit_addressing_memory::{BitOrder, BitRegister, Direction};
 use bit_containers_vector::BitVec;
@@ -17,13 +19,24 @@ use bit_slice_chunks::any_order::{direction_for, read_bits, read_chunk};
 use bit_slice_views::{BitSlice, BitStore, Bits};
 use bit_slice_words::{Steps, WordPaths};
 use bit_table_commands::Test;
-use bit_table_fields::{Digits, bits_before, load_number};
-use bit_table_layout::Layout;
+use bit_table_fields::{Digits, bits_before};
+use bit_table_layout::{Layout, Rule};
 use bit_table_rows::Letters;
 use std::alloc::{AllocError, Global};
 
-// How many bits a chunk has.
+// How many bits a chunk has, and how many rows are told at once.
 const CHUNK: usize = 64;
+
+// How the numbers of a field lie in the bits of rows.
+#[derive(Clone, Copy)]
+struct Column {
+    // How the digits of a number lie, how many there are, and whether the highest is a sign's.
+    rule: Rule,
+    digits: u32,
+    signed: bool,
+    // How many bits lie from a number to that of the next row.
+    stride: usize,
+}
 
 // Makes exactly those rows bear a letter whose number of a field passes a test.
 pub(crate) fn mark_rows<T: BitStore, O: WordPaths<T> + Digits<T>>(
@@ -44,18 +57,83 @@ pub(crate) fn mark_rows<T: BitStore, O: WordPaths<T> + Digits<T>>(
         (rows_from layout.now (length letters.old) (vec_bits (read_by T.BitRegister O.position) bits.now)))
         letters.old }
 {
-    let width = layout.row_bits();
-    let rule = layout.rule();
     let shape = &layout.fields()[field];
-    let (digits, signed) = (shape.width(), shape.signed());
-    let first = bits_before(layout, field);
-    // As many bits as a `usize` counts, and so each row's place is one.
+    let column = Column {
+        rule: layout.rule(),
+        digits: shape.width(),
+        signed: shape.signed(),
+        stride: layout.row_bits(),
+    };
+    let before = bits_before(layout, field);
+    // As many bits as a `usize` counts, and so each number's place is one.
     let _bits = bits.len();
-    for row in 0..letters.rows() {
-        let mut steps = Steps::new();
-        let number = load_number(bits, row * width + first, rule, digits, signed, &mut steps);
-        letters.put(letter, row, test.passes(number, value));
+    let view = bits.as_bitslice();
+    let rows = letters.rows();
+    for block in 0..rows.div_ceil(CHUNK) {
+        let first = CHUNK * block;
+        let count = CHUNK.min(rows - first);
+        let place = first * column.stride + before;
+        let answers = answers_from::<T, O>(view, place, count, column, test, value);
+        letters.put_many(letter, first, count, answers);
     }
+}
+
+// Which of so many numbers of a field, 1 to 64, pass a test, the first of them at a place: digit k is number k's.
+#[inline(always)]
+fn answers_from<T: BitRegister, O: Digits<T>>(
+    bits: BitSlice<'_, T, O>,
+    place: usize,
+    count: usize,
+    column: Column,
+    test: Test,
+    value: i128,
+) -> u64
+    requires some { 1 ≤ column.digits }
+    requires narrow { column.digits ≤ 64 }
+    requires any { 0 < count }
+    requires few { count ≤ 64 }
+    requires within { (k : ℕ) → k < count → place + k * column.stride + column.digits
+        ≤ length (view_bits (read_by T.BitRegister O.position) bits) }
+    ensures { AreDigits (λ k. passes test (number_held column.rule column.signed column.digits
+        (piece (view_bits (read_by T.BitRegister O.position) bits.entry) (place + k * column.stride) column.digits))
+        value) count result }
+{
+    let (words, head, _len) = bits.parts();
+    let first = head as usize + place;
+    let mut answers = 0u64;
+    for k in 0..count {
+        let number = number_from::<T, O>(words, first + k * column.stride, column);
+        answers = with_answer(answers, k, test.passes(number, value));
+    }
+    answers
+}
+
+// The number of a field that stands at a place.
+#[inline(always)]
+fn number_from<T: BitRegister, O: Digits<T>>(words: &[T], place: usize, column: Column) -> i128
+    requires some { 1 ≤ column.digits }
+    requires narrow { column.digits ≤ 64 }
+    requires within { place + column.digits ≤ length words.now * T.BITS }
+    requires ends { place + column.digits < 2 ^ 64 }
+    ensures { result ≡ number_held column.rule column.signed column.digits
+        (piece (memory (read_by T.BitRegister O.position) words.now) place column.digits) }
+{
+    let (digits, signed) = (column.digits, column.signed);
+    let mut steps = Steps::new();
+    match column.rule {
+        Rule::Low => O::load_low_at(words, place, digits, signed, &mut steps),
+        Rule::High => O::load_high_at(words, place, digits, signed, &mut steps),
+    }
+}
+
+// A number, whose digits from one on are zero, with that one made an answer.
+#[inline(always)]
+fn with_answer(answers: u64, index: usize, passes: bool) -> u64
+    requires { index < 64 }
+    ensures { (told : ℕ → Bool) → told index ≡ passes → AreDigits told index answers
+        → AreDigits told (index + 1) result }
+{
+    answers | (u64::from(passes) << index)
 }
 
 // The places of the ones among bits, in order. Memory for all of them is taken first.

@@ -15,6 +15,7 @@ pub enum Test {
 
 impl Test {
     /// Whether a number compares so with a value.
+    #[inline(always)]
     pub fn passes(self, number: i128, value: i128) -> bool
         ensures { result ≡ passes self number value }
     {

@@ -105,16 +105,16 @@ fn digit_at(value: i128, place: u32) -> bool
 }
 
 // The number of `width` digits that are those of another number, the highest of them the sign's where it has one.
-pub(crate) fn number_of(digits: u128, width: u32, signed: bool) -> i128
+pub(crate) fn number_of(digits: u64, width: u32, signed: bool) -> i128
     requires some { 1 ≤ width }
     requires narrow { width ≤ 64 }
-    requires small { digits < 2 ^ 64 }
     ensures { result ≡ number_from_digits signed width digits }
 {
-    if signed && digits >= 1u128 << (width - 1) {
-        digits as i128 - (1i128 << width)
+    let half = 1u64 << (width - 1);
+    if signed && digits >= half {
+        i128::from(digits) - 2 * i128::from(half)
     } else {
-        digits as i128
+        i128::from(digits)
     }
 }
 
@@ -132,7 +132,7 @@ fn load<V: Bits>(rule: Rule, view: &V, signed: bool, steps: &mut Steps) -> i128
         digits = 2 * digits + u128::from(view.bit(index as usize));
         steps.step();
     }
-    number_of(digits, width, signed)
+    number_of(digits as u64, width, signed)
 }
 
 // Makes each of the bits from `at` on the digit that stands there.

@@ -37,7 +37,7 @@ pub(crate) fn load<R: BitRegister, O: BitOrder<R>>(
     let chunk = read_bits::<R, O>(way_of(rule), words, place, width as usize);
     let digits = digits_of(rule, chunk, width);
     steps.many(width as usize);
-    number_of(u128::from(digits), width, signed)
+    number_of(digits, width, signed)
 }
 
 /// `Digits::store_low_at` or `Digits::store_high_at`, as the rule says.

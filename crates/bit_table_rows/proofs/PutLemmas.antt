@@ -1,7 +1,8 @@
 -- The list of one letter replaced.
 --
--- At one row: `marks_put`. At each row by what the row bears: `marks_decided`.
-use Rattle.std.proofs.Common.{◌≡◌, ◌≢◌, ℕ, zero, suc, ◌<◌, ◌≤◌, ◌⊎◌, inl, inr}
+-- At one row: `marks_put`; at rows one behind the other: `marks_told`. At each row by what the row bears:
+-- `marks_decided`.
+use Rattle.std.proofs.Common.{◌≡◌, ◌≢◌, ℕ, zero, suc, ◌+◌, ◌<◌, ◌≤◌, ◌⊎◌, inl, inr}
 use Rattle.std.proofs.Common.{◌&&◌, ◌||◌, not, Bool, true, false, List, [], ◌∷◌}
 use Rattle.std.specs.Prelude.{if◌then◌else◌}
 use Rattle.std.proofs.Common.{length, map, replicate, set as put, get_or, eqb, nat_eq, refl, sym, ap, ◌∙◌, arith}
@@ -12,10 +13,12 @@ use Rattle.std.specs.Cmp.{nat_cmp_total, unsigned_tied}
 use Rattle.std.proofs.lemmas.Bool.{cases_lt}
 use Rattle.std.proofs.lemmas.Bool.Decides.{eqb_tells}
 use Rattle.std.proofs.lemmas.List.{get_or-map, length-map, length-set, get_or-set_same, get_or-set_other, same_lists}
-use Rattle.std.proofs.lemmas.List.{length-replicate}
+use Rattle.std.proofs.lemmas.List.{get_or_past, length-replicate}
 use Rattle.std.proofs.lemmas.List.FromFn.{get_or-map-range_with_len}
+use Rattle.bit_addressing_memory.specs.Memory.{with_piece}
+use Rattle.bit_addressing_memory.proofs.MemoryLemmas.{with_piece_below, with_piece_inside, with_piece_above}
 use Rattle.bit_table_commands.specs.LetterSets.{LetterSet, letter_count, bears, with_letter}
-use Rattle.bit_table_rows.specs.Marks.{list_of, letters_at, marks_of, decided}
+use Rattle.bit_table_rows.specs.Marks.{list_of, letters_at, marks_of, decided, TellsRows}
 use Rattle.bit_table_rows.proofs.MarkLemmas.{bears_here, bears_nothing, length-marks, marks_are}
 
 chosen_or : (t b : Bool) → (t || b) ≡ (if t then true else b)
@@ -136,6 +139,47 @@ module _ (lists : List (List Bool)) (n x : ℕ) (count : length lists ≡ letter
             (get_or-set_other (list_of lists x) k j b false apart.1 ∙ sym (bears_here lists j x low))
             ∙ with_same x (letters_at lists j)
             ∙ sym (get_or-set_other (marks_of n lists) k j now d apart.1 ∙ mark_at lists j d below)
+
+  -- letter x as each of m rows from one on is told
+  pub marks_told : (first m : ℕ) (told : ℕ → Bool) (ys : List Bool) → first + m ≤ n → length (list_of lists x) ≡ n
+      → length ys ≡ m → ((k : ℕ) → k < m → get_or ys k false ≡ told k)
+      → TellsRows x first m told (marks_of n lists) (marks_of n (put lists x (with_piece (list_of lists x) first ys)))
+  marks_told first m told ys within size long same = record {
+    there = λ k below.
+        replaced (first + k) (omega (arith, within, below))
+        ∙ ap (λ b. with_letter x b (get_or (marks_of n lists) (first + k) set.empty))
+        (with_piece_inside (list_of lists x) first ys (first + k) k false fits refl (omega (arith, long, below)) ∙ same k below);
+    below = λ k early.
+        kept k (omega (arith, within, early)) (with_piece_below (list_of lists x) first ys k false fits early);
+    above = λ k late. elim (cases_lt k n) [
+      | inl inside ↦ kept k inside (with_piece_above (list_of lists x) first ys k false fits (omega (arith, long, late)))
+      | inr past ↦
+          get_or_past (marks_of n after) k set.empty (omega (arith, length-marks after n, past))
+          ∙ sym (get_or_past (marks_of n lists) k set.empty (omega (arith, length-marks lists n, past)))
+    ];
+    len = length-marks after n ∙ sym (length-marks lists n);
+  } where
+    now : List Bool
+    now = with_piece (list_of lists x) first ys
+
+    after : List (List Bool)
+    after = put lists x now
+
+    fits : first + length ys ≤ length (list_of lists x)
+    fits = omega (arith, within, size, long)
+
+    replaced : (k : ℕ) → k < n → get_or (marks_of n after) k set.empty
+        ≡ with_letter x (get_or now k false) (get_or (marks_of n lists) k set.empty)
+    replaced k inside =
+        mark_at after k set.empty inside ∙ letters_replaced lists x now count low k
+        ∙ ap (with_letter x (get_or now k false)) (sym (mark_at lists k set.empty inside))
+
+    kept : (k : ℕ) → k < n → get_or now k false ≡ get_or (list_of lists x) k false
+        → get_or (marks_of n after) k set.empty ≡ get_or (marks_of n lists) k set.empty
+    kept k inside still =
+        mark_at after k set.empty inside ∙ letters_replaced lists x now count low k
+        ∙ ap (λ b. with_letter x b (letters_at lists k)) (still ∙ sym (bears_here lists k x low))
+        ∙ with_same x (letters_at lists k) ∙ sym (mark_at lists k set.empty inside)
 
 replicate_mapped : {A B : Type 0} (f : A → B) (n : ℕ) (x : A) → map f (replicate n x) ≡ replicate n (f x)
 replicate_mapped f zero x = refl

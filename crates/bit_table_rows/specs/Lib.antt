@@ -12,6 +12,7 @@ pub mod Lists
 pub use Rattle.bit_addressing_memory.specs.BitIdx
 pub use Rattle.bit_addressing_memory.specs.BitOrder
 pub use Rattle.bit_addressing_memory.specs.BitRegister
+pub use Rattle.bit_addressing_memory.specs.Bits
 pub use Rattle.bit_addressing_memory.specs.Memory
 pub use Rattle.bit_addressing_memory.specs.Moves
 pub use Rattle.bit_addressing_memory.specs.Straight

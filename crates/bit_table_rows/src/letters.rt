@@ -4,6 +4,7 @@ ghost use Rattle.std.specs.Prelude.{◌≡◌, ◌≢◌, ◌+◌, ◌*◌, ◌�
 ghost use Rattle.std.specs.Prelude.{slice_index, slice_index_or, IfOk, IsOk, OnOk, OnErr, not};
 ghost use Rattle.std.specs.List.{All, count_by, filter};
 ghost use Rattle.std.specs.FinSet as set;
+ghost use Rattle.bit_addressing_memory.specs.Bits.{digit_at};
 ghost use Rattle.bit_addressing_memory.specs.Memory.{read_by, touched};
 ghost use Rattle.bit_addressing_span.specs.declared.span.TheConstants.{MAX_BITS};
 ghost use Rattle.bit_slice_words.specs.Steps.{groups, Takes};
@@ -11,13 +12,14 @@ ghost use Rattle.bit_slice_views.specs.View.{view_bits, view_head};
 ghost use Rattle.bit_table_rows.specs.Lists.{AreColumns};
 ghost use Rattle.bit_table_commands.specs.Letters.{combined};
 ghost use Rattle.bit_table_commands.specs.LetterSets.{bears, letter_count, with_letter};
-ghost use Rattle.bit_table_rows.specs.Marks.{decided};
+ghost use Rattle.bit_table_rows.specs.Marks.{decided, TellsRows};
 ghost use Rattle.bit_table_rows.specs.RowEdit.{added, edited_by, most_moved, LiesIn};
 
 use crate::combine::combine_lists;
 use crate::drops::drop_marked;
 use crate::edit::RowEdit;
 use crate::lists::{copy_lists, edit_lists, extend_lists, reserve_lists};
+use crate::put::put_bits;
 use bit_addressing_memory::BitOrder;
 use bit_containers_vector::BitVec;
 use bit_slice_views::{BitSlice, BitStore, Bits};
@@ -116,6 +118,18 @@ impl<T: BitStore, O: WordPaths<T>> Letters<T, O> {
             ≡ slice_set self.old row (with_letter letter bears_it (slice_index_or self.old row set.empty)) }
     {
         self.lists[letter].set(row, bears_it);
+    }
+
+    /// Makes each of so many rows from `first` on, 1 to 64, bear a letter exactly where a digit of a number is 1: digit
+    /// k says it of row `first + k`.
+    pub fn put_many(&mut self, letter: usize, first: usize, count: usize, digits: u64)
+        requires letter { letter < letter_count }
+        requires some { 0 < count }
+        requires few { count ≤ 64 }
+        requires rows { first + count ≤ length self.old }
+        ensures { TellsRows letter first count (digit_at digits) self.old self.new }
+    {
+        put_bits(&mut self.lists[letter], first, count, digits);
     }
 
     /// Turns a letter round in each row: the rows that bore it do not, and the others do.

@@ -11,6 +11,7 @@ mod letters;
 mod lists;
 mod one_bit;
 mod one_row;
+mod put;
 mod rows;
 mod vectors;
 mod windows;

@@ -19,6 +19,8 @@ mod growth;
 #[cfg(test)]
 mod image_lines;
 #[cfg(test)]
+mod letters;
+#[cfg(test)]
 mod line_runs;
 #[cfg(test)]
 mod line_words;

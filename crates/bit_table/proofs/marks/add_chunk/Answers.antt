@@ -1,4 +1,4 @@
-use Rattle.std.proofs.Common.{◌≡◌, ◌+◌, ◌<◌, ◌≤◌, ◌++◌, [], ◌∷◌, false, Vec, Global, ℕ, length, take, ap, sym}
+use Rattle.std.proofs.Common.{◌≡◌, ◌+◌, ◌<◌, ◌++◌, [], ◌∷◌, false, Vec, Global, ℕ, length, take, ap, sym}
 use Rattle.std.proofs.Common.{◌∙◌, arith}
 use Rattle.bit_slice_chunks.specs.Chunk.{chunk_bit}
 use Rattle.bit_table.specs.Told.{ones_from}

@@ -46,8 +46,8 @@ loop-k-preserved g c =
       steps = takes_more _ _ _ c.loop-k.k c.step.ensures c.loop-k.invariant.steps;
     }
 
-pub number_of-requires-clause-small : goal.number_of-requires-clause-small
-number_of-requires-clause-small g c =
+pub overflow_cast-digits : goal.overflow_cast-digits
+overflow_cast-digits g c =
     let held = g.V.Bits.bits c.args.view.now in
     let small =
     so_far_small c.args.rule c.len-width.result held c.loop-k.k (sym c.len-width.ensures) (omega arith)

@@ -16,6 +16,6 @@ returns-clause-value g c =
     c.read_bits-chunk.ensures in
     to_z-of_z w128 c.number_of.result (record { sfits = c.number_of.type_inv })
     ∙ c.number_of.ensures
-    ∙ ap (number_from_digits c.args.signed c.args.width) (c.from.ensures ∙ c.digits_of-digits.ensures
+    ∙ ap (number_from_digits c.args.signed c.args.width) (c.digits_of-digits.ensures
     ∙ held_digits c.args.rule reading c.args.words.now c.args.place c.args.width c.read_bits-chunk.result
     some c.requires.within c.requires.some c.requires.narrow c.read_bits-chunk.type_inv is)

@@ -26,7 +26,9 @@ pub(crate) struct Session<A: BitViewSized, O: WordPaths<A::Store> + Digits<A::St
 }
 
 impl<A: BitViewSized, O: WordPaths<A::Store> + Digits<A::Store>> Session<A, O> {
+    ghost use Rattle.std.specs.Prelude.{List, ℕ, ◌∷◌, ◌++◌, true};
     ghost use Rattle.bit_table.specs.Sessions.{session_state};
+    ghost use Rattle.bit_table.specs.Scripts.{answers};
 
     // The beginning of a script.
     pub(crate) fn new(alloc: Global) -> Session<A, O>
@@ -34,6 +36,20 @@ impl<A: BitViewSized, O: WordPaths<A::Store> + Digits<A::Store>> Session<A, O> {
         ensures { session_state result ≡ start }
     {
         Session { alloc, table: None }
+    }
+
+    // Takes a line with a word, where there is no table yet, as a layout line, and gives its answer. Out of line: where it
+    // is inlined, room for tables is cleared at each line.
+    #[inline(never)]
+    fn begin(&mut self, line: &[u8]) -> Result<Vec<u8>, AllocError>
+        requires word { has_word line.now ≡ true }
+        requires none { self.old.table ≡ None }
+        ensures { IfOk result (λ text. (rest : List (List ℕ)) → answers (session_state self.old) (line.now ∷ rest)
+            ≡ text.items ++ answers (session_state self.new) rest) }
+    {
+        let (table, text) = answer_layout_line::<A, O>(self.alloc, line)?;
+        self.table = table;
+        Ok(text)
     }
 }
 
@@ -52,9 +68,7 @@ impl<A: BitViewSized, O: WordPaths<A::Store> + Digits<A::Store>> LineMachine for
         if let Some(table) = &mut self.table {
             return answer_command_line(self.alloc, table, line);
         }
-        let (table, text) = answer_layout_line::<A, O>(self.alloc, line)?;
-        self.table = table;
-        Ok(text)
+        self.begin(line)
     }
 
     ghost none = { λ m. refl };

@@ -155,6 +155,8 @@ impl<A: BitViewSized, O: WordPaths<A::Store> + Digits<A::Store>> Table<A, O> {
     // ---- what is kept
 
     /// Keeps the rows in place of those that were kept. Where no memory is found, the older ones stay.
+    // Out of line, as `back` and `load`: where they are inlined, their room for lists is cleared at each command.
+    #[inline(never)]
     pub fn keep(&mut self) -> Result<(), AllocError>
         ensures ok { OnOk result (self.new.shape ≡ edit self.old.shape Command.Keep) }
         ensures err { OnErr result (self.new ≡ self.old) }
@@ -166,6 +168,7 @@ impl<A: BitViewSized, O: WordPaths<A::Store> + Digits<A::Store>> Table<A, O> {
 
     /// Puts the kept rows in place of the rows, after which nothing is kept, and answers whether there were any: where
     /// nothing is kept, nothing changes. It takes no memory.
+    #[inline(never)]
     pub fn back(&mut self) -> bool
         ensures told { result ≡ is_some self.old.shape.kept }
         ensures back { IsTrue result → self.new.shape ≡ edit self.old.shape Command.Back }
@@ -429,6 +432,7 @@ impl<A: BitViewSized, O: WordPaths<A::Store> + Digits<A::Store>> Table<A, O> {
     }
 
     // No memory is taken before the bytes are known to be an image; all new lists are made before the old ones go.
+    #[inline(never)]
     fn load(&mut self, rows: u64, bytes: &[u8]) -> Result<Reply, AllocError>
         requires { IsAccepted self.old.shape (Command.Load rows bytes.now) }
         ensures ok { OnOk result (self.new.shape ≡ edit self.old.shape (Command.Load rows bytes.now)) }

@@ -1,8 +1,8 @@
-use Rattle.std.proofs.Common.{◌≡◌, None, sym, ap, refl, rules}
+use Rattle.std.proofs.Common.{sym, ap, refl}
 use Rattle.bit_table.specs.Scripts.{state_of}
 use Rattle.bit_table.specs.Shapes.{shape_in}
 use Rattle.bit_table.proofs.AnswerLemmas.{if_and_on_ok}
-use Rattle.bit_table.proofs.SessionLemmas.{answers-blank, answers-begun, answers-carried}
+use Rattle.bit_table.proofs.SessionLemmas.{answers-blank, answers-carried}
 use Rattle.bit_table.proofs.session.SessionLineMachine.answer.Goals as goal
 
 pub returns-then-not-has_word : goal.returns-then-not-has_word
@@ -16,12 +16,3 @@ returns-in-Some g c =
     (λ text e h rest. rw state
     (answers-carried c.in-Some.table.shape _ c.args.line.now text.items (sym c.if-not-has_word.ensures) e h rest))
     c.answer_command_line.ensures.text c.answer_command_line.ensures.state
-
-pub returns : goal.returns
-returns g c =
-    let none : c.args.self.now.table ≡ None = search rules in
-    let state = ap (λ t. state_of (shape_in t)) none in
-    let some = sym c.if-not-has_word.ensures in
-    let begun = c.in_ok-table.ensures in
-    λ rest. rw state
-    (answers-begun _ c.args.line.now c.in_ok-table.text.items some begun.text begun.state rest)

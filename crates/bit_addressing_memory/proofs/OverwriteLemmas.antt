@@ -1,7 +1,8 @@
 -- One entry overwritten, and what it tells of each entry.
 --
--- From the record: `written_there`, `written_others`. To the record: `writes_from`.
-use Rattle.std.proofs.Common.{◌≡◌, ◌≢◌, ℕ, ◌+◌, ◌-◌, ◌<◌, Bool, List, length, sym, ap, ◌∙◌, inl, inr, arith}
+-- From the record: `written_there`, `written_others`. To the record: `writes_from`. Several: `stretch_none`,
+-- `stretch_more`, `overwrites_join`.
+use Rattle.std.proofs.Common.{◌≡◌, ◌≢◌, ℕ, ◌+◌, ◌-◌, ◌<◌, Bool, List, length, refl, sym, ap, ◌∙◌, inl, inr, arith, below_more}
 use Rattle.std.proofs.lemmas.Bool.{cases_lt}
 use Rattle.bit_addressing_memory.specs.Memory.{Reading, entry, Overwrites, Writes}
 
@@ -30,6 +31,28 @@ writes_from {reading} {after} {place} there others words = record {
   below = λ p low. others p (omega arith);
   above = λ p high. others p (omega arith);
   words = words;
+}
+
+-- a stretch overwritten bit by bit: before the first bit, and one more
+pub stretch_none : {R : Type 0} (reading : Reading R) (words : List R) (place : ℕ) (now : ℕ → Bool)
+    → Overwrites reading words words place 0 now
+stretch_none reading words place now = record {
+  there = λ k h. absurd (omega arith);
+  below = λ p h. refl;
+  above = λ p h. refl;
+  words = refl;
+}
+
+pub stretch_more : {R : Type 0} (reading : Reading R) (before mid after : List R) (place k : ℕ) (bit : Bool)
+    (now : ℕ → Bool) → bit ≡ now k → Overwrites reading before mid place k now
+    → Writes reading mid after (place + k) bit → Overwrites reading before after place (k + 1) now
+stretch_more reading before mid after place k bit now is_bit had wrote = record {
+  there = below_more (λ i. entry reading after (place + i) ≡ now i) k
+      (λ i h. written_others wrote (place + i) (omega arith) ∙ had.there i h)
+      (written_there wrote ∙ is_bit);
+  below = λ q h. written_others wrote q (omega arith) ∙ had.below q h;
+  above = λ q h. written_others wrote q (omega arith) ∙ had.above q (omega arith);
+  words = wrote.words ∙ had.words;
 }
 
 -- two stretches end to end

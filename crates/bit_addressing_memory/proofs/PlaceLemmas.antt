@@ -1,8 +1,9 @@
 -- The word of a place that lies below the end of so many words.
-use Rattle.std.proofs.Common.{◌≡◌, ℕ, ◌+◌, ◌-◌, ◌*◌, ◌/◌, ◌%◌, ◌<◌, ◌≤◌, inl, inr, arith}
+use Rattle.std.proofs.Common.{◌≡◌, ℕ, zero, suc, ◌+◌, ◌-◌, ◌*◌, ◌/◌, ◌%◌, ◌<◌, ◌≤◌, inl, inr, sym, ap, ◌∙◌, arith}
 use Rattle.std.proofs.Math.Nat.{mul-le-mul_right}
 use Rattle.std.proofs.lemmas.Bool.{cases_lt}
-use Rattle.std.proofs.lemmas.Nat.{div-add-mod'}
+use Rattle.std.proofs.lemmas.Nat.{div-add-mod', div-mul-add}
+use Rattle.bit_addressing_memory.specs.Memory.{touched}
 
 -- a place before the end of n words of b bits lies in one of them
 pub word_within : (b j i n : ℕ) → j * b + i < n * b → j < n
@@ -65,3 +66,13 @@ begins_behind b bits place k is some high =
 -- the last word ends behind the end
 pub ends_behind : (b bits end k : ℕ) → bits ≡ b → 0 < b → (end - 1) / bits + 1 ≤ k → end ≤ k * b
 ends_behind b bits end k is some high = omega (arith, begins_behind b bits (end - 1) k is some high)
+
+-- how many words a stretch touches, by where it begins and ends in its first word and its last
+pub touched_words : (b place n first from last upto : ℕ) → first * b + from ≡ place → last * b + upto ≡ place + n
+    → from < b → 0 < upto → upto ≤ b → 0 < n → touched b place n ≡ last + 1 - first
+touched_words b place zero first from last upto start end low some within any = absurd (omega arith)
+touched_words b place (suc m) first from last upto start end low some within any =
+    let at : last * b + (upto - 1) ≡ place + m = omega arith in
+    let head : place / b ≡ first = ap (λ p. p / b) (sym start) ∙ div-mul-add first b from low in
+    let tail : (place + m) / b ≡ last = ap (λ p. p / b) (sym at) ∙ div-mul-add last b (upto - 1) (omega arith) in
+    omega (arith, head, tail)

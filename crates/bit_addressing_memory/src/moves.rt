@@ -1,18 +1,19 @@
 //! Bits that move inside one memory: each word of the target is gathered and then written once.
 
-ghost use Rattle.std.specs.Prelude.{◌≡◌, ◌+◌, ◌-◌, ◌*◌, ◌/◌, ◌^◌, ◌<◌, ◌≤◌, length};
+ghost use Rattle.std.specs.Prelude.{◌≡◌, ◌+◌, ◌-◌, ◌*◌, ◌/◌, ◌^◌, ◌<◌, ◌≤◌, Some, length, min};
 ghost use Rattle.bit_addressing_memory.specs.Memory.{read_by, entry, touched};
 ghost use Rattle.bit_addressing_memory.specs.Partial.{IsStored};
-ghost use Rattle.bit_addressing_memory.specs.Straight.{IsStraight};
+ghost use Rattle.bit_addressing_memory.specs.Straight.{Goes, IsStraight};
+ghost use Rattle.bit_addressing_memory.specs.declared.direction.Direction.{Direction};
 ghost use Rattle.bit_addressing_memory.specs.Moves.{Moves, changed};
 ghost use Rattle.bit_addressing_memory.specs.MoveSteps.{IsGathered, PutsWords};
 ghost use Rattle.bit_addressing_memory.specs.Sweep.{IsFresh, SameButReads, sweep_lender, way_of, sweep_words, writes_of};
 ghost use Rattle.bit_addressing_memory.specs.Sweep.{reads_of};
 ghost use Rattle.bit_addressing_memory.specs.Ways.{way_for};
 
-use crate::direction::direction_of;
-use crate::limbs::with_bits;
-use crate::shifted::put_shifted;
+use crate::direction::{Direction, direction_of};
+use crate::limbs::with_limbs;
+use crate::shifted::{put_shifted, with_shifted};
 use crate::sweep::{Sweep, Way};
 use bit_addressing_order::mem::bits_of;
 use bit_addressing_order::{BitOrder, BitRegister};
@@ -62,7 +63,7 @@ pub fn move_in<R: BitRegister, O: BitOrder<R>>(
     }
 }
 
-// Puts each word that the target touches, gathered bit by bit.
+// Puts each word that the target touches, its bits gathered by limbs.
 fn put_gathered<R: BitRegister, O: BitOrder<R>>(
     sweep: &mut Sweep<'_, R>,
     source: usize,
@@ -97,8 +98,8 @@ fn put_gathered<R: BitRegister, O: BitOrder<R>>(
     }
 }
 
-// The word `k` as the move leaves it: the source's bits inside the target, its own beside it. It counts a read for each of
-// these bits.
+// The word `k` as the move leaves it: the source's bits inside the target, its own beside it. A read is counted for it,
+// and for each of the source's bits.
 fn gathered<R: BitRegister, O: BitOrder<R>>(
     sweep: &mut Sweep<'_, R>,
     k: usize,
@@ -124,35 +125,36 @@ fn gathered<R: BitRegister, O: BitOrder<R>>(
     let upto = bits.min(target + len - start);
     let own = sweep.read(k);
     let place = source + (start + from - target);
-    let word = taken::<R, O>(sweep, place, own, from as u8, upto as u8);
-    sweep.count_reads(upto - from);
-    word
+    taken::<R, O>(sweep, None, place, own, from as u8, upto as u8)
 }
 
-/// A word with the bits of a sweep's words from a place on at its indices from one up to before another, in any lawful
-/// order: limb by limb. Its other bits stay. No read is counted.
+/// A word with the bits of a sweep's words from a place on at its indices from one up to before another: by shifts where
+/// the positions go in a direction, else by limbs. Its other bits stay. A read is counted for each bit that is taken.
+#[inline(always)]
 pub fn taken<R: BitRegister, O: BitOrder<R>>(
-    sweep: &Sweep<'_, R>,
+    sweep: &mut Sweep<'_, R>,
+    direction: Option<Direction>,
     place: usize,
     own: R,
     from: u8,
     upto: u8,
 ) -> R
+    requires goes { (d : Direction) → direction ≡ Some d → Goes R.BITS O.position d }
     requires order { from < upto }
     requires index { upto ≤ R.BITS }
-    requires within { place + (upto - from) ≤ length (sweep_words sweep.now) * R.BITS }
+    requires within { place + (upto - from) ≤ length (sweep_words sweep.old) * R.BITS }
     requires ends { place + (upto - from) < 2 ^ 64 }
-    ensures { IsStored (read_by R.BitRegister O.position) own result from upto
-        (λ i. entry (read_by R.BitRegister O.position) (sweep_words sweep.now) (place + (i - from))) }
+    ensures stored { IsStored (read_by R.BitRegister O.position) own result from upto
+        (λ i. entry (read_by R.BitRegister O.position) (sweep_words sweep.old) (place + (i - from))) }
+    ensures reads { reads_of sweep.new ≡ min (reads_of sweep.old + (upto - from)) (2 ^ 64 - 1) }
+    ensures same { SameButReads sweep.old sweep.new }
+    ensures lender { sweep_lender sweep.new ≡ sweep_lender sweep.old }
 {
     let words = sweep.all();
-    if upto <= 64 {
-        return with_bits::<R, O>(own, 0, from, upto, words, place);
-    }
-    if from >= 64 {
-        return with_bits::<R, O>(own, 64, from, upto, words, place);
-    }
-    let begun = with_bits::<R, O>(own, 0, from, 64, words, place);
-    let behind = place + (64 - from) as usize;
-    with_bits::<R, O>(begun, 64, 64, upto, words, behind)
+    let word = match direction {
+        Some(direction) => with_shifted::<R, O>(direction, words, place, own, from, upto),
+        None => with_limbs::<R, O>(words, place, own, from, upto),
+    };
+    sweep.count_reads((upto - from) as usize);
+    word
 }

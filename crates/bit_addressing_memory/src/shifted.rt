@@ -5,7 +5,8 @@
 //! sweep's counts in registers.
 
 ghost use Rattle.std.specs.Prelude.{◌≡◌, ◌+◌, ◌-◌, ◌*◌, ◌/◌, ◌^◌, ◌<◌, ◌≤◌, length};
-ghost use Rattle.bit_addressing_memory.specs.Memory.{read_by};
+ghost use Rattle.bit_addressing_memory.specs.Memory.{entry, read_by};
+ghost use Rattle.bit_addressing_memory.specs.Partial.{IsStored};
 ghost use Rattle.bit_addressing_memory.specs.Straight.{Goes};
 ghost use Rattle.bit_addressing_memory.specs.declared.sweep.Way.TheVariants.{Up, Down};
 ghost use Rattle.bit_addressing_memory.specs.MoveSteps.{BeginsWith, IsGathered, PutsWords};
@@ -195,10 +196,10 @@ fn shifted<R: BitRegister, O: BitOrder<R>>(
     stored::<R, O>(own, there, head, tail)
 }
 
-/// A word that begins with so many bits of a sweep's words, those from a place on: of the word there, and of the next
-/// one where they go on in it. The positions go in `direction`.
+// A word that begins with so many bits of the memory, those from a place on: of the word there, and
+// of the next one where they go on in it.
 #[inline(always)]
-pub fn bits_from<R: BitRegister, O: BitOrder<R>>(
+fn bits_from<R: BitRegister, O: BitOrder<R>>(
     sweep: &mut Sweep<'_, R>,
     direction: Direction,
     place: usize,
@@ -250,4 +251,54 @@ fn cut<R: BitRegister, O: BitOrder<R>>(
     }
     let next = sweep.read(word + 1);
     joined::<R, O>(direction, first, next, by as u8)
+}
+
+// A word that begins with so many bits of a memory, as `bits_from` has it, without a count.
+#[inline(always)]
+fn bits_at<R: BitRegister, O: BitOrder<R>>(
+    direction: Direction,
+    words: &[R],
+    place: usize,
+    count: usize,
+) -> R
+    requires goes { Goes R.BITS O.position direction }
+    requires some { 0 < count }
+    requires most { count ≤ R.BITS }
+    requires within { place + count ≤ length words.now * R.BITS }
+    ensures { BeginsWith (read_by R.BitRegister O.position) words.now place count result }
+{
+    let bits = bits_of::<R>();
+    let word = place / bits;
+    let index = place % bits;
+    let first = words[word];
+    if index == 0 {
+        return first;
+    }
+    if index + count <= bits {
+        return joined::<R, O>(direction, first, first, index as u8);
+    }
+    joined::<R, O>(direction, first, words[word + 1], index as u8)
+}
+
+// A word with the bits of a memory from a place on at its indices from one up to before another. Its other bits stay.
+#[inline(always)]
+pub(crate) fn with_shifted<R: BitRegister, O: BitOrder<R>>(
+    direction: Direction,
+    words: &[R],
+    place: usize,
+    own: R,
+    from: u8,
+    upto: u8,
+) -> R
+    requires goes { Goes R.BITS O.position direction }
+    requires order { from < upto }
+    requires index { upto ≤ R.BITS }
+    requires within { place + (upto - from) ≤ length words.now * R.BITS }
+    ensures { IsStored (read_by R.BitRegister O.position) own result from upto
+        (λ i. entry (read_by R.BitRegister O.position) words.now (place + (i - from))) }
+{
+    let moved = bits_at::<R, O>(direction, words, place, (upto - from) as usize);
+    let there = raised::<R, O>(direction, moved, from);
+    let head = BitIdx::new_unchecked(from);
+    stored::<R, O>(own, there, head, BitEnd::new_unchecked(upto))
 }

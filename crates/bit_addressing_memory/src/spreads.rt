@@ -1,6 +1,6 @@
 //! Bits of one word put into another, whatever the order of each.
 
-ghost use Rattle.std.specs.Prelude.{◌+◌, ◌-◌, ◌≤◌};
+ghost use Rattle.std.specs.Prelude.{◌≡◌, ℕ, ◌+◌, ◌-◌, ◌<◌, ◌≤◌, false};
 ghost use Rattle.bit_addressing_memory.specs.Memory.{indexed, read_by};
 ghost use Rattle.bit_addressing_memory.specs.Partial.{IsStored};
 
@@ -27,6 +27,31 @@ pub fn spread<R: BitRegister, O: BitOrder<R>, Q: BitRegister, P: BitOrder<Q>>(
     for i in from..upto {
         let bit = read_bit::<R, O>(source, BitIdx::new_unchecked(first + (i - from)));
         made = write_bit::<Q, P>(made, BitIdx::new_unchecked(i), bit);
+    }
+    made
+}
+
+// `spread` into a word that has zeros there: a bit that is 0 leaves it as it is.
+#[inline(always)]
+pub(crate) fn spread_on_zeros<R: BitRegister, O: BitOrder<R>, Q: BitRegister, P: BitOrder<Q>>(
+    source: R,
+    first: u8,
+    target: Q,
+    from: u8,
+    upto: u8,
+) -> Q
+    requires order { from ≤ upto }
+    requires within { upto ≤ Q.BITS }
+    requires source { first + (upto - from) ≤ R.BITS }
+    requires zeros { (i : ℕ) → from ≤ i → i < upto → indexed Q.number P.position target i ≡ false }
+    ensures { IsStored (read_by Q.BitRegister P.position) target result from upto
+        (λ i. indexed R.number O.position source (first + (i - from))) }
+{
+    let mut made = target;
+    for i in from..upto {
+        if read_bit::<R, O>(source, BitIdx::new_unchecked(first + (i - from))) {
+            made = write_bit::<Q, P>(made, BitIdx::new_unchecked(i), true);
+        }
     }
     made
 }

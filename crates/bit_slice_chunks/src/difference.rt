@@ -12,6 +12,9 @@ use bit_addressing_memory::Direction;
 pub fn first_difference(direction: Direction, chunk: u64, other: u64) -> usize
     ensures { AgreeTo direction chunk other result }
 {
+    if chunk == other {
+        return 64;
+    }
     let differ = faced(direction, Direction::Ascending, chunk ^ other);
     if differ == 0 {
         return 64;

@@ -1,31 +1,8 @@
 -- A stretch overwritten bit by bit.
-use Rattle.std.proofs.Common.{◌≡◌, ℕ, ◌+◌, Bool, List, refl, ap₂, ◌∙◌, arith, below_more}
-use Rattle.bit_addressing_memory.specs.Memory.{Reading, entry, Overwrites, Writes}
-use Rattle.bit_addressing_memory.proofs.OverwriteLemmas.{written_there, written_others}
+use Rattle.std.proofs.Common.{◌≡◌, ℕ, ◌+◌, Bool, List, ap₂, ◌∙◌, arith}
+use Rattle.bit_addressing_memory.specs.Memory.{Reading, entry, Writes}
+use Rattle.bit_addressing_memory.proofs.OverwriteLemmas.{stretch_more, stretch_none}
 use Rattle.bit_slice_paths.specs.Combined.{Combines}
-
--- before the first bit
-pub stretch_none : {R : Type 0} (reading : Reading R) (words : List R) (place : ℕ) (now : ℕ → Bool)
-    → Overwrites reading words words place 0 now
-stretch_none reading words place now = record {
-  there = λ k h. absurd (omega arith);
-  below = λ p h. refl;
-  above = λ p h. refl;
-  words = refl;
-}
-
--- one more bit
-pub stretch_more : {R : Type 0} (reading : Reading R) (before mid after : List R) (place k : ℕ) (bit : Bool)
-    (now : ℕ → Bool) → bit ≡ now k → Overwrites reading before mid place k now
-    → Writes reading mid after (place + k) bit → Overwrites reading before after place (k + 1) now
-stretch_more reading before mid after place k bit now is_bit had wrote = record {
-  there = below_more (λ i. entry reading after (place + i) ≡ now i) k
-      (λ i h. written_others wrote (place + i) (omega arith) ∙ had.there i h)
-      (written_there wrote ∙ is_bit);
-  below = λ q h. written_others wrote q (omega arith) ∙ had.below q h;
-  above = λ q h. written_others wrote q (omega arith) ∙ had.above q (omega arith);
-  words = wrote.words ∙ had.words;
-}
 
 -- one more bit, made of the one that stands there and another
 pub combines_more : {R Q : Type 0} (reading : Reading R) (before mid after : List R) (place k : ℕ)

@@ -1,10 +1,11 @@
 -- The steps of a call, by words and by bits. No public clause cites this module.
 --
--- A bit: `changed_bit`. A stretch of them: `Changes`.
+-- A bit: `changed_bit`. A stretch of them: `Changes`; turned round, `Mirrored`, of `bit_slice_paths`.
 use Rattle.std.specs.Prelude.{ℕ, ◌+◌, Bool, true, false, not, List}
 use Rattle.bit_addressing_memory.specs.Memory.{Reading, entry, Overwrites}
 use Rattle.bit_slice_words.specs.declared.change.Change.{Change}
 use Rattle.bit_slice_words.specs.declared.change.Change.TheVariants.{Clear, Set, Flip}
+pub use Rattle.bit_slice_paths.specs.Mirrored.{Mirrored}
 
 -- the bit as a change leaves it
 abbrev pub changed_bit : Change → Bool → Bool

@@ -4,13 +4,57 @@ ghost use Rattle.std.specs.Prelude.{◌+◌, ◌*◌, ◌^◌, ◌<◌, ◌≤�
 ghost use Rattle.bit_addressing_memory.specs.Memory.{read_by};
 ghost use Rattle.bit_slice_paths.specs.Agrees.{Agrees};
 
-use bit_addressing_memory::{BitOrder, BitRegister};
+use bit_addressing_memory::{BitOrder, BitRegister, direction_of, read_entry};
 use bit_slice_chunks::any_order::direction_for;
 use bit_slice_paths::across;
 
-// How many of `len` bits of two memories are the same, from the first on.
+// How many bits are compared one by one before chunks are: where both orders go straight, and else, where a chunk costs
+// as much as some of them.
+const FEW: usize = 4;
+
+const FEW_TURNED: usize = 32;
+
+// How many of `len` bits of two memories are the same, from the first on. Lists that differ mostly do so early.
 #[inline(always)]
 pub(crate) fn agree_in<R: BitRegister, O: BitOrder<R>, Q: BitRegister, P: BitOrder<Q>>(
+    words: &[R],
+    place: usize,
+    others: &[Q],
+    other_place: usize,
+    len: usize,
+) -> usize
+    requires within { place + len ≤ length words.now * R.BITS }
+    requires ends { place + len < 2 ^ 64 }
+    requires other_within { other_place + len ≤ length others.now * Q.BITS }
+    requires other_ends { other_place + len < 2 ^ 64 }
+    ensures { Agrees (read_by R.BitRegister O.position) words.now place
+        (read_by Q.BitRegister P.position) others.now other_place len result }
+{
+    let few = match (direction_of::<R, O>(), direction_of::<Q, P>()) {
+        (Some(_), Some(_)) => len.min(FEW),
+        _ => len.min(FEW_TURNED),
+    };
+    for k in 0..few {
+        if read_entry::<R, O>(words, place + k) != read_entry::<Q, P>(others, other_place + k) {
+            return k;
+        }
+    }
+    if few == len {
+        return len;
+    }
+    let same = agree_by_chunks::<R, O, Q, P>(
+        words,
+        place + few,
+        others,
+        other_place + few,
+        len - few,
+    );
+    few + same
+}
+
+// The same, by chunks. Out of line, so that lists that differ early are compared by a short function.
+#[inline(never)]
+fn agree_by_chunks<R: BitRegister, O: BitOrder<R>, Q: BitRegister, P: BitOrder<Q>>(
     words: &[R],
     place: usize,
     others: &[Q],

@@ -1,4 +1,5 @@
-//! Word paths that count one step a bit: what an order whose `SPAN` is 1 calls.
+//! Word paths that count one step a bit: what an order whose `SPAN` is 1 calls. Up to 64 bits are compared or combined at
+//! once, and the steps of these bits are counted in the loop that does it.
 
 ghost use Rattle.std.specs.Prelude.{◌≡◌, ℕ, ◌+◌, ◌*◌, ◌^◌, ◌<◌, ◌≤◌, ◌↔◌, ◌&&◌, ◌||◌};
 ghost use Rattle.std.specs.Prelude.{length, IsTrue, true, false};
@@ -8,9 +9,12 @@ ghost use Rattle.bit_slice_paths.specs.Combined.{combined_bit, Combines};
 ghost use Rattle.bit_slice_paths.specs.Steps.{groups, Takes};
 
 use crate::agree::agree_in;
+use crate::combine::combine_in;
 use bit_addressing_memory::{BitOrder, BitRegister, read_entry, write_entry};
-use bit_slice_chunks::any_order::direction_for;
-use bit_slice_paths::{Combination, Steps, across};
+use bit_slice_paths::{Combination, Steps};
+
+// How many bits are worked on at once, at most.
+const CHUNK: usize = 64;
 
 /// `WordPaths::equal`, a step a bit.
 pub fn equal<R: BitRegister, O: BitOrder<R>>(
@@ -31,13 +35,17 @@ pub fn equal<R: BitRegister, O: BitOrder<R>>(
     ensures same { result ≡ true → Takes steps.old steps.new (groups len 64) (groups len 1) }
     ensures other { result ≡ false → Takes steps.old steps.new 1 (groups len 1) }
 {
-    let same = agree_in::<R, O, R, O>(words, place, others, other_place, len);
-    if same == len {
-        steps.many(len);
-        return true;
+    for k in 0..len.div_ceil(CHUNK) {
+        let done = CHUNK * k;
+        let count = CHUNK.min(len - done);
+        let same = agree_in::<R, O, R, O>(words, place + done, others, other_place + done, count);
+        if same < count {
+            steps.many(same + 1);
+            return false;
+        }
+        steps.many(count);
     }
-    steps.many(same + 1);
-    false
+    true
 }
 
 /// `WordPaths::copy`, a step a bit.
@@ -235,7 +243,10 @@ fn combine<R: BitRegister, O: BitOrder<R>>(
         (combined_bit how) (read_by R.BitRegister O.position) others.now other_place }
     ensures steps { Takes steps.old steps.new (groups len 64) (groups len 1) }
 {
-    let way = direction_for::<R, O>();
-    across::combine::<R, O, R, O>(way, way, how, words, place, others, other_place, len);
-    steps.many(len);
+    for k in 0..len.div_ceil(CHUNK) {
+        let done = CHUNK * k;
+        let count = CHUNK.min(len - done);
+        combine_in::<R, O, R, O>(words, place + done, others, other_place + done, count, how);
+        steps.many(count);
+    }
 }

@@ -1,7 +1,7 @@
 //! One change made of each bit of a stretch: of whole words at a time, with masks at its two edges alone.
 
 ghost use Rattle.std.specs.Prelude.{◌≡◌, ℕ, ◌+◌, ◌-◌, ◌*◌, ◌^◌, ◌<◌, ◌≤◌, length};
-ghost use Rattle.bit_addressing_memory.specs.Memory.{indexed, read_by};
+ghost use Rattle.bit_addressing_memory.specs.Memory.{indexed, read_by, touched};
 ghost use Rattle.bit_slice_words.specs.Edits.{changed_bit, Changes};
 
 use crate::edges::edges_of;
@@ -50,43 +50,50 @@ fn change_part<R: BitRegister, O: BitOrder<R>>(
     store_in::<R, O>(words, at, value, head, tail);
 }
 
-// Changes each bit of whole words.
+// Changes each bit of whole words, and answers how many.
 fn change_whole<R: BitRegister, O: BitOrder<R>>(
     words: &mut [R],
     from: usize,
     upto: usize,
     change: Change,
-)
+) -> usize
     requires order { from ≤ upto }
     requires within { upto ≤ length words.old }
-    ensures { Changes (read_by R.BitRegister O.position) words.old words.new
+    ensures changed { Changes (read_by R.BitRegister O.position) words.old words.new
         (from * R.BITS) ((upto - from) * R.BITS) (changed_bit change) }
+    ensures writes { result ≡ upto - from }
 {
+    let mut writes = 0;
     for k in from..upto {
         words[k] = changed_word::<R, O>(words[k], change);
+        writes += 1;
     }
+    writes
 }
 
-/// Changes each of `len` bits of a memory, those from `place` on. Every other bit of the memory stays.
+/// Changes each of `len` bits of a memory, those from `place` on, and answers how many words it wrote. Every other bit
+/// of the memory stays.
 pub(crate) fn change_in<R: BitRegister, O: BitOrder<R>>(
     words: &mut [R],
     place: usize,
     len: usize,
     change: Change,
-)
+) -> usize
     requires within { place + len ≤ length words.old * R.BITS }
     requires ends { place + len < 2 ^ 64 }
-    ensures { Changes (read_by R.BitRegister O.position) words.old words.new place len (changed_bit change) }
+    ensures changed { Changes (read_by R.BitRegister O.position) words.old words.new place len (changed_bit change) }
+    ensures writes { result ≡ touched R.BITS place len }
 {
     if len == 0 {
-        return;
+        return 0;
     }
     let cut = edges_of::<R>(place, len);
     if cut.first == cut.last {
         change_part::<R, O>(words, cut.first, cut.from, cut.upto, change);
-        return;
+        return 1;
     }
     change_part::<R, O>(words, cut.first, cut.from, R::BITS, change);
-    change_whole::<R, O>(words, cut.first + 1, cut.last, change);
+    let whole = change_whole::<R, O>(words, cut.first + 1, cut.last, change);
     change_part::<R, O>(words, cut.last, 0, cut.upto, change);
+    1 + whole + 1
 }

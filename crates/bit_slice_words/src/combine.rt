@@ -5,13 +5,26 @@ ghost use Rattle.std.specs.Bool.{xor};
 ghost use Rattle.bit_addressing_memory.specs.Memory.{entry, read_by, Overwrites};
 ghost use Rattle.bit_slice_paths.specs.Combined.{combined_bit, Combines};
 
-use bit_addressing_memory::{BitOrder, BitRegister};
+use crate::few::few_to_combine;
+use bit_addressing_memory::{BitOrder, BitRegister, read_entry, write_entry};
 use bit_slice_chunks::any_order::direction_for;
 use bit_slice_paths::{Combination, across};
 
+// The bit that two make.
+fn combined(how: Combination, bit: bool, other: bool) -> bool
+    ensures { result ≡ combined_bit how bit other }
+{
+    match how {
+        Combination::Take => other,
+        Combination::And => bit && other,
+        Combination::Or => bit || other,
+        Combination::Xor => bit != other,
+    }
+}
+
 // Combines each of `len` bits with one of another memory.
 #[inline(always)]
-fn combine_in<R: BitRegister, O: BitOrder<R>, Q: BitRegister, P: BitOrder<Q>>(
+pub(crate) fn combine_in<R: BitRegister, O: BitOrder<R>, Q: BitRegister, P: BitOrder<Q>>(
     words: &mut [R],
     place: usize,
     others: &[Q],
@@ -26,6 +39,10 @@ fn combine_in<R: BitRegister, O: BitOrder<R>, Q: BitRegister, P: BitOrder<Q>>(
     ensures { Combines (read_by R.BitRegister O.position) words.old words.new place len
         (combined_bit how) (read_by Q.BitRegister P.position) others.now other_place }
 {
+    if len <= few_to_combine::<R, O>().max(few_to_combine::<Q, P>()) {
+        combine_singly::<R, O, Q, P>(words, place, others, other_place, len, how);
+        return;
+    }
     across::combine::<R, O, Q, P>(
         direction_for::<R, O>(),
         direction_for::<Q, P>(),
@@ -36,6 +53,31 @@ fn combine_in<R: BitRegister, O: BitOrder<R>, Q: BitRegister, P: BitOrder<Q>>(
         other_place,
         len,
     );
+}
+
+// The same, bit by bit.
+#[inline(always)]
+#[tactic(auto, using(crate::proofs::ChangedStretchLemmas::stretch_steps))]
+fn combine_singly<R: BitRegister, O: BitOrder<R>, Q: BitRegister, P: BitOrder<Q>>(
+    words: &mut [R],
+    place: usize,
+    others: &[Q],
+    other_place: usize,
+    len: usize,
+    how: Combination,
+)
+    requires within { place + len ≤ length words.old * R.BITS }
+    requires ends { place + len < 2 ^ 64 }
+    requires other_within { other_place + len ≤ length others.now * Q.BITS }
+    requires other_ends { other_place + len < 2 ^ 64 }
+    ensures { Combines (read_by R.BitRegister O.position) words.old words.new place len
+        (combined_bit how) (read_by Q.BitRegister P.position) others.now other_place }
+{
+    for k in 0..len {
+        let bit = read_entry::<R, O>(words, place + k);
+        let other = read_entry::<Q, P>(others, other_place + k);
+        write_entry::<R, O>(words, place + k, combined(how, bit, other));
+    }
 }
 
 /// Clears each of `len` bits of a memory, from `place` on, where the memory `others` has a zero, from

@@ -3,14 +3,15 @@
 ghost use Rattle.std.specs.Prelude.{◌+◌, ◌*◌, ◌^◌, ◌<◌, ◌≤◌, length};
 ghost use Rattle.bit_addressing_memory.specs.Memory.{read_by, Swaps};
 
-use bit_addressing_memory::{BitOrder, BitRegister};
+use crate::few::few_to_combine;
+use bit_addressing_memory::{BitOrder, BitRegister, swap_within};
 use bit_slice_chunks::any_order::direction_for;
 use bit_slice_paths::exchange;
 
 /// Exchanges `len` bits of a memory, those from `first` on, with those from `second` on. The first stretch ends before
 /// the second begins, which lies in the memory, and its end fits a `usize`. Every other bit stays.
 ///
-/// It does what `swap_within` of `bit_addressing_memory` does, by chunks of 64 bits.
+/// It does what `swap_within` of `bit_addressing_memory` does, but for a few bits by chunks of 64.
 pub fn exchange_in<R: BitRegister, O: BitOrder<R>>(
     words: &mut [R],
     first: usize,
@@ -22,5 +23,9 @@ pub fn exchange_in<R: BitRegister, O: BitOrder<R>>(
     requires ends { second + len < 2 ^ 64 }
     ensures swapped { Swaps (read_by R.BitRegister O.position) words.old words.new first second len }
 {
+    if len <= few_to_combine::<R, O>() {
+        swap_within::<R, O>(words, first, second, len);
+        return;
+    }
     exchange::exchange::<R, O>(direction_for::<R, O>(), words, first, second, len);
 }

@@ -1,7 +1,7 @@
 //! Bits made all the same.
 
-ghost use Rattle.std.specs.Prelude.{◌+◌, ◌*◌, ◌^◌, ◌<◌, ◌≤◌, length};
-ghost use Rattle.bit_addressing_memory.specs.Memory.{read_by, Overwrites};
+ghost use Rattle.std.specs.Prelude.{◌≡◌, ◌+◌, ◌*◌, ◌^◌, ◌<◌, ◌≤◌, length};
+ghost use Rattle.bit_addressing_memory.specs.Memory.{read_by, touched, Overwrites};
 
 use crate::change::{Change, change_in};
 use bit_addressing_memory::{BitOrder, BitRegister};
@@ -15,9 +15,24 @@ pub fn fill_in<R: BitRegister, O: BitOrder<R>>(words: &mut [R], place: usize, le
     requires ends { place + len < 2 ^ 64 }
     ensures filled { Overwrites (read_by R.BitRegister O.position) words.old words.new place len (λ _. bit) }
 {
+    fill_counted::<R, O>(words, place, len, bit);
+}
+
+/// `fill_in`, which answers how many words it wrote: each that holds one of the bits, once.
+pub fn fill_counted<R: BitRegister, O: BitOrder<R>>(
+    words: &mut [R],
+    place: usize,
+    len: usize,
+    bit: bool,
+) -> usize
+    requires within { place + len ≤ length words.old * R.BITS }
+    requires ends { place + len < 2 ^ 64 }
+    ensures filled { Overwrites (read_by R.BitRegister O.position) words.old words.new place len (λ _. bit) }
+    ensures writes { result ≡ touched R.BITS place len }
+{
     if bit {
-        change_in::<R, O>(words, place, len, Change::Set);
+        change_in::<R, O>(words, place, len, Change::Set)
     } else {
-        change_in::<R, O>(words, place, len, Change::Clear);
+        change_in::<R, O>(words, place, len, Change::Clear)
     }
 }

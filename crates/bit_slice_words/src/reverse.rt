@@ -3,7 +3,8 @@
 ghost use Rattle.std.specs.Prelude.{◌+◌, ◌-◌, ◌*◌, ◌^◌, ◌<◌, ◌≤◌, length};
 ghost use Rattle.bit_addressing_memory.specs.Memory.{entry, read_by, Overwrites};
 
-use bit_addressing_memory::{BitOrder, BitRegister};
+use crate::few::few_to_turn;
+use bit_addressing_memory::{BitOrder, BitRegister, swap_entries};
 use bit_slice_chunks::any_order::direction_for;
 use bit_slice_paths::mirror;
 
@@ -17,5 +18,34 @@ pub fn reverse_in<R: BitRegister, O: BitOrder<R>>(words: &mut [R], place: usize,
     ensures reversed { Overwrites (read_by R.BitRegister O.position) words.old words.new place len
         (λ k. entry (read_by R.BitRegister O.position) words.old (place + (len - 1 - k))) }
 {
+    if len <= few_to_turn::<R, O>() {
+        reverse_singly::<R, O>(words, place, len);
+        return;
+    }
+    reverse_by_chunks::<R, O>(words, place, len);
+}
+
+// The same, by chunks. Out of line, so that a few bits are turned by a short function.
+#[inline(never)]
+fn reverse_by_chunks<R: BitRegister, O: BitOrder<R>>(words: &mut [R], place: usize, len: usize)
+    requires within { place + len ≤ length words.old * R.BITS }
+    requires ends { place + len < 2 ^ 64 }
+    ensures reversed { Overwrites (read_by R.BitRegister O.position) words.old words.new place len
+        (λ k. entry (read_by R.BitRegister O.position) words.old (place + (len - 1 - k))) }
+{
     mirror::reverse::<R, O>(direction_for::<R, O>(), words, place, len);
+}
+
+// The same, bit by bit.
+#[inline(always)]
+#[tactic(auto, using(crate::proofs::MirrorLemmas::mirror_steps))]
+fn reverse_singly<R: BitRegister, O: BitOrder<R>>(words: &mut [R], place: usize, len: usize)
+    requires within { place + len ≤ length words.old * R.BITS }
+    requires ends { place + len < 2 ^ 64 }
+    ensures reversed { Overwrites (read_by R.BitRegister O.position) words.old words.new place len
+        (λ k. entry (read_by R.BitRegister O.position) words.old (place + (len - 1 - k))) }
+{
+    for k in 0..len / 2 {
+        swap_entries::<R, O>(words, place + k, place + (len - 1 - k));
+    }
 }

@@ -16,6 +16,17 @@ put_part-requires-clause-limb g c =
     rw c.loop-n.invariant.words (limb_within b l (length c.args.words.now) c.loop-n.n (c.args.place + c.args.count) refl
     g.met.R.BitRegister.size ends c.requires.within)
 
+pub put_part-requires-clause-ends : goal.put_part-requires-clause-ends
+put_part-requires-clause-ends g c =
+    let l = min 64 g.R.BitRegister.BITS in
+    let bits = c.limb_bits-bits.result in
+    let n = c.loop-n.n in
+    let row : n * bits ≡ n * l = ap (λ k. n * k) c.limb_bits-bits.ensures in
+    let some : 0 < l = omega (arith, g.met.R.BitRegister.least_bits) in
+    let ends = begins_before l bits (c.args.place + c.args.count) n c.limb_bits-bits.ensures some
+    (omega (arith, c.requires.some)) (omega arith) in
+    omega (arith, row, ends, c.min-upto.ensures, c.requires.ends)
+
 pub loop-n-preserved : goal.loop-n-preserved
 loop-n-preserved g c =
     let l = min 64 g.R.BitRegister.BITS in

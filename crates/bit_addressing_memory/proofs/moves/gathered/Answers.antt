@@ -3,8 +3,8 @@ use Rattle.bit_addressing_memory.specs.Memory.{read_by}
 use Rattle.bit_addressing_memory.proofs.Gathers.{gathered_of}
 use Rattle.bit_addressing_memory.proofs.moves.gathered.Goals as goal
 
-pub taken-word-requires-clause-order : goal.taken-word-requires-clause-order
-taken-word-requires-clause-order g c =
+pub taken-requires-clause-order : goal.taken-requires-clause-order
+taken-requires-clause-order g c =
     let row : c.args.k * c.bits_of-bits.result ≡ c.args.k * g.R.BitRegister.BITS =
     ap (λ n. c.args.k * n) c.bits_of-bits.ensures in
     omega (
@@ -32,6 +32,6 @@ returns-clause-digits g c =
     ≡ c.args.source + (k * b + c.saturating_sub-from.result - c.args.target) = omega (arith, row) in
     gathered_of (read_by g.R.BitRegister g.O.Positions.position) c.args.sweep.now.words.now k c.args.source
     c.args.target c.args.len c.saturating_sub-from.result c.min-upto.result
-    (c.args.source + (k * bits + c.saturating_sub-from.result - c.args.target)) c.read-own.result c.taken-word.result
+    (c.args.source + (k * bits + c.saturating_sub-from.result - c.args.target)) c.read-own.result c.taken.result
     c.requires.within c.read-own.ensures.value c.requires.begins c.requires.ends from upto place
-    (rw c.read-own.ensures.same.words at c.taken-word.ensures)
+    (rw c.read-own.ensures.same.words at c.taken.ensures.stored)

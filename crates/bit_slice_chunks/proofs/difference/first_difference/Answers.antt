@@ -1,6 +1,14 @@
-use Rattle.std.proofs.Common.{refl, arith}
+use Rattle.std.proofs.Common.{refl, ap, arith}
+use Rattle.bit_slice_chunks.specs.Chunk.{chunk_bit}
 use Rattle.bit_slice_chunks.proofs.TurnLemmas.{agree_all, agree_until}
 use Rattle.bit_slice_chunks.proofs.difference.first_difference.Goals as goal
+
+pub returns-then-chunk-other : goal.returns-then-chunk-other
+returns-then-chunk-other c = record {
+  most = omega arith;
+  same = λ i _. ap (λ n. chunk_bit c.args.direction n i) c.if-chunk-other.true;
+  differ = λ low. absurd (omega arith);
+}
 
 pub returns-then-differ-eq0 : goal.returns-then-differ-eq0
 returns-then-differ-eq0 c =

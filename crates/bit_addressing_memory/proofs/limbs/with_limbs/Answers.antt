@@ -1,6 +1,6 @@
 use Rattle.std.proofs.Common.{arith}
 use Rattle.bit_addressing_memory.proofs.LimbLemmas.{two_limbs}
-use Rattle.bit_addressing_memory.proofs.moves.taken.Goals as goal
+use Rattle.bit_addressing_memory.proofs.limbs.with_limbs.Goals as goal
 
 pub with_bits-requires-then-from-ge64-clause-limb : goal.with_bits-requires-then-from-ge64-clause-limb
 with_bits-requires-then-from-ge64-clause-limb g c =

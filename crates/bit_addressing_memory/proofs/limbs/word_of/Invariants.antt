@@ -1,0 +1,12 @@
+use Rattle.std.proofs.Common.{◌≡◌, ℕ, ◌*◌, ◌<◌, ◌≤◌, false}
+use Rattle.bit_addressing_order.specs.Bits.{digit_at}
+use Rattle.bit_addressing_memory.specs.Memory.{indexed}
+use Rattle.bit_addressing_memory.proofs.limbs.word_of.Given as goal
+
+-- the digits so far are the limb's, and zeros are behind them
+abbrev pub invariant-loop-t : goal.invariant-loop-t
+invariant-loop-t g l = record {
+  inside : (i : ℕ) → i < 8 * l.t → indexed g.R.BitRegister.number g.O.Positions.position l.made i ≡ digit_at l.limb i;
+  past : (i : ℕ) → 8 * l.t ≤ i → i < g.R.BitRegister.BITS
+      → indexed g.R.BitRegister.number g.O.Positions.position l.made i ≡ false;
+}

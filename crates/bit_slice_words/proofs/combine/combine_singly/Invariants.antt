@@ -1,0 +1,8 @@
+use Rattle.bit_addressing_memory.specs.Memory.{read_by}
+use Rattle.bit_slice_paths.specs.Combined.{combined_bit, Combines}
+use Rattle.bit_slice_words.proofs.combine.combine_singly.Given as goal
+
+abbrev pub invariant-loop-k : goal.invariant-loop-k
+invariant-loop-k g l =
+    Combines (read_by g.R.BitRegister g.O.Positions.position) l.fn.words l.words l.place l.k
+    (combined_bit l.how) (read_by g.Q.BitRegister g.P.Positions.position) l.others l.other_place

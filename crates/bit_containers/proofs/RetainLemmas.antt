@@ -1,11 +1,13 @@
 -- How a list loses the bits that a predicate does not choose.
 --
--- One more index asked: `answered`, `chosen_more`, `chosen_same`. What was not moved: `not_yet_moved`. The vector
--- afterwards: `leaves_first`.
-use Rattle.std.proofs.Common.{◌≡◌, ℕ, ◌+◌, ◌-◌, ◌*◌, ◌<◌, ◌≤◌, Bool, true, false}
+-- One more index asked: `answered`, `chosen_more`, `chosen_same`. One more bit moved to the front: `moved_front`,
+-- `moved_rest`. What was not moved: `not_yet_moved`. The vector afterwards: `leaves_first`.
+use Rattle.std.proofs.Common.{◌≡◌, ℕ, zero, suc, ◌+◌, ◌-◌, ◌*◌, ◌<◌, ◌≤◌, Bool, true, false}
 use Rattle.std.proofs.Common.{List, [], ◌∷◌, ◌++◌, length, take, drop}
-use Rattle.std.proofs.Common.{get_or, arith, refl, ap, ap₂, sym, ◌∙◌, subst}
+use Rattle.std.proofs.Common.{get_or, set, arith, refl, ap, ap₂, sym, ◌∙◌, subst}
+use Rattle.std.proofs.Common.{inl, inr, length-set, get_or-set_same, get_or-set_other}
 use Rattle.std.proofs.Math.Nat.{mul-le-mul_right}
+use Rattle.std.proofs.lemmas.Bool.{cases_eq}
 use Rattle.std.proofs.lemmas.List.{places, same_lists, get_or-drop, length-take-le}
 use Rattle.std.specs.List.{items_where_true}
 use Rattle.std.specs.List.Retain.{ReturnsInTurn}
@@ -43,6 +45,32 @@ chosen_same [] (x ∷ xs) = refl
 chosen_same (b ∷ bs) [] = refl
 chosen_same (true ∷ bs) (x ∷ xs) = ap (λ l. x ∷ l) (chosen_same bs xs)
 chosen_same (false ∷ bs) (x ∷ xs) = chosen_same bs xs
+
+-- ---- one more bit moved to the front
+
+pub moved_front : (ys : List Bool) (k : ℕ) (b : Bool) → k < length ys
+    → take (k + 1) (set ys k b) ≡ take k ys ++ b ∷ []
+moved_front ys k b low =
+    same_lists _ _ (grind (arith, places, length-set ys k b)) (λ j d h. elim (cases_eq j k) [
+      | inl same ↦ rw same (grind (arith, places, get_or-set_same ys k b d))
+      | inr other ↦ grind (arith, places, get_or-set_other ys k j b d other)
+    ])
+
+rest_kept : (ys : List Bool) (k : ℕ) (b : Bool) → drop (suc k) (set ys k b) ≡ drop (suc k) ys
+rest_kept [] k b = refl
+rest_kept (y ∷ ys) zero b = refl
+rest_kept (y ∷ ys) (suc k) b = rest_kept ys k b
+
+one_less : (xs : List Bool) (k : ℕ) → drop (suc k) xs ≡ drop 1 (drop k xs)
+one_less xs zero = refl
+one_less [] (suc k) = refl
+one_less (x ∷ xs) (suc k) = one_less xs k
+
+pub moved_rest : (ys xs : List Bool) (k : ℕ) (b : Bool) → drop k ys ≡ drop k xs
+    → drop (k + 1) (set ys k b) ≡ drop (k + 1) xs
+moved_rest ys xs k b same =
+    let next : k + 1 ≡ suc k = omega arith in
+    rw next (rest_kept ys k b ∙ one_less ys k ∙ ap (drop 1) same ∙ sym (one_less xs k))
 
 -- ---- what was not moved
 

@@ -33,9 +33,48 @@ impl<T: BitStore, O: BitOrder<T>> Retain for BitVec<T, O> {
     }
 }
 
-// Moves the bits at which the predicate answers true to the front, and answers how many they are: those among 64 bits
-// are gathered, and put behind those before them.
-fn gather<V: BitsMut, F: FnMut(usize, &bool) -> bool>(bits: &mut V, mut keep: F) -> usize
+// Up to how many bits are asked of one by one.
+const FEW: usize = 8;
+
+// Moves the bits at which the predicate answers true to the front, and answers how many they are.
+fn gather<V: BitsMut, F: FnMut(usize, &bool) -> bool>(bits: &mut V, keep: F) -> usize
+    requires { F.IsAlwaysCallable keep }
+    ensures kept { Keeps F.FnMut keep (V.bits bits.old) (take result (V.bits bits.new)) }
+    ensures most { result ≤ length (V.bits bits.old) }
+    ensures rest { drop result (V.bits bits.new) ≡ drop result (V.bits bits.old) }
+    ensures len { length (V.bits bits.new) ≡ length (V.bits bits.old) }
+    ensures frame { V.frame bits.new ≡ V.frame bits.old }
+{
+    if bits.len() <= FEW {
+        gather_singly(bits, keep)
+    } else {
+        gather_by_chunks(bits, keep)
+    }
+}
+
+// The same, bit by bit.
+#[inline(always)]
+fn gather_singly<V: BitsMut, F: FnMut(usize, &bool) -> bool>(bits: &mut V, mut keep: F) -> usize
+    requires { F.IsAlwaysCallable keep }
+    ensures kept { Keeps F.FnMut keep (V.bits bits.old) (take result (V.bits bits.new)) }
+    ensures most { result ≤ length (V.bits bits.old) }
+    ensures rest { drop result (V.bits bits.new) ≡ drop result (V.bits bits.old) }
+    ensures len { length (V.bits bits.new) ≡ length (V.bits bits.old) }
+    ensures frame { V.frame bits.new ≡ V.frame bits.old }
+{
+    let mut kept = 0;
+    for i in 0..bits.len() {
+        let bit = bits.bit(i);
+        if keep(i, &bit) {
+            bits.set(kept, bit);
+            kept += 1;
+        }
+    }
+    kept
+}
+
+// The same, by chunks: the bits that are kept among 64 are gathered, and put behind those before them.
+fn gather_by_chunks<V: BitsMut, F: FnMut(usize, &bool) -> bool>(bits: &mut V, mut keep: F) -> usize
     requires { F.IsAlwaysCallable keep }
     ensures kept { Keeps F.FnMut keep (V.bits bits.old) (take result (V.bits bits.new)) }
     ensures most { result ≤ length (V.bits bits.old) }

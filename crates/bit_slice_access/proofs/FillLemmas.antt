@@ -24,7 +24,7 @@ take_set_suc (x ∷ xs) (suc i) bit low = ap (λ l. x ∷ l) (take_set_suc xs i 
 take_set : (xs : List Bool) (i : ℕ) (bit : Bool) → i < length xs → take (i + 1) (set xs i bit) ≡ take i xs ++ bit ∷ []
 take_set xs i bit low = let next : i + 1 ≡ suc i = omega arith in rw next (take_set_suc xs i bit low)
 
-take_whole : (xs : List Bool) (n : ℕ) → length xs ≡ n → take n xs ≡ xs
+pub take_whole : (xs : List Bool) (n : ℕ) → length xs ≡ n → take n xs ≡ xs
 take_whole [] zero all = refl
 take_whole [] (suc n) all = refl
 take_whole (x ∷ xs) zero all = absurd (omega arith)
@@ -132,3 +132,5 @@ word_written b number at select mask now next n j bit law fits small low is =
     let here : 0 * b + j ≡ j = omega arith in
     window_written (reading_in b number at) (now ∷ []) (next ∷ []) 0 n (0 * b + j) j bit (omega arith) fits (omega arith)
     low (writes_bit b number at select mask (now ∷ []) now next 0 j bit law small (omega arith) refl is)
+
+pub ruleset fills = (filled_step, take_whole)

@@ -1,8 +1,10 @@
--- Two lists exchanged, part by part from the first on.
+-- Two lists exchanged, part by part from the first on, or element by element.
 --
--- Those before the next part, and those from it on: `changed_below`, `changed_above`. All of them: `changed_all`.
-use Rattle.std.proofs.Common.{◌≡◌, ℕ, ◌+◌, ◌-◌, ◌<◌, ◌≤◌, Bool, false, List, length, get_or, ◌∙◌, ap, arith, inl, inr}
-use Rattle.std.proofs.lemmas.Bool.{cases_lt}
+-- Those before the next part, and those from it on: `changed_below`, `changed_above`; of one element: `one_below`,
+-- `one_above`. All of them: `changed_all`.
+use Rattle.std.proofs.Common.{◌≡◌, ◌≢◌, ℕ, ◌+◌, ◌-◌, ◌<◌, ◌≤◌, Bool, false, List, length, get_or, set, ◌∙◌, ap, arith, inl, inr}
+use Rattle.std.proofs.Common.{get_or-set_same, get_or-set_other}
+use Rattle.std.proofs.lemmas.Bool.{cases_eq, cases_lt}
 use Rattle.std.proofs.lemmas.List.{ext_get_or}
 use Rattle.bit_addressing_memory.specs.Memory.{piece, with_piece}
 use Rattle.bit_addressing_memory.proofs.MemoryLemmas.{get_or-piece, length-piece, with_piece_above, with_piece_below}
@@ -35,6 +37,23 @@ changed_above xs ys zs i n room fits so_far k above =
     let part = piece zs i n in
     let size : length part ≡ n = length-piece zs i n fits in
     with_piece_above xs i part k false (omega arith) (omega arith) ∙ so_far k (omega arith)
+
+-- the elements below i of xs are those of ys, and now the one at i too
+pub one_below : (xs ys : List Bool) (i : ℕ) (bit : Bool) → i < length xs → bit ≡ get_or ys i false
+    → ((k : ℕ) → k < i → get_or xs k false ≡ get_or ys k false)
+    → (k : ℕ) → k < i + 1 → get_or (set xs i bit) k false ≡ get_or ys k false
+one_below xs ys i bit low is so_far k below = elim (cases_eq k i) [
+  | inl same ↦ rw same (get_or-set_same xs i bit false low ∙ is)
+  | inr other ↦ get_or-set_other xs i k bit false other ∙ so_far k (omega arith)
+]
+
+-- the elements from i on of xs are those of zs, and those past i still are
+pub one_above : (xs zs : List Bool) (i : ℕ) (bit : Bool)
+    → ((k : ℕ) → i ≤ k → get_or xs k false ≡ get_or zs k false)
+    → (k : ℕ) → i + 1 ≤ k → get_or (set xs i bit) k false ≡ get_or zs k false
+one_above xs zs i bit so_far k above =
+    let other : k ≢ i = omega arith in
+    get_or-set_other xs i k bit false other ∙ so_far k (omega arith)
 
 -- all elements of xs are those of ys
 pub changed_all : (xs ys : List Bool) (n : ℕ) → length xs ≡ length ys → length xs ≡ n

@@ -5,7 +5,7 @@ ghost use Rattle.bit_addressing_memory.specs.Memory.{memory, piece, read_by, wit
 
 use crate::edits::BitsEdits;
 use crate::parts::BitsParts;
-use bit_addressing_memory::{BitOrder, BitRegister, Lsb0};
+use bit_addressing_memory::{BitOrder, BitRegister, Lsb0, direction_of, lies_in_runs};
 use bit_slice_views::{BitRange, BitSlice, Bits};
 use bit_slice_views_mut::BitsMut;
 use bit_slice_words::copy_in;
@@ -57,13 +57,14 @@ pub trait BitsCopy: BitsMut {
         ensures other_len { length (W.bits other.new) ≡ length (W.bits other.old) }
         ensures other_frame { W.frame other.new ≡ W.frame other.old }
     {
-        let len = self.len();
-        let mut held = [0u64; HELD];
-        for k in 0..len / HELD_BITS {
-            swap_held::<Self, W, u64, Lsb0>(self, other, HELD_BITS * k, HELD_BITS, &mut held);
+        if self.len() <= FEW
+            || goes_singly::<Self::Store, Self::Order>()
+            || goes_singly::<W::Store, W::Order>()
+        {
+            swap_singly(self, other);
+        } else {
+            swap_by_chunks(self, other);
         }
-        let done = len / HELD_BITS * HELD_BITS;
-        swap_held::<Self, W, u64, Lsb0>(self, other, done, len - done, &mut held);
     }
 
     /// Another name of `swap_with_bitslice`.
@@ -84,10 +85,59 @@ pub trait BitsCopy: BitsMut {
 
 impl<V: BitsMut> BitsCopy for V {}
 
+// Up to how many bits are worked on one by one: parts of many cost more.
+pub(crate) const FEW: usize = 8;
+
+// Whether a part of many bits costs no less than these bits one by one: of a wide word in an order that goes neither way,
+// nor in runs.
+#[inline(always)]
+pub(crate) fn goes_singly<R: BitRegister, O: BitOrder<R>>() -> bool {
+    R::BITS >= 64 && direction_of::<R, O>().is_none() && !lies_in_runs::<R, O>()
+}
+
 // How many words hold bits of a window while others are written over them, and how many bits they have.
 const HELD: usize = 16;
 
 const HELD_BITS: usize = 1024;
+
+// `swap_with_bitslice`, bit by bit.
+#[inline(always)]
+fn swap_singly<V: BitsMut, W: BitsMut>(view: &mut V, other: &mut W)
+    requires { length (W.bits other.old) ≡ length (V.bits view.old) }
+    ensures bits { V.bits view.new ≡ W.bits other.old }
+    ensures len { length (V.bits view.new) ≡ length (V.bits view.old) }
+    ensures frame { V.frame view.new ≡ V.frame view.old }
+    ensures other_bits { W.bits other.new ≡ V.bits view.old }
+    ensures other_len { length (W.bits other.new) ≡ length (W.bits other.old) }
+    ensures other_frame { W.frame other.new ≡ W.frame other.old }
+{
+    let len = view.len();
+    for i in 0..len {
+        let was = view.bit(i);
+        let bit = other.replace(i, was);
+        view.set(i, bit);
+    }
+}
+
+// `swap_with_bitslice`, by parts of 1,024 bits. Out of line, since the words that hold them are cleared where they stand.
+#[inline(never)]
+fn swap_by_chunks<V: BitsMut, W: BitsMut>(view: &mut V, other: &mut W)
+    requires { length (W.bits other.old) ≡ length (V.bits view.old) }
+    ensures bits { V.bits view.new ≡ W.bits other.old }
+    ensures len { length (V.bits view.new) ≡ length (V.bits view.old) }
+    ensures frame { V.frame view.new ≡ V.frame view.old }
+    ensures other_bits { W.bits other.new ≡ V.bits view.old }
+    ensures other_len { length (W.bits other.new) ≡ length (W.bits other.old) }
+    ensures other_frame { W.frame other.new ≡ W.frame other.old }
+{
+    let len = view.len();
+    let mut held = [0u64; HELD];
+    for k in 0..len / HELD_BITS {
+        swap_held::<V, W, u64, Lsb0>(view, other, HELD_BITS * k, HELD_BITS, &mut held);
+    }
+    let done = len / HELD_BITS * HELD_BITS;
+    swap_held::<V, W, u64, Lsb0>(view, other, done, len - done, &mut held);
+}
 
 // Exchanges up to 1,024 bits of two windows, from an index on. The words of the memory `held` have those of the first
 // window meanwhile.

@@ -4,7 +4,7 @@ ghost use Rattle.std.specs.Prelude.{◌≡◌, ◌<◌, ◌≤◌, length, slice
 ghost use Rattle.std.specs.Mem.{FitsInMemory};
 ghost use Rattle.bit_slice_access.specs.Fills.{Filled};
 
-use crate::copies::hold;
+use crate::copies::{FEW, goes_singly, hold};
 use crate::edits::BitsEdits;
 use bit_addressing_memory::{BitIdx, BitOrder, BitRegister, Lsb0, read_bit, write_bit};
 use bit_slice_views::{BitSlice, Bits};
@@ -15,17 +15,21 @@ use bit_slice_views_mut::BitsMut;
 /// The closure is called once for each bit, in ascending order.
 pub trait BitsFill: BitsMut {
     /// Makes each bit the closure's answer at its index.
-    final fn fill_with<F: FnMut(usize) -> bool>(&mut self, mut f: F)
+    final fn fill_with<F: FnMut(usize) -> bool>(&mut self, f: F)
         requires { F.IsAlwaysCallable f }
         ensures bits { (last : F) × Filled F.step f (Self.bits self.new) last }
         ensures len { length (Self.bits self.new) ≡ length (Self.bits self.old) }
         ensures frame { Self.frame self.new ≡ Self.frame self.old }
     {
-        fill_held::<Self, F, u64, Lsb0>(self, f);
+        if self.len() <= FEW || goes_singly::<Self::Store, Self::Order>() {
+            fill_singly(self, f);
+        } else {
+            fill_held::<Self, F, u64, Lsb0>(self, f);
+        }
     }
 
     /// Makes each bit the closure's answer at its index and what it was.
-    final fn for_each<F: FnMut(usize, bool) -> bool>(&mut self, mut f: F)
+    final fn for_each<F: FnMut(usize, bool) -> bool>(&mut self, f: F)
         requires { F.IsAlwaysCallable f }
         ensures bits { (last : F)
             × Filled (λ p i bit q. F.step p i (slice_index_or (Self.bits self.old) i false) bit q) f
@@ -33,12 +37,50 @@ pub trait BitsFill: BitsMut {
         ensures len { length (Self.bits self.new) ≡ length (Self.bits self.old) }
         ensures frame { Self.frame self.new ≡ Self.frame self.old }
     {
-        let mut was = [0u64; 1];
-        each_held::<Self, F, u64, Lsb0>(self, f, &mut was);
+        if self.len() <= FEW || goes_singly::<Self::Store, Self::Order>() {
+            each_singly(self, f);
+        } else {
+            let mut was = [0u64; 1];
+            each_held::<Self, F, u64, Lsb0>(self, f, &mut was);
+        }
     }
 }
 
 impl<V: BitsMut> BitsFill for V {}
+
+// `fill_with`, bit by bit.
+#[inline(always)]
+#[tactic(auto, using(crate::proofs::FillLemmas::fills))]
+fn fill_singly<V: BitsMut, F: FnMut(usize) -> bool>(view: &mut V, mut f: F)
+    requires callable { F.IsAlwaysCallable f }
+    ensures bits { (last : F) × Filled F.step f (V.bits view.new) last }
+    ensures len { length (V.bits view.new) ≡ length (V.bits view.old) }
+    ensures frame { V.frame view.new ≡ V.frame view.old }
+{
+    let len = view.len();
+    for i in 0..len {
+        let bit = f(i);
+        view.set(i, bit);
+    }
+}
+
+// `for_each`, bit by bit.
+#[inline(always)]
+#[tactic(auto, using(crate::proofs::FillLemmas::fills))]
+fn each_singly<V: BitsMut, F: FnMut(usize, bool) -> bool>(view: &mut V, mut f: F)
+    requires callable { F.IsAlwaysCallable f }
+    ensures bits { (last : F)
+        × Filled (λ p i bit q. F.step p i (slice_index_or (V.bits view.old) i false) bit q) f (V.bits view.new) last }
+    ensures len { length (V.bits view.new) ≡ length (V.bits view.old) }
+    ensures frame { V.frame view.new ≡ V.frame view.old }
+{
+    let len = view.len();
+    for i in 0..len {
+        let was = view.bit(i);
+        let bit = f(i, was);
+        view.set(i, bit);
+    }
+}
 
 // `fill_with`, by parts of 64 bits: the answers are gathered in a word.
 fn fill_held<V: BitsMut, F: FnMut(usize) -> bool, R: BitRegister, O: BitOrder<R>>(

@@ -2,7 +2,7 @@
 --
 -- Those of a list from one bit on: `indices_from-start`, `indices_from-end`, `length-indices_from`; the last of them:
 -- `last_from`, `last_below`, `last_missing`; how they come to be held: `takes_near`, `takes_behind`, `takes_none`,
--- `takes_found`, `takes_alone`; the digits: `whole_digits`, `last_digits`, `no_digits`, `faced_digits`,
+-- `takes_end`, `takes_found`, `takes_alone`; the digits: `whole_digits`, `last_digits`, `no_digits`, `faced_digits`,
 -- `faced_none`, `flipped_digit`.
 --
 -- Both together: `held_more`, `held_no_more`, `held_last_of_all`, `held_nothing`.
@@ -437,6 +437,20 @@ pub takes_none : (test : Bool → Bool) (bits : List Bool) (from base : ℕ) →
     → TakesAhead test bits from base 0
 takes_none test bits from base within short found is_base =
     let none : indices_from test bits from ≡ [] = indices-none test from (piece bits from (length bits - from)) found in
+    let end : indices_from test bits (min (length bits) (base + 64)) ≡ [] =
+    indices_from-end test bits (min (length bits) (base + 64)) (omega arith) in
+    record {
+      all = none ∙ sym (ap (λ l. l ++ indices_from test bits (min (length bits) (base + 64))) (held_none base) ∙ end);
+      none = λ _. none;
+      within = omega arith;
+      short = short;
+    }
+
+-- all were looked at
+pub takes_end : (test : Bool → Bool) (bits : List Bool) (base : ℕ) → length bits ≤ MAX_BITS → base ≡ length bits
+    → TakesAhead test bits base base 0
+takes_end test bits base short is =
+    let none : indices_from test bits base ≡ [] = indices_from-end test bits base is in
     let end : indices_from test bits (min (length bits) (base + 64)) ≡ [] =
     indices_from-end test bits (min (length bits) (base + 64)) (omega arith) in
     record {

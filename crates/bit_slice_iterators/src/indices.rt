@@ -1,6 +1,6 @@
 //! The indices of the bits of a window that are 1, or 0, from both ends.
 
-ghost use Rattle.std.specs.Prelude.{◌≡◌, ℕ, ◌+◌, ◌-◌, ◌*◌, ◌<◌, ◌≤◌, ◌^◌, ⊤, Bool, true, false, [], length, get_or};
+ghost use Rattle.std.specs.Prelude.{◌≡◌, ℕ, ◌+◌, ◌-◌, ◌*◌, ◌<◌, ◌≤◌, ⊤, Bool, true, false, [], length};
 ghost use Rattle.std.specs.Prelude.{count_by, position, IfSome, Some};
 ghost use Rattle.std.specs.Option.{MatchOption};
 ghost use Rattle.std.specs.Iterator.{YieldsFirst, YieldsLast, item_count, UpTo};
@@ -104,7 +104,7 @@ impl Sought for Zeros {
 const CHUNK: usize = 64;
 
 // How many bits lie before an index that comes alone.
-const FAR: usize = 16;
+const FAR: usize = 4;
 
 /// The indices of the bits of one kind that are left, ascending; a contract sees their list.
 ///
@@ -114,7 +114,7 @@ pub struct Indices<'a, T: BitRegister, O: BitOrder<T>, B: Sought> {
     view: BitSlice<'a, T, O>,
     // The bits from here on were not looked at.
     from: usize,
-    // What is left of the last ones that were: `base + k` where digit k is 1.
+    // What is left of the last 64 that were: the index `base + k` where digit k is 1.
     ahead: u64,
     base: usize,
     sought: PhantomData<B>,
@@ -158,8 +158,8 @@ impl<'a, T: BitRegister, O: BitOrder<T>, B: Sought> Indices<'a, T, O, B> {
     }
 }
 
-// The first index of those from a bit on, with others of the same 64 bits: `base + k` where digit k is 1. No digit is
-// where there is none. Most of the time one is near.
+// A number whose digits are 1 at the next indices from a bit on, with the index of its lowest digit; 0 where there are
+// none. Most of the time one is near.
 #[inline(always)]
 fn take_ahead<T: BitRegister, O: BitOrder<T>, B: Sought>(
     view: BitSlice<'_, T, O>,
@@ -176,7 +176,11 @@ fn take_ahead<T: BitRegister, O: BitOrder<T>, B: Sought>(
     if near != 0 {
         return (from, near);
     }
-    take_behind::<T, O, B>(view, view.len().min(from + CHUNK))
+    let behind = view.len().min(from + CHUNK);
+    if behind == view.len() {
+        return (behind, 0);
+    }
+    take_behind::<T, O, B>(view, behind)
 }
 
 // The same where it may be far.

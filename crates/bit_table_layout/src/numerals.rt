@@ -2,6 +2,9 @@
 ghost use Rattle.std.specs.Prelude.{◌≡◌, ◌-◌, ◌^◌, min, IsTrue};
 ghost use Rattle.bit_table_layout.specs.Numerals.{is_number, number_of};
 
+// As many decimal digits as 64 bits hold, whatever they are.
+const SHORT: usize = 19;
+
 /// Whether a word is one or more decimal digits.
 pub fn is_number(word: &[u8]) -> bool
     ensures { result ≡ is_number word.now }
@@ -14,9 +17,11 @@ pub fn number_up_to(word: &[u8], most: u128) -> u128
     requires { IsTrue (is_number word.now) }
     ensures { result ≡ min (number_of word.now) most }
 {
-    let number = number_up_to_64_bits(word);
-    if number < u64::MAX {
-        return most.min(u128::from(number));
+    if word.len() <= SHORT {
+        let number = number_up_to_64_bits(word);
+        if number < u64::MAX {
+            return most.min(u128::from(number));
+        }
     }
     long_number_up_to(word, most)
 }

@@ -2,7 +2,7 @@ use Rattle.std.proofs.Common.{◌+◌, min, ap, ◌∙◌}
 use Rattle.bit_addressing_memory.specs.Memory.{read_by}
 use Rattle.bit_slice_words.specs.Found.{is_bit}
 use Rattle.bit_slice_views.specs.View.{view_bits}
-use Rattle.bit_slice_iterators.proofs.HeldLemmas.{takes_near, takes_behind}
+use Rattle.bit_slice_iterators.proofs.HeldLemmas.{takes_near, takes_behind, takes_end}
 use Rattle.bit_slice_iterators.proofs.indices.take_ahead.Goals as goal
 
 pub returns-then-near-ne0 : goal.returns-then-near-ne0
@@ -11,9 +11,19 @@ returns-then-near-ne0 g c =
     c.args.from c.digits_at-near.result c.requires c.digits_at-near.ensures.short c.digits_at-near.ensures.digits
     c.if-near-ne0.true
 
+-- all were looked at
+pub returns-then-behind-len : goal.returns-then-behind-len
+returns-then-behind-len g c =
+    let bits = view_bits (read_by g.T.BitRegister g.O.Positions.position) c.args.view in
+    takes_behind (is_bit g.B.Sought.bit) bits c.args.from c.digits_at-near.result c.min-behind.result c.min-behind.result 0
+    c.requires c.digits_at-near.ensures.digits c.if-near-ne0.false
+    (c.min-behind.ensures ∙ ap (λ n. min n (c.args.from + 64)) c.len.ensures)
+    (takes_end (is_bit g.B.Sought.bit) bits c.min-behind.result c.digits_at-near.ensures.short
+    (c.if-behind-len.true ∙ c.len-2.ensures))
+
 pub returns : goal.returns
 returns g c =
     takes_behind (is_bit g.B.Sought.bit) (view_bits (read_by g.T.BitRegister g.O.Positions.position) c.args.view)
-    c.args.from c.digits_at-near.result c.min.result c.take_behind.result.0 c.take_behind.result.1 c.requires
+    c.args.from c.digits_at-near.result c.min-behind.result c.take_behind.result.0 c.take_behind.result.1 c.requires
     c.digits_at-near.ensures.digits c.if-near-ne0.false
-    (c.min.ensures ∙ ap (λ n. min n (c.args.from + 64)) c.len.ensures) c.take_behind.ensures
+    (c.min-behind.ensures ∙ ap (λ n. min n (c.args.from + 64)) c.len.ensures) c.take_behind.ensures

@@ -1,7 +1,7 @@
 use Rattle.std.proofs.Common.{◌≡◌, ◌≤◌, ◌<◌, ◌+◌, ◌*◌, ◌^◌, ◌++◌, length, take, drop, min}
 use Rattle.bit_addressing_memory.specs.Bits.{bits_in_order}
 use Rattle.bit_containers.proofs.GatherLemmas.{SoFar}
-use Rattle.bit_containers.proofs.retain.gather.Given as goal
+use Rattle.bit_containers.proofs.retain.gather_by_chunks.Given as goal
 
 abbrev pub invariant-loop-k : goal.invariant-loop-k
 invariant-loop-k g l =

@@ -5,7 +5,7 @@ use Rattle.bit_addressing_memory.proofs.OrderCallerLemmas.{length-bits_in_order}
 use Rattle.bit_containers.proofs.GatherLemmas.{asked_as, asked_more, chosen_next, chosen_still, chosen_below, counted}
 use Rattle.bit_containers.proofs.GatherLemmas.{put_front, put_rest}
 use Rattle.bit_containers.proofs.RetainLemmas.{not_yet_moved}
-use Rattle.bit_containers.proofs.retain.gather.Goals as goal
+use Rattle.bit_containers.proofs.retain.gather_by_chunks.Goals as goal
 
 pub loop-j-preserved : goal.loop-j-preserved
 loop-j-preserved g c =

@@ -1,6 +1,6 @@
 use Rattle.std.proofs.Common.{◌≡◌, ◌+◌, ◌-◌, ◌*◌, ◌/◌, rules, arith}
 use Rattle.bit_slice_access.proofs.SwapLemmas.{changed_below, changed_above, changed_all}
-use Rattle.bit_slice_access.proofs.copies.BitsCopy.swap_with_bitslice.Goals as goal
+use Rattle.bit_slice_access.proofs.copies.swap_by_chunks.Goals as goal
 
 pub loop-k-preserved : goal.loop-k-preserved
 loop-k-preserved g c =

@@ -1,14 +1,12 @@
 -- Rows taken out that bear a letter.
 --
--- Of a list: `own_left`, `none_left`, `zeros_left`. Of rows' letters: `marks_dropped`. How many words the first bits
--- touch: `touched_first`.
-use Rattle.std.proofs.Common.{◌≡◌, ℕ, ◌+◌, ◌-◌, ◌/◌, ◌<◌, ◌≤◌, Bool, true, false, cond, not, List, [], ◌∷◌}
+-- Of a list: `own_left`, `none_left`, `zeros_left`. Of rows' letters: `marks_dropped`.
+use Rattle.std.proofs.Common.{◌≡◌, ℕ, ◌+◌, ◌<◌, ◌≤◌, Bool, true, false, cond, not, List, [], ◌∷◌}
 use Rattle.std.proofs.Common.{length, replicate}
 use Rattle.std.proofs.Common.{suc, refl, sym, ap, ◌∙◌, arith, length-take-le}
 use Rattle.std.specs.List.{count_by, filter, list_any}
 use Rattle.std.proofs.lemmas.List.Sums.{sum_by-cons}
-use Rattle.std.proofs.lemmas.Nat.{div_below}
-use Rattle.bit_addressing_memory.specs.Memory.{Reading, touched}
+use Rattle.bit_addressing_memory.specs.Memory.{Reading}
 use Rattle.bit_containers_vector.specs.Vector.{Shortens, vec_bits, vec_head}
 use Rattle.bit_containers_vector.specs.declared.vector.BitVec.{BitVec}
 use Rattle.bit_table_commands.specs.LetterSets.{letter_count, bears}
@@ -72,15 +70,6 @@ zeros_left reading old mid new left few cut filled head =
       bits = filled ∙ ap (λ n. replicate n false) size;
       head = head ∙ cut.head;
     }
-
--- how many words the first bits touch
-pub touched_first : (b n : ℕ) → 0 < b → 0 < n → touched b 0 n ≡ (n - 1) / b + 1
-touched_first b n some any =
-    let last : n ≡ suc (n - 1) = omega arith in
-    let start : 0 / b < 1 = div_below 0 b 1 some (omega arith) in
-    let same : 0 + (n - 1) ≡ n - 1 = omega arith in
-    let row : (0 + (n - 1)) / b ≡ (n - 1) / b = ap (λ m. m / b) same in
-    ap (touched b 0) last ∙ omega arith
 
 -- from each list those bits taken out where the list of letter x has a one
 pub marks_dropped : (n x : ℕ) (lists after : List (List Bool)) → x < letter_count

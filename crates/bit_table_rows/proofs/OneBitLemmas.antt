@@ -8,9 +8,10 @@ use Rattle.std.proofs.Math.Nat.{mul-le-mul_right}
 use Rattle.std.proofs.lemmas.Bool.{cases_lt, cases_eq}
 use Rattle.std.proofs.lemmas.List.{length-set}
 use Rattle.std.proofs.lemmas.Nat.{div-mul-add, mod-mul-add, div-add-mod', div_below, mod_below, le-div}
-use Rattle.bit_addressing_memory.specs.Memory.{Reading, entry, Overwrites}
+use Rattle.bit_addressing_memory.specs.Memory.{Reading, entry, touched, Overwrites}
 use Rattle.bit_addressing_memory.specs.Straight.{IsJoined}
 use Rattle.bit_addressing_memory.proofs.EntryLemmas.{entry_read, entry-set_same, entry-set_other}
+use Rattle.bit_addressing_memory.proofs.PlaceLemmas.{touched_words}
 use Rattle.bit_table_rows.specs.OneBit.{from_before, from_behind, IsOpened, Makes}
 
 -- ---- a word
@@ -211,3 +212,85 @@ place_before b bits place k is some high =
     let more : (place / b + 1) * b ≤ k * b = mul-le-mul_right b next in
     let rest : place % b < b = mod_below place b some in
     omega arith
+
+-- a word's number is no more than a place in it
+pub word_most : (bits place : ℕ) → 0 < bits → place / bits ≤ place
+word_most bits place some =
+    let whole : place / bits * bits + place % bits ≡ place = div-add-mod' place bits in
+    let more : 1 * (place / bits) ≤ bits * (place / bits) = mul-le-mul_right (place / bits) some in
+    omega arith
+
+-- ---- how many words bits went to
+
+-- from the first bit of a word on
+pub touched_from : (b low end : ℕ) → 0 < b → low * b < end
+    → touched b (low * b) (end - low * b) ≡ (end - 1) / b + 1 - low
+touched_from b low end some more =
+    let whole : (end - 1) / b * b + (end - 1) % b ≡ end - 1 = div-add-mod' (end - 1) b in
+    let rest : (end - 1) % b < b = mod_below (end - 1) b some in
+    touched_words b (low * b) (end - low * b) low 0 ((end - 1) / b) ((end - 1) % b + 1) (omega arith) (omega arith) some
+    (omega arith) (omega arith) (omega arith)
+
+pub touched_no : (b place n : ℕ) → n ≡ 0 → touched b place n ≡ 0
+touched_no b place n none = rw none refl
+
+-- with those of the word where a place is opened, where bits stay behind it there
+pub opened_more : (b place end first from n : ℕ) → 0 < b → first * b + from ≡ place → from + 1 < b
+    → place + 1 < end → n ≡ touched b ((first + 1) * b) (end - (first + 1) * b)
+    → n + 1 ≡ touched b (place + 1) (end - (place + 1))
+opened_more b place end first from n some at inside more is =
+    let whole : (end - 1) / b * b + (end - 1) % b ≡ end - 1 = div-add-mod' (end - 1) b in
+    let rest : (end - 1) % b < b = mod_below (end - 1) b some in
+    let all : touched b (place + 1) (end - (place + 1)) ≡ (end - 1) / b + 1 - first =
+    touched_words b (place + 1) (end - (place + 1)) first (from + 1) ((end - 1) / b) ((end - 1) % b + 1) (omega arith)
+    (omega arith) inside (omega arith) (omega arith) (omega arith) in
+    elim (cases_lt ((first + 1) * b) end) [
+      | inl behind ↦
+          let next : first + 1 ≤ (end - 1) / b = le-div (first + 1) (end - 1) b some (omega arith) in
+          omega (arith, all, is, touched_from b (first + 1) end some behind, next)
+      | inr none ↦
+          let same : first * b + (end - 1 - first * b) ≡ end - 1 = omega arith in
+          let last : (end - 1) / b ≡ first =
+          ap (λ p. p / b) (sym same) ∙ div-mul-add first b (end - 1 - first * b) (omega arith) in
+          omega (arith, all, is, touched_no b ((first + 1) * b) (end - (first + 1) * b) (omega arith), last)
+    ]
+
+-- and where none does
+pub opened_none : (b place end first from n : ℕ) → 0 < b → first * b + from ≡ place → from < b → place < end
+    → (from + 1 < b → end ≤ place + 1) → n ≡ touched b ((first + 1) * b) (end - (first + 1) * b)
+    → n ≡ touched b (place + 1) (end - (place + 1))
+opened_none b place end first from n some at inside order none is = elim (cases_lt (from + 1) b) [
+  | inl before ↦
+      let last = none before in
+      is
+      ∙ touched_no b ((first + 1) * b) (end - (first + 1) * b) (omega arith)
+      ∙ sym (touched_no b (place + 1) (end - (place + 1)) (omega arith))
+  | inr past ↦
+      let next : (first + 1) * b ≡ place + 1 = omega arith in
+      is ∙ ap (λ p. touched b p (end - p)) next
+]
+
+-- of bits that went back in one word
+pub closed_one : (b place end first from upto : ℕ) → first * b + from ≡ place → first * b + upto ≡ end → from < b
+    → upto < b → from < upto → 1 ≡ touched b place (end - place)
+closed_one b place end first from upto start ends low high some =
+    let count = touched_words b place (end - place) first from first upto start (omega arith) low (omega arith)
+    (omega arith) (omega arith) in
+    omega (arith, count)
+
+-- and in several
+pub closed_more : (b place end first from last upto n : ℕ) → 0 < b → first * b + from ≡ place
+    → last * b + upto ≡ end → from < b → upto < b → first < last → n + first ≡ last
+    → (0 < upto → n + 1 ≡ touched b place (end - place)) × (upto ≡ 0 → n ≡ touched b place (end - place))
+closed_more b place end first from last upto n some start ends low high order is =
+    let more : (first + 1) * b ≤ last * b = mul-le-mul_right b (omega arith) in (
+      λ any.
+          let count = touched_words b place (end - place) first from last upto start (omega arith) low any (omega arith)
+          (omega arith) in
+          omega (arith, count),
+      λ none.
+          let row : (last - 1 + 1) * b ≡ last * b = ap (λ k. k * b) (omega arith) in
+          let count = touched_words b place (end - place) first from (last - 1) b start (omega arith) low some
+          (omega arith) (omega arith) in
+          omega (arith, count),
+    )

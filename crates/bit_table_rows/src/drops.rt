@@ -3,14 +3,14 @@
 ghost use Rattle.std.specs.Prelude.{◌≡◌, ◌≢◌, ◌<◌, ◌≤◌, false, count_by, length, not, replicate};
 ghost use Rattle.std.specs.Prelude.{slice_index, slice_index_or};
 ghost use Rattle.bit_addressing_memory.specs.Memory.{read_by, touched};
-ghost use Rattle.bit_containers_vector.specs.Vector.{vec_bits};
+ghost use Rattle.bit_containers_vector.specs.Vector.{vec_bits, vec_head};
 ghost use Rattle.bit_table_rows.specs.Lists.{HasBits, IsColumn};
 ghost use Rattle.bit_table_rows.specs.Walk.{Becomes, ChangesAt, EachHas};
 ghost use Rattle.bit_table_rows.specs.RowsKept.{left_of};
 
 use crate::vectors::keep_rows_of;
+use crate::windows::clear_window;
 use bit_addressing_memory::BitOrder;
-use bit_addressing_memory::mem::bits_of;
 use bit_containers_vector::BitVec;
 use bit_slice_views::{BitStore, Bits};
 use bit_slice_views_mut::BitsMut;
@@ -105,17 +105,25 @@ fn drop_flagged<T: BitStore, O: BitOrder<T>>(
     writes
 }
 
-// Makes a list so many zeros, no more than it has bits, and answers how many words they touch from the first bit of a
-// word on: each of them is written once, as a move of so many bits would.
+// Makes a list so many zeros, no more than it has bits, and answers how many words it wrote: each that they touch once,
+// as a move of so many bits would.
 fn leave_zeros<T: BitStore, O: BitOrder<T>>(list: &mut BitVec<T, O>, left: usize) -> usize
-    requires { left ≤ length (vec_bits (read_by T.BitRegister O.position) list.old) }
+    requires few { left ≤ length (vec_bits (read_by T.BitRegister O.position) list.old) }
+    requires begin { vec_head list.old ≡ 0 }
     ensures bits { HasBits (read_by T.BitRegister O.position) (λ bits. replicate left false) list.old list.new }
     ensures writes { result ≡ touched T.BITS 0 left }
 {
     list.truncate(left);
-    list.fill(false);
-    if left == 0 {
-        return 0;
-    }
-    (left - 1) / bits_of::<T>() + 1
+    clear_in(list)
+}
+
+// Makes each bit of a list zero, and answers how many words it wrote.
+fn clear_in<V: BitsMut>(view: &mut V) -> usize
+    ensures bits { V.bits view.new ≡ replicate (length (V.bits view.old)) false }
+    ensures frame { V.frame view.new ≡ V.frame view.old }
+    ensures writes { result ≡ touched V.Store.BITS (V.place view.old) (length (V.bits view.old)) }
+{
+    let place = view.first_place();
+    let len = view.len();
+    view.write(|words| clear_window::<V::Store, V::Order>(words, place, len))
 }

@@ -8,7 +8,6 @@ ghost use Rattle.std.specs.Prelude.{◌≡◌, ℕ, ◌+◌, ◌-◌, ◌*◌, �
 ghost use Rattle.std.specs.Prelude.{Some, count_by, not, slice_index_or};
 ghost use Rattle.bit_addressing_memory.specs.Memory.{Overwrites, entry, memory, piece, read_by, touched};
 ghost use Rattle.bit_addressing_memory.specs.Moves.{changed};
-ghost use Rattle.bit_addressing_memory.specs.Partial.{IsStored};
 ghost use Rattle.bit_addressing_memory.specs.Straight.{Goes};
 ghost use Rattle.bit_addressing_memory.specs.declared.direction.Direction.{Direction};
 ghost use Rattle.bit_addressing_memory.specs.Sweep.{IsFresh, SameButReads, edge_of, sweep_lender, sweep_words, way_of};
@@ -19,10 +18,7 @@ ghost use Rattle.bit_table_rows.specs.KeepSteps.{Filled, Fills, IsFilledWord};
 ghost use Rattle.bit_table_rows.specs.RowsKept.{KeepsRows, rows_kept};
 
 use bit_addressing_memory::mem::bits_of;
-use bit_addressing_memory::{
-    BitEnd, BitIdx, BitOrder, BitRegister, Direction, Sweep, bits_from, direction_of, raised,
-    stored, taken,
-};
+use bit_addressing_memory::{BitIdx, BitOrder, BitRegister, Direction, Sweep, direction_of, taken};
 use bit_slice_views::{BitSlice, Bits};
 
 /// Keeps those of the `n` rows whose entry in `off` is false: they come to lie in their order from bit `head` of the
@@ -31,8 +27,7 @@ use bit_slice_views::{BitSlice, Bits};
 ///
 /// The sweep is fresh and goes up. `off` has one entry a row, and the rows' bits are there.
 ///
-/// No word is written twice, and none that the kept rows do not touch at their new places. How many reads are counted is
-/// not said.
+/// No word is written twice, and none that the kept rows do not touch at their new places.
 pub fn keep_rows<T: BitRegister, O: BitOrder<T>>(
     sweep: &mut Sweep<'_, T>,
     head: BitIdx<T>,
@@ -161,43 +156,18 @@ fn keep_part<T: BitRegister, O: BitOrder<T>>(
     let bits = bits_of::<T>();
     let index = to % bits;
     let own = begun::<T, O>(sweep, word, first, to);
-    let next = with_bits::<T, O>(sweep, direction, own, index as u8, from, count);
+    let next = taken::<T, O>(
+        sweep,
+        direction,
+        from,
+        own,
+        index as u8,
+        (index + count) as u8,
+    );
     if index + count == bits {
         sweep.put(to / bits, next);
     }
     next
-}
-
-// A word with so many bits of the sweep's words, those from a place on, at its own from an index on.
-#[inline(always)]
-fn with_bits<T: BitRegister, O: BitOrder<T>>(
-    sweep: &mut Sweep<'_, T>,
-    direction: Option<Direction>,
-    own: T,
-    index: u8,
-    place: usize,
-    count: usize,
-) -> T
-    requires goes { (d : Direction) → direction ≡ Some d → Goes T.BITS O.position d }
-    requires some { 0 < count }
-    requires fits { index + count ≤ T.BITS }
-    requires within { place + count ≤ length (sweep_words sweep.old) * T.BITS }
-    requires ends { place + count < 2 ^ 64 }
-    ensures stored { IsStored (read_by T.BitRegister O.position) own result index (index + count)
-        (λ i. entry (read_by T.BitRegister O.position) (sweep_words sweep.old) (place + (i - index))) }
-    ensures same { SameButReads sweep.old sweep.new }
-    ensures lender { sweep_lender sweep.new ≡ sweep_lender sweep.old }
-{
-    let upto = index + count as u8;
-    match direction {
-        Some(direction) => {
-            let moved = bits_from::<T, O>(sweep, direction, place, count);
-            let there = raised::<T, O>(direction, moved, index);
-            let head = BitIdx::new_unchecked(index);
-            stored::<T, O>(own, there, head, BitEnd::new_unchecked(upto))
-        }
-        None => taken::<T, O>(sweep, place, own, index, upto),
-    }
 }
 
 // The word of the place `to`: that at hand, or the memory's own where none is begun.

@@ -2,7 +2,7 @@
 //! place on, or back, word by word.
 
 ghost use Rattle.std.specs.Prelude.{◌≡◌, ℕ, ◌+◌, ◌-◌, ◌*◌, ◌<◌, ◌≤◌, length};
-ghost use Rattle.bit_addressing_memory.specs.Memory.{entry, indexed, read_by};
+ghost use Rattle.bit_addressing_memory.specs.Memory.{entry, indexed, read_by, touched};
 ghost use Rattle.bit_addressing_memory.specs.Straight.{Goes};
 ghost use Rattle.bit_table_rows.specs.OneBit.{from_before, from_behind, IsOpened, Makes};
 
@@ -12,39 +12,49 @@ use bit_addressing_memory::{
 };
 
 // Opens a place for one bit, which is zero then: the bits from it on, up to before the last one before `end`, go one
-// place on. Every other bit stays.
+// place on. Every other bit stays. It answers to how many words these bits went: each is written once.
 #[inline(always)]
 pub(crate) fn open_bit<R: BitRegister, O: BitOrder<R>>(
     direction: Direction,
     words: &mut [R],
     place: usize,
     end: usize,
-)
+) -> usize
     requires goes { Goes R.BITS O.position direction }
     requires order { place < end }
     requires within { end ≤ length words.old * R.BITS }
-    ensures { IsOpened (read_by R.BitRegister O.position) words.old words.new place end }
+    ensures opened { IsOpened (read_by R.BitRegister O.position) words.old words.new place end }
+    ensures writes { result ≡ touched R.BITS (place + 1) (end - (place + 1)) }
 {
     let bits = bits_of::<R>();
     let first = place / bits;
+    let from = place % bits;
     let upto = bits.min(end - first * bits);
-    raise_from::<R, O>(direction, words, first + 1, end);
-    open_word::<R, O>(direction, words, first, (place % bits) as u8, upto as u8);
+    let mut writes = raise_from::<R, O>(direction, words, first + 1, end);
+    open_word::<R, O>(direction, words, first, from as u8, upto as u8);
+
+    // Where the place is the last one of its word, no bit went there.
+    if from + 1 < upto {
+        writes += 1;
+    }
+    writes
 }
 
-// Closes the place of one bit: the bits behind it, up to before `end`, go one place back. Every other bit stays.
+// Closes the place of one bit: the bits behind it, up to before `end`, go one place back. Every other bit stays. It
+// answers to how many words these bits went: each is written once.
 #[inline(always)]
 pub(crate) fn close_bit<R: BitRegister, O: BitOrder<R>>(
     direction: Direction,
     words: &mut [R],
     place: usize,
     end: usize,
-)
+) -> usize
     requires goes { Goes R.BITS O.position direction }
     requires order { place < end }
     requires within { end ≤ length words.old * R.BITS }
-    ensures { Makes (read_by R.BitRegister O.position) words.old words.new place (end - 1)
+    ensures closed { Makes (read_by R.BitRegister O.position) words.old words.new place (end - 1)
         (from_behind (read_by R.BitRegister O.position) words.old) }
+    ensures writes { result ≡ touched R.BITS place (end - 1 - place) }
 {
     let bits = bits_of::<R>();
     let first = place / bits;
@@ -52,40 +62,54 @@ pub(crate) fn close_bit<R: BitRegister, O: BitOrder<R>>(
     let from = (place % bits) as u8;
     let upto = ((end - 1) % bits) as u8;
     if first == last {
+        if from == upto {
+            return 0;
+        }
         lower_part::<R, O>(direction, words, last, from, upto);
-        return;
+        return 1;
     }
     lower_first::<R, O>(direction, words, first, from);
+    let mut writes = 1;
     for k in first + 1..last {
         lower_word::<R, O>(direction, words, k);
+        writes += 1;
+    }
+    if upto == 0 {
+        return writes;
     }
     lower_part::<R, O>(direction, words, last, 0, upto);
+    writes + 1
 }
 
-// Moves the bits of the words from `low` on, up to before a place, one place on, and the last bit before them too.
+// Moves the bits of the words from `low` on, up to before a place, one place on, and the last bit before them too. It
+// answers how many words it wrote.
 #[inline(always)]
 fn raise_from<R: BitRegister, O: BitOrder<R>>(
     direction: Direction,
     words: &mut [R],
     low: usize,
     end: usize,
-)
+) -> usize
     requires goes { Goes R.BITS O.position direction }
     requires some { 0 < low }
     requires any { 0 < end }
     requires within { end ≤ length words.old * R.BITS }
-    ensures { Makes (read_by R.BitRegister O.position) words.old words.new (low * R.BITS) end
+    ensures raised { Makes (read_by R.BitRegister O.position) words.old words.new (low * R.BITS) end
         (from_before (read_by R.BitRegister O.position) words.old) }
+    ensures writes { result ≡ touched R.BITS (low * R.BITS) (end - low * R.BITS) }
 {
     let bits = bits_of::<R>();
     let last = (end - 1) / bits;
     if last < low {
-        return;
+        return 0;
     }
     raise_part::<R, O>(direction, words, last, (end - last * bits) as u8);
+    let mut writes = 1;
     for k in (low..last).rev() {
         raise_word::<R, O>(direction, words, k);
+        writes += 1;
     }
+    writes
 }
 
 // The bits one place before those of a word, as a word.

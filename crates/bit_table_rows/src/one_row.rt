@@ -1,5 +1,5 @@
 //! One row put into a list of one bit a row, and taken out of it, in an order that goes straight: no sweep is made, and
-//! the words that one would write are counted by where the rows lie.
+//! each word to which bits move is written, and counted, once.
 
 ghost use Rattle.std.specs.Prelude.{◌≡◌, ◌+◌, ◌-◌, ◌*◌, ◌^◌, ◌<◌, ◌≤◌, ◌∷◌, [], false, length, take, IfOk, IsOk, OnOk, OnErr};
 ghost use Rattle.bit_addressing_memory.specs.Memory.{memory, piece, read_by, touched};
@@ -11,7 +11,6 @@ ghost use Rattle.bit_table_rows.specs.Lists.{HasBits, IsColumn};
 ghost use Rattle.bit_table_rows.specs.RowEdits.{deleted, inserted};
 
 use crate::one_bit::{close_bit, open_bit};
-use bit_addressing_memory::mem::bits_of;
 use bit_addressing_memory::{BitOrder, BitRegister, Direction};
 use bit_containers_vector::BitVec;
 use bit_slice_views::BitStore;
@@ -36,8 +35,7 @@ pub(crate) fn insert_zero<T: BitStore, O: BitOrder<T>>(
     ensures writes { IfOk result (λ writes. writes ≡ touched T.BITS (p + 1) (n - p)) }
 {
     list.push(false)?;
-    open_in(list, direction, n + 1, p);
-    Ok(words_of::<T>(p + 1, n - p))
+    Ok(open_in(list, direction, n + 1, p))
 }
 
 // Takes bit `p` out of a list of `n` bits, and answers how many words a move of those behind it writes.
@@ -53,50 +51,44 @@ pub(crate) fn delete_bit<T: BitStore, O: BitOrder<T>>(
     ensures bits { HasBits (read_by T.BitRegister O.position) (λ bits. deleted bits p (p + 1)) list.old list.new }
     ensures writes { result ≡ touched T.BITS p (n - (p + 1)) }
 {
-    close_in(list, direction, n, p);
+    let writes = close_in(list, direction, n, p);
     list.truncate(n - 1);
-    words_of::<T>(p, n - (p + 1))
+    writes
 }
 
-// Puts a zero in before bit `p` of `n` bits: those from there on go one place on, and the last of them is gone.
+// Puts a zero in before bit `p` of `n` bits: those from there on go one place on, and the last of them is gone. It
+// answers how many words the move wrote.
 #[tactic(auto, using(bit_slice_views_mut::proofs::FrameLemmas::frames))]
-fn open_in<V: BitsMut>(view: &mut V, direction: Direction, n: usize, p: usize)
+fn open_in<V: BitsMut>(view: &mut V, direction: Direction, n: usize, p: usize) -> usize
     requires goes { Goes V.Store.BITS V.Order.position direction }
     requires bits { length (V.bits view.old) ≡ n }
     requires inside { p < n }
     ensures bits { V.bits view.new ≡ inserted (take (n - 1) (V.bits view.old)) p (false ∷ []) }
     ensures frame { V.frame view.new ≡ V.frame view.old }
+    ensures writes { result ≡ touched V.Store.BITS (V.place view.old + (p + 1)) (n - (p + 1)) }
 {
     let place = view.first_place();
-    view.write(|words| open_window::<V::Store, V::Order>(words, direction, place, n, p));
+    view.write(|words| open_window::<V::Store, V::Order>(words, direction, place, n, p))
 }
 
-// Moves the bits behind bit `p` of `n` bits one place back. What the last bit is then is open.
+// Moves the bits behind bit `p` of `n` bits one place back, and answers how many words the move wrote. What the last bit
+// is then is open.
 #[tactic(auto, using(bit_slice_views_mut::proofs::FrameLemmas::frames))]
-fn close_in<V: BitsMut>(view: &mut V, direction: Direction, n: usize, p: usize)
+fn close_in<V: BitsMut>(view: &mut V, direction: Direction, n: usize, p: usize) -> usize
     requires goes { Goes V.Store.BITS V.Order.position direction }
     requires bits { length (V.bits view.old) ≡ n }
     requires inside { p < n }
     ensures bits { take (n - 1) (V.bits view.new) ≡ deleted (V.bits view.old) p (p + 1) }
     ensures len { length (V.bits view.new) ≡ n }
     ensures frame { V.frame view.new ≡ V.frame view.old }
+    ensures writes { result ≡ touched V.Store.BITS (V.place view.old + p) (n - (p + 1)) }
 {
     let place = view.first_place();
-    view.write(|words| close_window::<V::Store, V::Order>(words, direction, place, n, p));
+    view.write(|words| close_window::<V::Store, V::Order>(words, direction, place, n, p))
 }
 
-// How many words hold `len` bits from a place on.
-fn words_of<R: BitRegister>(place: usize, len: usize) -> usize
-    requires { place + len < 2 ^ 64 }
-    ensures { result ≡ touched R.BITS place len }
-{
-    if len == 0 {
-        return 0;
-    }
-    (place + len - 1) / bits_of::<R>() + 1 - place / bits_of::<R>()
-}
-
-// Puts a zero in before bit `p` of a window: the bits from there on go one place on, and the last of them is gone.
+// Puts a zero in before bit `p` of a window: the bits from there on go one place on, and the last of them is gone. It
+// answers how many words the move wrote.
 #[inline(always)]
 #[tactic(auto, using(crate::proofs::OneRowLemmas::windows))]
 fn open_window<R: BitRegister, O: BitOrder<R>>(
@@ -105,7 +97,7 @@ fn open_window<R: BitRegister, O: BitOrder<R>>(
     place: usize,
     len: usize,
     p: usize,
-)
+) -> usize
     requires goes { Goes R.BITS O.position direction }
     requires inside { p < len }
     requires within { place + len ≤ length words.old * R.BITS }
@@ -113,11 +105,13 @@ fn open_window<R: BitRegister, O: BitOrder<R>>(
     ensures list { piece (memory (read_by R.BitRegister O.position) words.new) place len ≡ inserted
         (take (len - 1) (piece (memory (read_by R.BitRegister O.position) words.old) place len)) p (false ∷ []) }
     ensures beside { KeepsBeside (read_by R.BitRegister O.position) words.old words.new place len }
+    ensures writes { result ≡ touched R.BITS (place + (p + 1)) (len - (p + 1)) }
 {
-    open_bit::<R, O>(direction, words, place + p, place + len);
+    open_bit::<R, O>(direction, words, place + p, place + len)
 }
 
-// Moves the bits behind bit `p` of a window one place back. What its last bit is then is open.
+// Moves the bits behind bit `p` of a window one place back, and answers how many words the move wrote. What its last bit
+// is then is open.
 #[inline(always)]
 #[tactic(auto, using(crate::proofs::OneRowLemmas::windows))]
 fn close_window<R: BitRegister, O: BitOrder<R>>(
@@ -126,7 +120,7 @@ fn close_window<R: BitRegister, O: BitOrder<R>>(
     place: usize,
     len: usize,
     p: usize,
-)
+) -> usize
     requires goes { Goes R.BITS O.position direction }
     requires inside { p < len }
     requires within { place + len ≤ length words.old * R.BITS }
@@ -134,6 +128,7 @@ fn close_window<R: BitRegister, O: BitOrder<R>>(
     ensures list { take (len - 1) (piece (memory (read_by R.BitRegister O.position) words.new) place len)
         ≡ deleted (piece (memory (read_by R.BitRegister O.position) words.old) place len) p (p + 1) }
     ensures beside { KeepsBeside (read_by R.BitRegister O.position) words.old words.new place len }
+    ensures writes { result ≡ touched R.BITS (place + p) (len - (p + 1)) }
 {
-    close_bit::<R, O>(direction, words, place + p, place + len);
+    close_bit::<R, O>(direction, words, place + p, place + len)
 }

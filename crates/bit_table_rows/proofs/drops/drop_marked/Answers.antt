@@ -108,8 +108,8 @@ returns-clause-dropped g c =
       head = (c.leave_zeros.ensures.bits).head ∙ ap vec_head (here e);
     })
 
-pub leave_zeros-requires : goal.leave_zeros-requires
-leave_zeros-requires g c =
+pub leave_zeros-requires-clause-few : goal.leave_zeros-requires-clause-few
+leave_zeros-requires-clause-few g c =
     let reading = read_by g.T.BitRegister g.O.Positions.position in
     let x = c.args.letter in
     let old = c.args.lists.now in
@@ -119,3 +119,8 @@ leave_zeros-requires g c =
     get_or_default old x v d c.requires.letter ∙ sym (c.loop-i.invariant.flags d) in
     let few = count_by-le-length not (vec_bits reading (get_or old x v)) in
     omega (arith, few, c.count_zeros-left.ensures, ap (λ u. length (vec_bits reading u)) same)
+
+pub leave_zeros-requires-clause-begin : goal.leave_zeros-requires-clause-begin
+leave_zeros-requires-clause-begin g c =
+    let d = c.index-lists-letter-2.result in
+    ap vec_head (c.loop-i.invariant.flags d) ∙ (c.requires.columns c.args.letter d c.requires.letter).head

@@ -14,6 +14,19 @@ const FEW: usize = 4;
 
 const FEW_TURNED: usize = 32;
 
+#[inline(always)]
+pub(crate) fn few_to_compare<
+    R: BitRegister,
+    O: BitOrder<R>,
+    Q: BitRegister,
+    P: BitOrder<Q>,
+>() -> usize {
+    match (direction_of::<R, O>(), direction_of::<Q, P>()) {
+        (Some(_), Some(_)) => FEW,
+        _ => FEW_TURNED,
+    }
+}
+
 // How many of `len` bits of two memories are the same, from the first on. Lists that differ mostly do so early.
 #[inline(always)]
 pub(crate) fn agree_in<R: BitRegister, O: BitOrder<R>, Q: BitRegister, P: BitOrder<Q>>(
@@ -30,10 +43,7 @@ pub(crate) fn agree_in<R: BitRegister, O: BitOrder<R>, Q: BitRegister, P: BitOrd
     ensures { Agrees (read_by R.BitRegister O.position) words.now place
         (read_by Q.BitRegister P.position) others.now other_place len result }
 {
-    let few = match (direction_of::<R, O>(), direction_of::<Q, P>()) {
-        (Some(_), Some(_)) => len.min(FEW),
-        _ => len.min(FEW_TURNED),
-    };
+    let few = len.min(few_to_compare::<R, O, Q, P>());
     for k in 0..few {
         if read_entry::<R, O>(words, place + k) != read_entry::<Q, P>(others, other_place + k) {
             return k;
@@ -54,7 +64,7 @@ pub(crate) fn agree_in<R: BitRegister, O: BitOrder<R>, Q: BitRegister, P: BitOrd
 
 // The same, by chunks. Out of line, so that lists that differ early are compared by a short function.
 #[inline(never)]
-fn agree_by_chunks<R: BitRegister, O: BitOrder<R>, Q: BitRegister, P: BitOrder<Q>>(
+pub(crate) fn agree_by_chunks<R: BitRegister, O: BitOrder<R>, Q: BitRegister, P: BitOrder<Q>>(
     words: &[R],
     place: usize,
     others: &[Q],

@@ -1,11 +1,11 @@
 //! How bits of two memories compare as lists.
 
-ghost use Rattle.std.specs.Prelude.{◌≡◌, ◌+◌, ◌*◌, ◌^◌, ◌<◌, ◌≤◌, length};
+ghost use Rattle.std.specs.Prelude.{◌≡◌, ℕ, ◌+◌, ◌*◌, ◌^◌, ◌<◌, ◌≤◌, length};
 ghost use Rattle.std.specs.Cmp.Lexicographic.{slice_cmp};
 ghost use Rattle.std.specs.Ordering.{bool_cmp};
-ghost use Rattle.bit_addressing_memory.specs.Memory.{memory, piece, read_by};
+ghost use Rattle.bit_addressing_memory.specs.Memory.{entry, memory, piece, read_by};
 
-use crate::agree::agree_in;
+use crate::agree::{agree_by_chunks, few_to_compare};
 use bit_addressing_memory::{BitOrder, BitRegister, read_entry};
 use std::cmp::Ordering;
 
@@ -30,10 +30,49 @@ pub fn compare_in<R: BitRegister, O: BitOrder<R>, Q: BitRegister, P: BitOrder<Q>
         (piece (memory (read_by Q.BitRegister P.position) others.now) other_place other_len) }
 {
     let shorter = len.min(other_len);
-    let same = agree_in::<R, O, Q, P>(words, place, others, other_place, shorter);
-    if same < shorter {
-        let bit = read_entry::<R, O>(words, place + same);
-        let other = read_entry::<Q, P>(others, other_place + same);
+    let few = shorter.min(few_to_compare::<R, O, Q, P>());
+    // Lists that differ early are answered here.
+    for k in 0..few {
+        let bit = read_entry::<R, O>(words, place + k);
+        let other = read_entry::<Q, P>(others, other_place + k);
+        if bit != other {
+            return bit.cmp(&other);
+        }
+    }
+    if few == shorter {
+        return len.cmp(&other_len);
+    }
+    compare_rest::<R, O, Q, P>(words, place, len, others, other_place, other_len, few)
+}
+
+// The same where the first bits are the same, by chunks behind them.
+#[inline(never)]
+fn compare_rest<R: BitRegister, O: BitOrder<R>, Q: BitRegister, P: BitOrder<Q>>(
+    words: &[R],
+    place: usize,
+    len: usize,
+    others: &[Q],
+    other_place: usize,
+    other_len: usize,
+    from: usize,
+) -> Ordering
+    requires within { place + len ≤ length words.now * R.BITS }
+    requires ends { place + len < 2 ^ 64 }
+    requires other_within { other_place + other_len ≤ length others.now * Q.BITS }
+    requires other_ends { other_place + other_len < 2 ^ 64 }
+    requires least { from ≤ len }
+    requires other_least { from ≤ other_len }
+    requires same { (k : ℕ) → k < from → entry (read_by R.BitRegister O.position) words.now (place + k)
+        ≡ entry (read_by Q.BitRegister P.position) others.now (other_place + k) }
+    ensures { result ≡ slice_cmp bool_cmp (piece (memory (read_by R.BitRegister O.position) words.now) place len)
+        (piece (memory (read_by Q.BitRegister P.position) others.now) other_place other_len) }
+{
+    let shorter = len.min(other_len);
+    let rest = shorter - from;
+    let same = agree_by_chunks::<R, O, Q, P>(words, place + from, others, other_place + from, rest);
+    if same < rest {
+        let bit = read_entry::<R, O>(words, place + (from + same));
+        let other = read_entry::<Q, P>(others, other_place + (from + same));
         return bit.cmp(&other);
     }
     len.cmp(&other_len)

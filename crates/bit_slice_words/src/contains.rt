@@ -5,12 +5,26 @@ ghost use Rattle.bit_addressing_memory.specs.Memory.{memory, piece, read_by};
 ghost use Rattle.bit_slice_words.specs.Holds.{Holds};
 
 use crate::equal::equal_in;
-use bit_addressing_memory::{BitOrder, BitRegister};
+use bit_addressing_memory::{BitOrder, BitRegister, direction_of};
 use bit_slice_chunks::any_order::direction_for;
 use bit_slice_paths::seek;
 
 // Among how many bits others are looked for at each place anew.
 const FEW: usize = 8;
+
+// At how many places others are, of which most are passed over by their first bits: where both orders go straight, and
+// else, where a chunk costs as much as some of them.
+const FEW_STARTS: usize = 2;
+
+const FEW_STARTS_TURNED: usize = 12;
+
+#[inline(always)]
+fn few_starts<R: BitRegister, O: BitOrder<R>, Q: BitRegister, P: BitOrder<Q>>() -> usize {
+    match (direction_of::<R, O>(), direction_of::<Q, P>()) {
+        (Some(_), Some(_)) => FEW_STARTS,
+        _ => FEW_STARTS_TURNED,
+    }
+}
 
 /// Whether the `other_len` bits of the memory `others` from a place on stand, in order and next to each other, in the
 /// `len` bits of the memory `words` from another place on. No bits stand everywhere.
@@ -39,7 +53,7 @@ pub fn contains_in<R: BitRegister, O: BitOrder<R>, Q: BitRegister, P: BitOrder<Q
         return false;
     }
     let starts = len - other_len + 1;
-    if len <= FEW {
+    if len <= FEW || starts <= few_starts::<R, O, Q, P>() {
         return contains_singly::<R, O, Q, P>(words, place, len, others, other_place, other_len);
     }
     seek::start::<R, O, Q, P>(

@@ -8,7 +8,7 @@ ghost use Rattle.bit_slice_words.specs.Stretch.{bit_found, IsFirst, Nowhere};
 
 use crate::by_chunks::first_by_chunks;
 use crate::edges::edges_of;
-use crate::lacks::lacks;
+use crate::lacking::lacks;
 use bit_addressing_memory::mem::bits_of;
 use bit_addressing_memory::{BitIdx, BitOrder, BitRegister, Direction, direction_of, read_bit};
 

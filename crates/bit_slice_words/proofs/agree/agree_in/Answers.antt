@@ -1,7 +1,6 @@
-use Rattle.std.proofs.Common.{◌≡◌, ◌+◌, ◌-◌, ◌≤◌, arith}
+use Rattle.std.proofs.Common.{◌≡◌, ◌-◌, arith}
 use Rattle.bit_addressing_memory.specs.Memory.{read_by}
 use Rattle.bit_slice_paths.proofs.AcrossLemmas.{agrees_all, agrees_more}
-use Rattle.bit_slice_words.proofs.agree.agree_in.Goals.{in-Some-Some, in_default}
 use Rattle.bit_slice_words.proofs.agree.agree_in.Goals as goal
 
 pub returns-then-few-len : goal.returns-then-few-len
@@ -12,11 +11,7 @@ returns-then-few-len g c =
 
 pub returns : goal.returns
 returns g c =
-    let few = c.match-direction_of.few in
-    let some : few ≤ c.args.len = elim c.match-direction_of.branch [
-      | in-Some-Some w ↦ omega (arith, w.few-is, w.min-few.ensures)
-      | in_default w ↦ omega (arith, w.few-is, w.min-few-in_default.ensures)
-    ] in
+    let few = c.min-few.result in
     let all : c.loop-k.k ≡ few = omega (arith, c.loop-k.auto.k-end) in
     agrees_more (read_by g.R.BitRegister g.O.Positions.position) (read_by g.Q.BitRegister g.P.Positions.position)
     c.args.words.now c.args.others.now c.args.place c.args.other_place few (c.args.len - few) c.args.len

@@ -1,28 +1,26 @@
-use Rattle.std.proofs.Common.{◌≢◌, sym, ◌∙◌, arith}
+use Rattle.std.proofs.Common.{arith}
 use Rattle.bit_addressing_memory.specs.Memory.{read_by}
 use Rattle.bit_slice_words.proofs.CompareLemmas.{windows_compare_differ, windows_compare_ends}
+use Rattle.bit_slice_words.proofs.SameLemmas.{differ_tested}
 use Rattle.bit_slice_words.proofs.compare.compare_in.Goals as goal
 
-pub returns-then-same-shorter : goal.returns-then-same-shorter
-returns-then-same-shorter g c =
+pub returns-then-bit-other : goal.returns-then-bit-other
+returns-then-bit-other g c =
     let reading = read_by g.R.BitRegister g.O.Positions.position in
     let its = read_by g.Q.BitRegister g.P.Positions.position in
     let mine = c.read_entry-bit in
     let theirs = c.read_entry-other in
-    let agree = c.agree_in-same.ensures in
-    let other : mine.result ≢ theirs.result =
-    λ same. agree.differ c.if-same-shorter.true (sym mine.ensures.value ∙ same ∙ theirs.ensures.value) in
     windows_compare_differ reading c.args.words.now its c.args.others.now c.args.place c.args.other_place c.args.len
-    c.args.other_len c.agree_in-same.result mine.result theirs.result c.cmp.result
+    c.args.other_len c.loop-k.k mine.result theirs.result c.cmp.result
     (omega (arith, g.met.R.BitRegister.least_bits)) (omega (arith, g.met.Q.BitRegister.least_bits)) c.requires.within
-    c.requires.other_within (omega arith) (omega arith) mine.ensures.value theirs.ensures.value agree.same other
-    c.cmp.ensures
+    c.requires.other_within (omega arith) (omega arith) mine.ensures.value theirs.ensures.value c.loop-k.invariant
+    (differ_tested mine.result theirs.result c.if-bit-other.true) c.cmp.ensures
 
-pub returns : goal.returns
-returns g c =
+pub returns-then-few-shorter : goal.returns-then-few-shorter
+returns-then-few-shorter g c =
     let reading = read_by g.R.BitRegister g.O.Positions.position in
     let its = read_by g.Q.BitRegister g.P.Positions.position in
     windows_compare_ends reading c.args.words.now its c.args.others.now c.args.place c.args.other_place c.args.len
-    c.args.other_len c.cmp-2.result (omega (arith, g.met.R.BitRegister.least_bits))
+    c.args.other_len c.cmp-then-few-shorter.result (omega (arith, g.met.R.BitRegister.least_bits))
     (omega (arith, g.met.Q.BitRegister.least_bits)) c.requires.within c.requires.other_within
-    (λ k low its_low. c.agree_in-same.ensures.same k (omega arith)) c.cmp-2.ensures
+    (λ k low its_low. c.loop-k.invariant k (omega arith)) c.cmp-then-few-shorter.ensures

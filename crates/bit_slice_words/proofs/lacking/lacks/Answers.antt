@@ -1,5 +1,5 @@
 use Rattle.bit_slice_words.proofs.StretchLemmas.{lacks_is}
-use Rattle.bit_slice_words.proofs.lacks.lacks.Goals as goal
+use Rattle.bit_slice_words.proofs.lacking.lacks.Goals as goal
 
 pub returns : goal.returns
 returns g c =

@@ -6,8 +6,9 @@ ghost use Rattle.bit_slice_words.specs.Found.{is_bit};
 
 use bit_addressing_memory::{BitOrder, BitRegister, each_digit, no_digits};
 
-// Whether no bit of the word is `bit`. One comparison of words tells it.
-pub(crate) fn lacks<R: BitRegister, O: BitOrder<R>>(word: R, bit: bool) -> bool
+/// Whether no bit of the word is `bit`. One comparison of words tells it.
+#[inline(always)]
+pub fn lacks<R: BitRegister, O: BitOrder<R>>(word: R, bit: bool) -> bool
     ensures { IsTrue result ↔ ((i : ℕ) → i < R.BITS → is_bit bit (indexed R.number O.position word i) ≡ false) }
 {
     word.equals(word_without::<R, O>(bit))

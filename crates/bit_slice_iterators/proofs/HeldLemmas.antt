@@ -1,6 +1,7 @@
 -- Indices that are held as the digits of a number: `held_none`, `held_first`, `held_last`, `length-held`.
 --
--- Those of a list from one bit on: `indices_from-start`, `indices_from-end`, `length-indices_from`; the last of them:
+-- Those of a list from one bit on: `indices_from-start`, `indices_from-end`, `indices_from-none`, `length-indices_from`;
+-- the last of them:
 -- `last_from`, `last_below`, `last_missing`; how they come to be held: `takes_near`, `takes_behind`, `takes_none`,
 -- `takes_end`, `takes_found`, `takes_alone`; the digits: `whole_digits`, `last_digits`, `no_digits`, `faced_digits`,
 -- `faced_none`, `flipped_digit`.
@@ -378,6 +379,19 @@ indices_from-split test bits from count next is_next within =
     ∙ ap (λ n. indices test from (piece bits from count) ++ indices test n (piece bits next (length bits - next)))
     goes_on
 
+-- none where none passes up to another
+pub indices_from-none : (test : Bool → Bool) (bits : List Bool) (from next : ℕ) → from ≤ next → next ≤ length bits
+    → ((k : ℕ) → from ≤ k → k < next → test (get_or bits k false) ≡ false)
+    → indices_from test bits from ≡ indices_from test bits next
+indices_from-none test bits from next order within none =
+    let step : ℕ = next - from in
+    let before : indices test from (piece bits from step) ≡ [] = indices-no test from (piece bits from step) (λ j small.
+    let wide : length (piece bits from step) ≡ step = length-piece bits from step (omega arith) in
+    let early : j < step = omega arith in
+    ap test (get_or-piece bits from step j false early) ∙ none (from + j) (omega arith) (omega arith)) in
+    indices_from-split test bits from step next (omega arith) within
+    ∙ ap (λ l. l ++ indices_from test bits next) before
+
 -- none from the end on
 pub indices_from-end : (test : Bool → Bool) (bits : List Bool) (from : ℕ) → from ≡ length bits
     → indices_from test bits from ≡ []
@@ -479,16 +493,13 @@ skipped test bits from i at base within found is_at least most =
     ap (λ q. test (get_or bits q false)) is_at
     ∙ sym (ap test (get_or-piece bits from (length bits - from) i false (omega arith)))
     ∙ first.1 in
-    let step : ℕ = base - from in
-    let before : indices test from (piece bits from step) ≡ [] = indices-no test from (piece bits from step) (λ j small.
-    let wide : length (piece bits from step) ≡ step = length-piece bits from step (omega arith) in
-    let early : j < step = omega arith in
-    ap test (get_or-piece bits from step j false early)
+    let same : indices_from test bits from ≡ indices_from test bits base =
+    indices_from-none test bits from base least (omega arith) (λ k low small.
+    let j : ℕ = k - from in
+    let there : from + j ≡ k = omega arith in
+    ap (λ q. test (get_or bits q false)) (sym there)
     ∙ sym (ap test (get_or-piece bits from (length bits - from) j false (omega arith)))
     ∙ first.2 j (omega arith)) in
-    let same : indices_from test bits from ≡ indices_from test bits base =
-    indices_from-split test bits from step base (omega arith) (omega arith)
-    ∙ ap (λ l. l ++ indices_from test bits base) before in
     (inside, here, same)
 
 -- it is one of the digits

@@ -1,7 +1,7 @@
 //! The indices of the bits of a window that are 1, or 0, from both ends.
 
 ghost use Rattle.std.specs.Prelude.{◌≡◌, ℕ, ◌+◌, ◌-◌, ◌*◌, ◌<◌, ◌≤◌, ⊤, Bool, true, false, [], length};
-ghost use Rattle.std.specs.Prelude.{count_by, position, IfSome, Some};
+ghost use Rattle.std.specs.Prelude.{count_by, position, slice_index_or, IfSome, Some};
 ghost use Rattle.std.specs.Option.{MatchOption};
 ghost use Rattle.std.specs.Iterator.{YieldsFirst, YieldsLast, item_count, UpTo};
 ghost use Rattle.std.specs.Iterator.SizeHint.{IsWithinCount};
@@ -13,10 +13,12 @@ ghost use Rattle.bit_slice_words.specs.Found.{is_bit, last_position};
 ghost use Rattle.bit_slice_views.specs.View.{view_bits};
 ghost use Rattle.bit_slice_iterators.specs.Indices.{indices, indices_from, AreDigits, IsLastFrom, TakesAhead};
 
+use bit_addressing_memory::mem::bits_of;
 use bit_addressing_memory::{BitOrder, BitRegister, Direction, Lsb0, direction_of};
 use bit_slice_chunks::any_order::{direction_for, read_bits, read_chunk};
 use bit_slice_chunks::{faced, first_bits};
 use bit_slice_views::{BitSlice, Bits};
+use bit_slice_words::lacks;
 use std::alloc::AllocError;
 use std::iter::FusedIterator;
 use std::marker::{Model, PhantomData};
@@ -106,6 +108,9 @@ const CHUNK: usize = 64;
 // How many bits lie before an index that comes alone.
 const FAR: usize = 4;
 
+// How many bits are looked at one by one for the last index.
+const NEAR: usize = 4;
+
 /// The indices of the bits of one kind that are left, ascending; a contract sees their list.
 ///
 /// It is exact in length, gives each index once from either end, and then `None` for good.
@@ -158,6 +163,14 @@ impl<'a, T: BitRegister, O: BitOrder<T>, B: Sought> Indices<'a, T, O, B> {
     }
 }
 
+// The bits that are looked for.
+#[inline(always)]
+fn sought_bit<B: Sought>() -> bool
+    ensures { result ≡ B.bit }
+{
+    B::among(0) % 2 == 0
+}
+
 // A number whose digits are 1 at the next indices from a bit on, with the index of its lowest digit; 0 where there are
 // none. Most of the time one is near.
 #[inline(always)]
@@ -172,15 +185,45 @@ fn take_ahead<T: BitRegister, O: BitOrder<T>, B: Sought>(
     if T::BITS < 32 && direction_of::<T, O>().is_none() {
         return take_by_words::<T, O, B>(view, from);
     }
-    let near = digits_at::<T, O, B>(view, from);
+    let next = lacking_upto::<T, O, B>(view, from);
+    let near = digits_at::<T, O, B>(view, next);
     if near != 0 {
-        return (from, near);
+        return (next, near);
     }
-    let behind = view.len().min(from + CHUNK);
+    let behind = view.len().min(next + CHUNK);
     if behind == view.len() {
         return (behind, 0);
     }
     take_behind::<T, O, B>(view, behind)
+}
+
+// Up to where a window's bits from one on lie in words that have no index. A comparison of words passes over each, where a
+// chunk costs more: in an order that does not go straight.
+#[inline(always)]
+fn lacking_upto<T: BitRegister, O: BitOrder<T>, B: Sought>(
+    view: BitSlice<'_, T, O>,
+    from: usize,
+) -> usize
+    requires { from ≤ length (view_bits (read_by T.BitRegister O.position) view) }
+    ensures least { from ≤ result }
+    ensures most { result ≤ length (view_bits (read_by T.BitRegister O.position) view.entry) }
+    ensures none { (k : ℕ) → from ≤ k → k < result
+        → is_bit B.bit (slice_index_or (view_bits (read_by T.BitRegister O.position) view.entry) k false) ≡ false }
+{
+    if direction_of::<T, O>().is_some() {
+        return from;
+    }
+    let (words, head, len) = view.parts();
+    let bits = bits_of::<T>();
+    let mut next = from;
+    while next < len {
+        let place = head as usize + next;
+        if !lacks::<T, O>(words[place / bits], sought_bit::<B>()) {
+            return next;
+        }
+        next = len.min(next + (bits - place % bits));
+    }
+    next
 }
 
 // The same where it may be far.
@@ -280,13 +323,34 @@ fn last_from<T: BitRegister, O: BitOrder<T>, B: Sought>(
     if from == view.len() {
         return None;
     }
-    let Some(at) = B::last(&view) else {
+    let Some(at) = last_of::<T, O, B>(view) else {
         return None
     };
     if at < from {
         return None;
     }
     Some(at)
+}
+
+// The last index of a window. Mostly it is near.
+#[inline(always)]
+fn last_of<T: BitRegister, O: BitOrder<T>, B: Sought>(view: BitSlice<'_, T, O>) -> Option<usize>
+    ensures { result ≡ last_position (is_bit B.bit) (view_bits (read_by T.BitRegister O.position) view.entry) }
+{
+    let bit = sought_bit::<B>();
+    let (words, head, len) = view.parts();
+    if len == 0 || lacks::<T, O>(words[(head as usize + len - 1) / bits_of::<T>()], bit) {
+        return B::last(&view);
+    }
+    let near = len.saturating_sub(NEAR);
+    let mut k = len;
+    while near < k {
+        k -= 1;
+        if view.bit(k) == bit {
+            return Some(k);
+        }
+    }
+    B::last(&view)
 }
 
 impl<'a, T: BitRegister, O: BitOrder<T>, B: Sought> Default for Indices<'a, T, O, B> {

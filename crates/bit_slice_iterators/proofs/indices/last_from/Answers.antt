@@ -13,14 +13,14 @@ returns-then-from-len g c =
 pub returns-in_default : goal.returns-in_default
 returns-in_default g c =
     last_missing (is_bit g.B.Sought.bit) (view_bits (read_by g.T.BitRegister g.O.Positions.position) c.args.view)
-    c.args.from c.requires (sym c.last.ensures ∙ c.in_default.is)
+    c.args.from c.requires (sym c.last_of.ensures ∙ c.in_default.is)
 
 pub returns-then-at-from : goal.returns-then-at-from
 returns-then-at-from g c =
     last_below (is_bit g.B.Sought.bit) (view_bits (read_by g.T.BitRegister g.O.Positions.position) c.args.view)
-    c.args.from c.in-Some.at c.if-at-from.true c.requires (sym c.last.ensures ∙ c.in-Some.is)
+    c.args.from c.in-Some.at c.if-at-from.true c.requires (sym c.last_of.ensures ∙ c.in-Some.is)
 
 pub returns : goal.returns
 returns g c =
     last_from (is_bit g.B.Sought.bit) (view_bits (read_by g.T.BitRegister g.O.Positions.position) c.args.view)
-    c.args.from c.in-Some.at c.if-at-from.false (sym c.last.ensures ∙ c.in-Some.is)
+    c.args.from c.in-Some.at c.if-at-from.false (sym c.last_of.ensures ∙ c.in-Some.is)

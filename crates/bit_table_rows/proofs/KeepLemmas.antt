@@ -264,6 +264,10 @@ fills_read reading s t v word next first to more had same loan = record {
   lender = loan ∙ had.lender;
 }
 
+-- no reads
+pub reads_none : {R : Type 0} (s : Sweep R) → SameButReads s s
+reads_none s = record { words = refl; way = refl; edge = refl; writes = refl }
+
 -- reads after reads
 pub reads_again : {R : Type 0} (s t u : Sweep R) → SameButReads s t → SameButReads t u → SameButReads s u
 reads_again s t u one other = record {

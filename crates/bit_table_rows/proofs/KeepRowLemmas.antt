@@ -1,8 +1,8 @@
 -- Rows kept one after another by a sweep that goes up, and what all of them make of a list.
 --
--- Row by row: `at_first`, `at_run`, `at_gone`. All rows: `keeps_rows`, `kept_writes`. The list: `kept_list`.
+-- Row by row: `at_first`, `at_run`, `at_upto`, `at_gone`. All rows: `keeps_rows`, `kept_writes`. The list: `kept_list`.
 use Rattle.std.proofs.Common.{◌≡◌, ℕ, ◌+◌, ◌-◌, ◌*◌, ◌/◌, ◌<◌, ◌≤◌, Bool, true, false, List, []}
-use Rattle.std.proofs.Common.{length, get_or, refl, sym, ap, ◌∙◌, arith, add-mul, mul-le-mul_right}
+use Rattle.std.proofs.Common.{length, get_or, refl, sym, ap, subst, ◌∙◌, arith, add-mul, mul-le-mul_right}
 use Rattle.std.proofs.lemmas.Nat.{div-add-mod'}
 use Rattle.bit_addressing_memory.proofs.MemoryLemmas.{length-piece, piece_piece}
 use Rattle.bit_addressing_memory.proofs.WindowLemmas.{length-window, window_overwritten, window_same}
@@ -14,7 +14,7 @@ use Rattle.bit_table_rows.specs.KeepSteps.{AtRow, Filled, Fills}
 use Rattle.bit_table_rows.specs.RowsKept.{KeepsRows, kept, left_before, rows_joined, rows_kept, rows_left}
 use Rattle.bit_table_rows.proofs.KeepLemmas.{filled_none, fills_more, fills_none}
 use Rattle.bit_table_rows.proofs.KeptLemmas.{few_left, joined_part, joined_run, left_stays}
-use Rattle.bit_table_rows.proofs.KeptLemmas.{length-joined, more_run}
+use Rattle.bit_table_rows.proofs.KeptLemmas.{length-joined, more_run, run_stays}
 
 -- ---- row by row
 
@@ -77,7 +77,7 @@ module _ {R : Type 0} (reading : Reading R) (s t : Sweep R) (start word : R) (fi
       ∙ sym (piece_piece (memory reading (sweep_words s)) first (n * w) (k * w) (m * w) (omega arith))
 
   -- rows that stay, one behind the other
-  pub at_run : (u : Sweep R) (next : R) (m : ℕ) → k + m ≤ n
+  at_run : (u : Sweep R) (next : R) (m : ℕ) → k + m ≤ n
       → ((i : ℕ) → i < m → get_or off (k + i) false ≡ false)
       → Fills reading t u word next first (first + count * w)
       (piece (memory reading (sweep_words t)) (first + k * w) (m * w))
@@ -107,6 +107,17 @@ module _ {R : Type 0} (reading : Reading R) (s t : Sweep R) (start word : R) (fi
         edge = rw last at edge;
         way = put.way ∙ at.way;
       }
+
+  -- the row and those behind it up to another
+  pub at_upto : (u : Sweep R) (next : R) (upto : ℕ) → k ≤ upto → upto ≤ n → get_or off k false ≡ false
+      → ((i : ℕ) → k + 1 ≤ i → i < upto → get_or off i false ≡ false)
+      → Fills reading t u word next first (first + count * w)
+      (piece (memory reading (sweep_words t)) (first + k * w) ((upto - k) * w))
+      → AtRow reading s u start next first n w off upto (count + (upto - k))
+  at_upto u next upto order high stays behind put =
+      let all : k + (upto - k) ≡ upto = omega arith in
+      subst (λ i. AtRow reading s u start next first n w off i (count + (upto - k))) all
+      (at_run u next (upto - k) (omega arith) (run_stays off k upto stays behind) put)
 
 -- ---- all rows
 

@@ -4,10 +4,11 @@
 //! all rows are there. As many bits at a time are moved as fit into the word at hand: by shifts where the positions of
 //! a word go straight with its indices, else by limbs.
 
-ghost use Rattle.std.specs.Prelude.{◌≡◌, ℕ, ◌+◌, ◌-◌, ◌*◌, ◌/◌, ◌%◌, ◌^◌, ◌<◌, ◌≤◌, Bool, false, List, length};
+ghost use Rattle.std.specs.Prelude.{◌≡◌, ℕ, ◌+◌, ◌-◌, ◌*◌, ◌/◌, ◌%◌, ◌^◌, ◌<◌, ◌≤◌, Bool, true, false, List, length};
 ghost use Rattle.std.specs.Prelude.{Some, count_by, not, slice_index_or};
 ghost use Rattle.bit_addressing_memory.specs.Memory.{Overwrites, entry, memory, piece, read_by, touched};
 ghost use Rattle.bit_addressing_memory.specs.Moves.{changed};
+ghost use Rattle.bit_addressing_memory.specs.Partial.{IsStored};
 ghost use Rattle.bit_addressing_memory.specs.Straight.{Goes};
 ghost use Rattle.bit_addressing_memory.specs.declared.direction.Direction.{Direction};
 ghost use Rattle.bit_addressing_memory.specs.Sweep.{IsFresh, SameButReads, edge_of, sweep_lender, sweep_words, way_of};
@@ -18,8 +19,13 @@ ghost use Rattle.bit_table_rows.specs.KeepSteps.{Filled, Fills, IsFilledWord};
 ghost use Rattle.bit_table_rows.specs.RowsKept.{KeepsRows, rows_kept};
 
 use bit_addressing_memory::mem::bits_of;
-use bit_addressing_memory::{BitIdx, BitOrder, BitRegister, Direction, Sweep, direction_of, taken};
+use bit_addressing_memory::{
+    BitIdx, BitOrder, BitRegister, Direction, Sweep, direction_of, read_bit, taken, write_bit,
+};
 use bit_slice_views::{BitSlice, Bits};
+
+// How many bits are moved one by one.
+const FEW: usize = 2;
 
 /// Keeps those of the `n` rows whose entry in `off` is false: they come to lie in their order from bit `head` of the
 /// sweep's first word on, and it answers how many they are. The rows have `w` bits each and lie end to end from that bit
@@ -75,6 +81,10 @@ pub fn keep_rows<T: BitRegister, O: BitOrder<T>>(
             word = keep_run::<T, O>(sweep, direction, word, first, to, from, (upto - k) * w);
             kept += upto - k;
             k = upto;
+            if k < n {
+                // The row behind them goes, as was just told.
+                k += 1;
+            }
         }
     }
     put_rest::<T, O>(sweep, word, first, first + kept * w);
@@ -89,6 +99,8 @@ fn stay_upto<T: BitRegister, O: BitOrder<T>>(off: BitSlice<'_, T, O>, k: usize, 
     ensures high { result ≤ n }
     ensures stay { (i : ℕ) → k ≤ i → i < result
         → slice_index_or (view_bits (read_by T.BitRegister O.position) off.entry) i false ≡ false }
+    ensures gone { result < n
+        → slice_index_or (view_bits (read_by T.BitRegister O.position) off.entry) result false ≡ true }
 {
     for i in k..n {
         if off.bit(i) {
@@ -98,10 +110,40 @@ fn stay_upto<T: BitRegister, O: BitOrder<T>>(off: BitSlice<'_, T, O>, k: usize, 
     n
 }
 
-// Puts the bits of rows, which stand from the place `from` on, to the place `to` on: each part of them that comes to lie
-// in one word at once. `word` is at hand for the word of `to`, and the word for the place behind them is answered. The
-// positions go in `direction`, where there is one.
+// Puts the bits of rows, which stand from the place `from` on, to the place `to` on. `word` is at hand for the word of
+// `to`, and the word for the place behind them is answered. The positions go in `direction`, where there is one.
+#[inline(always)]
 fn keep_run<T: BitRegister, O: BitOrder<T>>(
+    sweep: &mut Sweep<'_, T>,
+    direction: Option<Direction>,
+    word: T,
+    first: usize,
+    to: usize,
+    from: usize,
+    len: usize,
+) -> T
+    requires goes { (d : Direction) → direction ≡ Some d → Goes T.BITS O.position d }
+    requires way { way_of sweep.old ≡ Up }
+    requires edge { edge_of sweep.old ≤ to / T.BITS }
+    requires order { to ≤ from }
+    requires within { from + len ≤ length (sweep_words sweep.old) * T.BITS }
+    requires ends { from + len < 2 ^ 64 }
+    ensures { Fills (read_by T.BitRegister O.position) sweep.old sweep.new word result first to
+        (piece (memory (read_by T.BitRegister O.position) (sweep_words sweep.old)) from len) }
+{
+    if len == 1 {
+        return keep_part::<T, O>(sweep, direction, word, first, to, from, 1);
+    }
+    if len == 2 {
+        let next = keep_part::<T, O>(sweep, direction, word, first, to, from, 1);
+        return keep_part::<T, O>(sweep, direction, next, first, to + 1, from + 1, 1);
+    }
+    keep_many::<T, O>(sweep, direction, word, first, to, from, len)
+}
+
+// The same, as many at a time as come to lie in one word.
+#[inline(always)]
+fn keep_many<T: BitRegister, O: BitOrder<T>>(
     sweep: &mut Sweep<'_, T>,
     direction: Option<Direction>,
     word: T,
@@ -156,7 +198,7 @@ fn keep_part<T: BitRegister, O: BitOrder<T>>(
     let bits = bits_of::<T>();
     let index = to % bits;
     let own = begun::<T, O>(sweep, word, first, to);
-    let next = taken::<T, O>(
+    let next = taken_from::<T, O>(
         sweep,
         direction,
         from,
@@ -168,6 +210,70 @@ fn keep_part<T: BitRegister, O: BitOrder<T>>(
         sweep.put(to / bits, next);
     }
     next
+}
+
+// The word `own` with the bits that stand from a place on at its indices from one up to before another.
+#[inline(always)]
+fn taken_from<T: BitRegister, O: BitOrder<T>>(
+    sweep: &mut Sweep<'_, T>,
+    direction: Option<Direction>,
+    place: usize,
+    own: T,
+    from: u8,
+    upto: u8,
+) -> T
+    requires goes { (d : Direction) → direction ≡ Some d → Goes T.BITS O.position d }
+    requires order { from < upto }
+    requires index { upto ≤ T.BITS }
+    requires within { place + (upto - from) ≤ length (sweep_words sweep.old) * T.BITS }
+    requires ends { place + (upto - from) < 2 ^ 64 }
+    ensures stored { IsStored (read_by T.BitRegister O.position) own result from upto
+        (λ i. entry (read_by T.BitRegister O.position) (sweep_words sweep.old) (place + (i - from))) }
+    ensures same { SameButReads sweep.old sweep.new }
+    ensures lender { sweep_lender sweep.new ≡ sweep_lender sweep.old }
+{
+    if (upto - from) as usize <= FEW {
+        return taken_singly::<T, O>(sweep, place, own, from, upto);
+    }
+    taken::<T, O>(sweep, direction, place, own, from, upto)
+}
+
+// The same, bit by bit.
+#[inline(always)]
+fn taken_singly<T: BitRegister, O: BitOrder<T>>(
+    sweep: &mut Sweep<'_, T>,
+    place: usize,
+    own: T,
+    from: u8,
+    upto: u8,
+) -> T
+    requires order { from ≤ upto }
+    requires index { upto ≤ T.BITS }
+    requires within { place + (upto - from) ≤ length (sweep_words sweep.old) * T.BITS }
+    requires ends { place + (upto - from) < 2 ^ 64 }
+    ensures stored { IsStored (read_by T.BitRegister O.position) own result from upto
+        (λ i. entry (read_by T.BitRegister O.position) (sweep_words sweep.old) (place + (i - from))) }
+    ensures same { SameButReads sweep.old sweep.new }
+    ensures lender { sweep_lender sweep.new ≡ sweep_lender sweep.old }
+{
+    let mut made = own;
+    for i in from..upto {
+        let bit = bit_at_place::<T, O>(sweep, place + (i - from) as usize);
+        made = write_bit::<T, O>(made, BitIdx::new_unchecked(i), bit);
+    }
+    made
+}
+
+// The bit of the words at a place.
+fn bit_at_place<T: BitRegister, O: BitOrder<T>>(sweep: &mut Sweep<'_, T>, place: usize) -> bool
+    requires { place < length (sweep_words sweep.old) * T.BITS }
+    ensures value { result ≡ entry (read_by T.BitRegister O.position) (sweep_words sweep.old) place }
+    ensures same { SameButReads sweep.old sweep.new }
+    ensures lender { sweep_lender sweep.new ≡ sweep_lender sweep.old }
+{
+    let bits = bits_of::<T>();
+    let index = BitIdx::new_unchecked((place % bits) as u8);
+    read_bit::<T, O>(sweep.read(place / bits), index)
 }
 
 // The word of the place `to`: that at hand, or the memory's own where none is begun.

@@ -1,12 +1,12 @@
-use Rattle.std.proofs.Common.{arith, ◌≡◌, ℕ, ◌+◌, ◌-◌, ◌*◌, ◌<◌, ◌≤◌, ◌∙◌, ap, length, subst, sym}
+use Rattle.std.proofs.Common.{arith, ◌≡◌, ◌+◌, ◌-◌, ◌*◌, ◌<◌, ◌≤◌, ◌∙◌, ap, length, subst, sym}
 use Rattle.bit_addressing_memory.proofs.Changes.{unchanged}
 use Rattle.bit_addressing_memory.specs.Memory.{read_by}
 use Rattle.bit_addressing_memory.specs.Sweep.{sweep_words}
 use Rattle.bit_slice_views.specs.View.{view_bits}
 use Rattle.bit_table_rows.specs.KeepSteps.{AtRow}
 use Rattle.bit_table_rows.specs.RowsKept.{left_before}
-use Rattle.bit_table_rows.proofs.KeepRowLemmas.{at_gone, at_run, keeps_rows, kept_list}
-use Rattle.bit_table_rows.proofs.KeptLemmas.{length-rows_left, run_stays}
+use Rattle.bit_table_rows.proofs.KeepRowLemmas.{at_gone, at_upto, keeps_rows, kept_list}
+use Rattle.bit_table_rows.proofs.KeptLemmas.{length-rows_left}
 use Rattle.bit_table_rows.proofs.RowLemmas.{rows_below, rows_join}
 use Rattle.bit_table_rows.proofs.keep.keep_rows.Goals as goal
 
@@ -56,6 +56,29 @@ rows-preserved-then-bit g c =
       inside = omega arith;
     }
 
+-- and the row behind them goes
+pub rows-preserved-then-k-n : goal.rows-preserved-then-k-n
+rows-preserved-then-k-n g c =
+    let reading = read_by g.T.BitRegister g.O.Positions.position in
+    let off = view_bits reading c.args.off in
+    let first = c.into_inner-first.result in
+    let zero = g.T.BitRegister.ZERO in
+    let some : 0 < reading.bits = omega (arith, g.met.T.BitRegister.least_bits) in
+    let within : first + c.args.n * c.args.w ≤ length (sweep_words c.args.sweep.now) * reading.bits =
+    omega (arith, c.requires.within, c.into_inner-first.ensures.value) in
+    let upto = c.stay_upto-upto.result in
+    let at = at_upto reading c.args.sweep.now c.rows.sweep zero c.rows.word first c.args.n c.args.w off c.rows.k
+    c.rows.kept some c.rows-test.true within c.rows.invariant.at c.keep_run-word.new.sweep c.keep_run-word.result upto
+    (omega (arith, c.stay_upto-upto.ensures.low)) c.stay_upto-upto.ensures.high (sym c.bit.ensures ∙ c.if-bit.false)
+    c.stay_upto-upto.ensures.stay c.keep_run-word.ensures in
+    record {
+      at = at_gone reading c.args.sweep.now c.keep_run-word.new.sweep zero c.keep_run-word.result first c.args.n c.args.w
+          off upto (c.rows.kept + (upto - c.rows.k)) some c.if-k-n.true within at
+          (c.stay_upto-upto.ensures.gone c.if-k-n.true);
+      inside = omega arith;
+    }
+
+-- or there is none
 pub rows-preserved : goal.rows-preserved
 rows-preserved g c =
     let reading = read_by g.T.BitRegister g.O.Positions.position in
@@ -63,22 +86,14 @@ rows-preserved g c =
     let first = c.into_inner-first.result in
     let zero = g.T.BitRegister.ZERO in
     let some : 0 < reading.bits = omega (arith, g.met.T.BitRegister.least_bits) in
-    let low : c.rows.k < c.args.n = c.rows-test.true in
     let within : first + c.args.n * c.args.w ≤ length (sweep_words c.args.sweep.now) * reading.bits =
     omega (arith, c.requires.within, c.into_inner-first.ensures.value) in
     let upto = c.stay_upto-upto.result in
-    let m : ℕ = upto - c.rows.k in
-    let all : c.rows.k + m ≡ upto = omega (arith, c.stay_upto-upto.ensures.low) in
-    let high : c.rows.k + m ≤ c.args.n = omega (arith, c.stay_upto-upto.ensures.high) in
-    record {
-      at = subst (λ k. AtRow reading c.args.sweep.now c.keep_run-word.new.sweep zero c.keep_run-word.result first
-          c.args.n c.args.w off k (c.rows.kept + m)) all
-          (at_run reading c.args.sweep.now c.rows.sweep zero c.rows.word first c.args.n c.args.w off c.rows.k
-          c.rows.kept some low within c.rows.invariant.at c.keep_run-word.new.sweep c.keep_run-word.result m high
-          (run_stays off c.rows.k upto (sym c.bit.ensures ∙ c.if-bit.false) c.stay_upto-upto.ensures.stay)
-          c.keep_run-word.ensures);
-      inside = c.stay_upto-upto.ensures.high;
-    }
+    let at = at_upto reading c.args.sweep.now c.rows.sweep zero c.rows.word first c.args.n c.args.w off c.rows.k
+    c.rows.kept some c.rows-test.true within c.rows.invariant.at c.keep_run-word.new.sweep c.keep_run-word.result upto
+    (omega (arith, c.stay_upto-upto.ensures.low)) c.stay_upto-upto.ensures.high (sym c.bit.ensures ∙ c.if-bit.false)
+    c.stay_upto-upto.ensures.stay c.keep_run-word.ensures in
+    record { at = at; inside = c.stay_upto-upto.ensures.high }
 
 pub returns-clause-count : goal.returns-clause-count
 returns-clause-count g c =

@@ -1,4 +1,4 @@
-use Rattle.std.proofs.Common.{◌≡◌, ◌+◌, ◌-◌, ◌*◌, ◌/◌, ◌%◌, ◌<◌, ap, arith}
+use Rattle.std.proofs.Common.{◌≡◌, ◌*◌, ◌/◌, ◌%◌, ◌<◌, ap, arith}
 use Rattle.std.proofs.lemmas.Nat.{mod_below}
 use Rattle.bit_addressing_memory.proofs.PlaceLemmas.{first_word}
 use Rattle.bit_table_rows.proofs.OneBitLemmas.{opened_more, opened_none}

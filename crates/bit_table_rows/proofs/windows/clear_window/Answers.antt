@@ -1,4 +1,4 @@
-use Rattle.std.proofs.Common.{◌<◌, false, arith}
+use Rattle.std.proofs.Common.{false, arith}
 use Rattle.bit_addressing_memory.specs.Memory.{read_by}
 use Rattle.bit_slice_words.proofs.ListLemmas.{filled_list}
 use Rattle.bit_table_rows.proofs.windows.clear_window.Goals as goal

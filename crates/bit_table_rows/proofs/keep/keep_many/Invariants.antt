@@ -2,7 +2,7 @@ use Rattle.std.proofs.Common.{◌-◌, ◌≤◌}
 use Rattle.bit_addressing_memory.specs.Memory.{memory, piece, read_by}
 use Rattle.bit_addressing_memory.specs.Sweep.{sweep_words}
 use Rattle.bit_table_rows.specs.KeepSteps.{Fills}
-use Rattle.bit_table_rows.proofs.keep.keep_run.Given as goal
+use Rattle.bit_table_rows.proofs.keep.keep_many.Given as goal
 
 abbrev pub invariant-parts : goal.invariant-parts
 invariant-parts g l =

@@ -1,0 +1,15 @@
+use Rattle.std.proofs.Common.{◌≡◌, ◌+◌, ◌-◌}
+use Rattle.bit_addressing_memory.specs.Memory.{entry, read_by}
+use Rattle.bit_addressing_memory.specs.Partial.{IsStored}
+use Rattle.bit_addressing_memory.specs.Sweep.{SameButReads, sweep_lender, sweep_words}
+use Rattle.bit_table_rows.proofs.keep.taken_singly.Given as goal
+
+abbrev pub invariant-loop-i : goal.invariant-loop-i
+invariant-loop-i g l =
+    let reading = read_by g.T.BitRegister g.O.Positions.position in
+    record {
+      stored : IsStored reading l.fn.own l.made l.from l.i
+          (λ i. entry reading (sweep_words l.fn.sweep) (l.place + (i - l.from)));
+      same : SameButReads l.fn.sweep l.sweep;
+      lender : sweep_lender l.sweep ≡ sweep_lender l.fn.sweep;
+    }

@@ -34,7 +34,7 @@ impl<T: BitStore, O: BitOrder<T>> Retain for BitVec<T, O> {
 }
 
 // Up to how many bits are asked of one by one.
-const FEW: usize = 8;
+const FEW: usize = 16;
 
 // Moves the bits at which the predicate answers true to the front, and answers how many they are.
 fn gather<V: BitsMut, F: FnMut(usize, &bool) -> bool>(bits: &mut V, keep: F) -> usize

@@ -1,5 +1,5 @@
 -- What writes through parts of a window that is cut make of it, part by part: `part_step`; one bit: `part_set`.
-use Rattle.std.proofs.Common.{◌≡◌, ℕ, ◌+◌, ◌*◌, ◌<◌, ◌≤◌, Bool, List, length, set, sym, ap, ◌∙◌, arith, refl}
+use Rattle.std.proofs.Common.{◌≡◌, ℕ, ◌+◌, ◌*◌, ◌<◌, ◌≤◌, Bool, length, set, sym, ap, ◌∙◌, arith}
 use Rattle.bit_addressing_memory.specs.Memory.{memory, piece, with_piece}
 use Rattle.bit_addressing_memory.proofs.MemoryLemmas.{length-memory, length-piece, piece_piece}
 use Rattle.bit_slice_access.specs.PartLender.{PartLender}

@@ -1,10 +1,10 @@
 -- The span of a window: `touched_head`, `span_fits`, `span_ends`. The part of a word: `part_inside`, `word_beside`.
-use Rattle.std.proofs.Common.{◌≡◌, ◌⊎◌, ℕ, ◌+◌, ◌-◌, ◌*◌, ◌/◌, ◌%◌, ◌^◌, ◌<◌, ◌≤◌, ◌∙◌}
-use Rattle.std.proofs.Common.{zero, suc, refl, ap, sym, arith}
+use Rattle.std.proofs.Common.{◌≡◌, ◌⊎◌, ℕ, ◌+◌, ◌*◌, ◌/◌, ◌%◌, ◌^◌, ◌<◌, ◌≤◌, ◌∙◌}
+use Rattle.std.proofs.Common.{zero, suc, refl, ap, arith}
 use Rattle.std.proofs.Common.{inl, inr, Bool, List}
 use Rattle.std.proofs.Math.Nat.{add-mul-div_right, div-eq_of_lt, le-mul_of_pos_right, mod-lt}
 use Rattle.std.proofs.lemmas.Nat.{div-add-mod'}
-use Rattle.bit_addressing_memory.specs.Memory.{Overwrites, Reading, touched}
+use Rattle.bit_addressing_memory.specs.Memory.{Reading, touched}
 use Rattle.bit_addressing_memory.proofs.PartsLemmas.{part_start}
 use Rattle.bit_addressing_span.specs.Parts.{part_count, part_place}
 use Rattle.bit_addressing_span.specs.Span.{extent, IsExtent}

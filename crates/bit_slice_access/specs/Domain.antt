@@ -1,5 +1,5 @@
 -- The words of a writable window, as contracts see them.
-use Rattle.std.specs.Prelude.{ℕ, ◌≡◌, ◌+◌, ◌/◌, ◌%◌, Bool, List}
+use Rattle.std.specs.Prelude.{ℕ, ◌+◌, ◌/◌, ◌%◌, Bool, List}
 use Rattle.bit_addressing_memory.specs.Memory.{Overwrites, Reading}
 use Rattle.bit_addressing_span.specs.Parts.{part_count, part_from, part_place, part_upto}
 use Rattle.bit_addressing_memory.specs.Partial.{ReadsPart}

@@ -85,8 +85,8 @@ pub trait BitsCopy: BitsMut {
 
 impl<V: BitsMut> BitsCopy for V {}
 
-// Up to how many bits are worked on one by one: parts of many cost more.
-pub(crate) const FEW: usize = 8;
+// Up to how many bits are exchanged one by one: parts of many cost more.
+const FEW: usize = 28;
 
 // Whether a part of many bits costs no less than these bits one by one: of a wide word in an order that goes neither way,
 // nor in runs.

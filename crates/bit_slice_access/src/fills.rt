@@ -4,7 +4,7 @@ ghost use Rattle.std.specs.Prelude.{◌≡◌, ◌<◌, ◌≤◌, length, slice
 ghost use Rattle.std.specs.Mem.{FitsInMemory};
 ghost use Rattle.bit_slice_access.specs.Fills.{Filled};
 
-use crate::copies::{FEW, goes_singly, hold};
+use crate::copies::{goes_singly, hold};
 use crate::edits::BitsEdits;
 use bit_addressing_memory::{BitIdx, BitOrder, BitRegister, Lsb0, read_bit, write_bit};
 use bit_slice_views::{BitSlice, Bits};
@@ -21,7 +21,7 @@ pub trait BitsFill: BitsMut {
         ensures len { length (Self.bits self.new) ≡ length (Self.bits self.old) }
         ensures frame { Self.frame self.new ≡ Self.frame self.old }
     {
-        if self.len() <= FEW || goes_singly::<Self::Store, Self::Order>() {
+        if self.len() <= FEW_TO_FILL || goes_singly::<Self::Store, Self::Order>() {
             fill_singly(self, f);
         } else {
             fill_held::<Self, F, u64, Lsb0>(self, f);
@@ -37,7 +37,7 @@ pub trait BitsFill: BitsMut {
         ensures len { length (Self.bits self.new) ≡ length (Self.bits self.old) }
         ensures frame { Self.frame self.new ≡ Self.frame self.old }
     {
-        if self.len() <= FEW || goes_singly::<Self::Store, Self::Order>() {
+        if self.len() <= FEW_FOR_EACH || goes_singly::<Self::Store, Self::Order>() {
             each_singly(self, f);
         } else {
             let mut was = [0u64; 1];
@@ -47,6 +47,12 @@ pub trait BitsFill: BitsMut {
 }
 
 impl<V: BitsMut> BitsFill for V {}
+
+// Up to how many bits the closure's answers are put one by one, and up to how many bits it is shown so: to gather them in
+// words costs more.
+const FEW_TO_FILL: usize = 32;
+
+const FEW_FOR_EACH: usize = 64;
 
 // `fill_with`, bit by bit.
 #[inline(always)]

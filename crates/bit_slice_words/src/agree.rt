@@ -8,22 +8,28 @@ use bit_addressing_memory::{BitOrder, BitRegister, direction_of, read_entry};
 use bit_slice_chunks::any_order::direction_for;
 use bit_slice_paths::across;
 
-// How many bits are compared one by one before chunks are: where both orders go straight, and else, where a chunk costs
-// as much as some of them.
+// Up to how many bits are compared one by one alone.
+const SHORT: usize = 8;
+
+// How many of more are compared one by one before chunks are: where both orders go straight, and else, where a chunk
+// costs as much as some of them.
 const FEW: usize = 4;
 
 const FEW_TURNED: usize = 32;
 
+// How many of `len` bits are compared one by one first.
 #[inline(always)]
-pub(crate) fn few_to_compare<
-    R: BitRegister,
-    O: BitOrder<R>,
-    Q: BitRegister,
-    P: BitOrder<Q>,
->() -> usize {
+pub(crate) fn few_to_compare<R: BitRegister, O: BitOrder<R>, Q: BitRegister, P: BitOrder<Q>>(
+    len: usize,
+) -> usize
+    ensures { result ≤ len }
+{
+    if len <= SHORT {
+        return len;
+    }
     match (direction_of::<R, O>(), direction_of::<Q, P>()) {
-        (Some(_), Some(_)) => FEW,
-        _ => FEW_TURNED,
+        (Some(_), Some(_)) => len.min(FEW),
+        _ => len.min(FEW_TURNED),
     }
 }
 
@@ -43,7 +49,7 @@ pub(crate) fn agree_in<R: BitRegister, O: BitOrder<R>, Q: BitRegister, P: BitOrd
     ensures { Agrees (read_by R.BitRegister O.position) words.now place
         (read_by Q.BitRegister P.position) others.now other_place len result }
 {
-    let few = len.min(few_to_compare::<R, O, Q, P>());
+    let few = few_to_compare::<R, O, Q, P>(len);
     for k in 0..few {
         if read_entry::<R, O>(words, place + k) != read_entry::<Q, P>(others, other_place + k) {
             return k;

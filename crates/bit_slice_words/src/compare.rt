@@ -30,7 +30,7 @@ pub fn compare_in<R: BitRegister, O: BitOrder<R>, Q: BitRegister, P: BitOrder<Q>
         (piece (memory (read_by Q.BitRegister P.position) others.now) other_place other_len) }
 {
     let shorter = len.min(other_len);
-    let few = shorter.min(few_to_compare::<R, O, Q, P>());
+    let few = few_to_compare::<R, O, Q, P>(shorter);
     // Lists that differ early are answered here.
     for k in 0..few {
         let bit = read_entry::<R, O>(words, place + k);

@@ -11,7 +11,7 @@ returns-then-few-len g c =
 
 pub returns : goal.returns
 returns g c =
-    let few = c.min-few.result in
+    let few = c.few_to_compare-few.result in
     let all : c.loop-k.k ≡ few = omega (arith, c.loop-k.auto.k-end) in
     agrees_more (read_by g.R.BitRegister g.O.Positions.position) (read_by g.Q.BitRegister g.P.Positions.position)
     c.args.words.now c.args.others.now c.args.place c.args.other_place few (c.args.len - few) c.args.len

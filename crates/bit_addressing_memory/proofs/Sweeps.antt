@@ -1,7 +1,7 @@
 -- The words of a move, one after another.
 --
 -- `swept_none`, `swept_one`: no word, and one. `swept_up`, `swept_down`: more words, either way. `moved_all`: all of
--- them. `first_le_last`: there is one.
+-- them. `first_le_last`: there is one. `reads_none`, `reads_again`: a sweep that was only read, and read again.
 use Rattle.std.proofs.Common.{◌≡◌, ◌≢◌, ℕ, ◌+◌, ◌-◌, ◌*◌, ◌/◌, ◌%◌, ◌<◌, ◌≤◌, List, length, set}
 use Rattle.std.proofs.Common.{refl, sym, ap, ◌∙◌, inl, inr, arith}
 use Rattle.std.proofs.lemmas.Bool.{cases_lt}
@@ -11,6 +11,8 @@ use Rattle.std.proofs.lemmas.Nat.{div-mul-add, mod-mul-add, div-add-mod', div_be
 use Rattle.bit_addressing_memory.specs.Memory.{Reading, entry}
 use Rattle.bit_addressing_memory.proofs.EntryLemmas.{entry-set_same, entry-set_other}
 use Rattle.bit_addressing_memory.specs.Moves.{Moves}
+use Rattle.bit_addressing_memory.specs.Sweep.{SameButReads}
+use Rattle.bit_addressing_memory.specs.declared.sweep.Sweep.{Sweep}
 use Rattle.bit_addressing_memory.specs.MoveSteps.{moved_bit, IsGathered, Swept}
 use Rattle.bit_addressing_memory.proofs.Gathers.{moved_bit_inside, moved_bit_below, moved_bit_above}
 
@@ -173,3 +175,15 @@ moved_all reading before now source target len low high bits some any is is_low 
 pub first_le_last : (b place len : ℕ) → 0 < b → 0 < len → place / b ≤ (place + len - 1) / b
 first_le_last b place len some any =
     le-div (place / b) (place + len - 1) b some (omega (arith, div-add-mod' place b))
+
+pub reads_none : {R : Type 0} (s : Sweep R) → SameButReads s s
+reads_none s = record { words = refl; way = refl; edge = refl; writes = refl }
+
+-- reads after reads
+pub reads_again : {R : Type 0} (s t u : Sweep R) → SameButReads s t → SameButReads t u → SameButReads s u
+reads_again s t u one other = record {
+  words = other.words ∙ one.words;
+  way = other.way ∙ one.way;
+  edge = other.edge ∙ one.edge;
+  writes = other.writes ∙ one.writes;
+}

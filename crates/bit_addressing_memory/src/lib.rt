@@ -5,7 +5,6 @@
 mod copies;
 mod direction;
 mod entry;
-mod few;
 mod limbs;
 mod masking;
 mod moves;
@@ -15,6 +14,7 @@ mod shift;
 mod shifted;
 mod spreads;
 mod sweep;
+mod walks;
 
 pub use bit_addressing_order::{
     BitEnd, BitIdx, BitOrder, BitRegister, LocalBits, Lsb0, Msb0, OrderCandidate, Positions,
@@ -23,9 +23,10 @@ pub use bit_addressing_order::{
 pub use copies::{copy_between, copy_within, swap_between, swap_entries, swap_within};
 pub use direction::{Direction, direction_of, goes};
 pub use entry::{read_bit, read_entry, replace_entry, write_bit, write_entry};
-pub use limbs::{bits_in, lies_in_runs, put_bits_in};
+pub use limbs::{bits_in, put_bits_in};
 pub use masking::{each_digit, flipped, load_in, masked, no_digits, store_in, stored};
 pub use moves::{move_in, taken};
 pub use shift::{joined, raised};
 pub use spreads::spread;
 pub use sweep::{Sweep, Way, way_for};
+pub use walks::{Walk, most_singly, most_singly_of_two};

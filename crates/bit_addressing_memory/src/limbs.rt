@@ -1,15 +1,14 @@
 //! Bits of words in any lawful order by limbs. A limb is a number: its digits are those of a word at 64 indices one behind
 //! the other, or at all of a narrower word, the first lowest. Eight of them are put at a time, so that a compiler joins
-//! those whose positions lie side by side. A limb costs the same however few of its bits are wanted: a few go one by one.
+//! those whose positions lie side by side. A limb costs the same however few of its bits are wanted.
 
-ghost use Rattle.std.specs.Prelude.{◌≡◌, ℕ, ◌+◌, ◌-◌, ◌*◌, ◌/◌, ◌^◌, ◌<◌, ◌≤◌, ◌↔◌, IsTrue, false, length, min};
+ghost use Rattle.std.specs.Prelude.{◌≡◌, ℕ, ◌+◌, ◌-◌, ◌*◌, ◌/◌, ◌^◌, ◌<◌, ◌≤◌, false, length, min};
 ghost use Rattle.bit_addressing_order.specs.Bits.{digit_at};
 ghost use Rattle.bit_addressing_memory.specs.Limbs.{HasEntries};
 ghost use Rattle.bit_addressing_memory.specs.Memory.{entry, indexed, read_by, Overwrites};
 ghost use Rattle.bit_addressing_memory.specs.Partial.{IsStored};
 
 use crate::direction::Direction;
-use crate::few::{put_few, with_few};
 use crate::masking::{no_digits, stored};
 use crate::shift::raised;
 use crate::spreads::{spread, spread_on_zeros};
@@ -26,9 +25,6 @@ pub fn bits_in<R: BitRegister, O: BitOrder<R>>(words: &[R], place: usize, count:
     ensures { HasEntries (read_by R.BitRegister O.position) words.now place count result }
 {
     let bits = limb_bits::<R>();
-    if count <= bits / 4 {
-        return with_few::<R, O, u64, Lsb0>(words, place, 0, 0, count as u8);
-    }
     let first = place / bits;
     let last = (place + count - 1) / bits;
     let mut made = lowered_limb(limb_at::<R, O>(words, first), (place % bits) as u8);
@@ -54,10 +50,6 @@ pub fn put_bits_in<R: BitRegister, O: BitOrder<R>>(
     ensures { Overwrites (read_by R.BitRegister O.position) words.old words.new place count (digit_at number) }
 {
     let bits = limb_bits::<R>();
-    if count <= bits / 4 {
-        put_few::<R, O>(words, place, count, number);
-        return;
-    }
     let first = place / bits;
     let last = (place + count - 1) / bits;
     for n in first..last + 1 {
@@ -69,39 +61,10 @@ pub fn put_bits_in<R: BitRegister, O: BitOrder<R>>(
     }
 }
 
-// A word with the bits of a memory from a place on at its indices from one up to before another. Its other bits stay.
+// A word with the bits of a memory from a place on at its indices from one up to before another, all in one limb, that from
+// the index `base` on. Its other bits stay.
 #[inline(always)]
-pub(crate) fn with_limbs<R: BitRegister, O: BitOrder<R>>(
-    words: &[R],
-    place: usize,
-    own: R,
-    from: u8,
-    upto: u8,
-) -> R
-    requires order { from < upto }
-    requires index { upto ≤ R.BITS }
-    requires within { place + (upto - from) ≤ length words.now * R.BITS }
-    requires ends { place + (upto - from) < 2 ^ 64 }
-    ensures { IsStored (read_by R.BitRegister O.position) own result from upto
-        (λ i. entry (read_by R.BitRegister O.position) words.now (place + (i - from))) }
-{
-    if upto - from <= most_singly::<R, O>() {
-        return with_few::<R, O, R, O>(words, place, own, from, upto);
-    }
-    if upto <= 64 {
-        return with_bits::<R, O>(own, 0, from, upto, words, place);
-    }
-    if from >= 64 {
-        return with_bits::<R, O>(own, 64, from, upto, words, place);
-    }
-    let begun = with_bits::<R, O>(own, 0, from, 64, words, place);
-    let behind = place + (64 - from) as usize;
-    with_bits::<R, O>(begun, 64, 64, upto, words, behind)
-}
-
-// The same of indices that lie in one limb, that from the index `base` on.
-#[inline(always)]
-fn with_bits<R: BitRegister, O: BitOrder<R>>(
+pub(crate) fn with_bits<R: BitRegister, O: BitOrder<R>>(
     word: R,
     base: u8,
     from: u8,
@@ -156,29 +119,6 @@ fn limb_bits<R: BitRegister>() -> usize
     ensures { result ≡ min 64 R.BITS }
 {
     bits_of::<R>().min(64)
-}
-
-// Up to how many bits of a word, not all of a limb, are put one by one: a quarter of a limb where the first two positions
-// lie side by side, since a compiler joins most bits of such an order, else all.
-#[inline(always)]
-fn most_singly<R: BitRegister, O: BitOrder<R>>() -> u8
-    ensures { result ≤ 64 }
-{
-    let bits = R::BITS.min(64);
-    if lies_in_runs::<R, O>() {
-        bits / 4
-    } else {
-        bits
-    }
-}
-
-/// Whether the first two positions lie side by side, upwards. In such an order a word is turned as a whole by few
-/// instructions.
-#[inline(always)]
-pub fn lies_in_runs<R: BitRegister, O: BitOrder<R>>() -> bool
-    ensures { IsTrue result ↔ O.position 1 ≡ O.position 0 + 1 }
-{
-    O::position_of(1) == O::position_of(0) + 1
 }
 
 // The digits of a word at the indices from one on, as many as a limb has, and zeros behind them.
@@ -305,14 +245,6 @@ fn put_part<R: BitRegister, O: BitOrder<R>>(
 {
     if upto - from == R::BITS.min(64) {
         put_limb::<R, O>(words, n, lowered_limb(number, first));
-    } else if upto - from <= most_singly::<R, O>() {
-        let place = n * limb_bits::<R>() + from as usize;
-        put_few::<R, O>(
-            words,
-            place,
-            (upto - from) as usize,
-            lowered_limb(number, first),
-        );
     } else {
         let own = limb_at::<R, O>(words, n);
         put_limb::<R, O>(words, n, spread_limb(number, first, own, from, upto));

@@ -12,11 +12,13 @@ ghost use Rattle.bit_addressing_memory.specs.Sweep.{reads_of};
 ghost use Rattle.bit_addressing_memory.specs.Ways.{way_for};
 
 use crate::direction::{Direction, direction_of};
-use crate::limbs::with_limbs;
+use crate::entry::{read_bit, write_bit};
+use crate::limbs::with_bits;
 use crate::shifted::{put_shifted, with_shifted};
 use crate::sweep::{Sweep, Way};
+use crate::walks::{Walk, most_singly};
 use bit_addressing_order::mem::bits_of;
-use bit_addressing_order::{BitOrder, BitRegister};
+use bit_addressing_order::{BitIdx, BitOrder, BitRegister};
 
 /// Moves `len` bits of the words of a fresh sweep from the place `source` on to the place `target` on,
 /// in the order `O`; the two may overlap. A place is a number: word times `BITS`, plus the index there.
@@ -63,7 +65,7 @@ pub fn move_in<R: BitRegister, O: BitOrder<R>>(
     }
 }
 
-// Puts each word that the target touches, its bits gathered by limbs.
+// Puts each word that the target touches, its bits gathered by limbs, or one by one.
 fn put_gathered<R: BitRegister, O: BitOrder<R>>(
     sweep: &mut Sweep<'_, R>,
     source: usize,
@@ -129,7 +131,8 @@ fn gathered<R: BitRegister, O: BitOrder<R>>(
 }
 
 /// A word with the bits of a sweep's words from a place on at its indices from one up to before another: by shifts where
-/// the positions go in a direction, else by limbs. Its other bits stay. A read is counted for each bit that is taken.
+/// the positions go in a direction, else by limbs, or one by one. Its other bits stay. A read is counted for each bit that
+/// is taken, where it is taken.
 #[inline(always)]
 pub fn taken<R: BitRegister, O: BitOrder<R>>(
     sweep: &mut Sweep<'_, R>,
@@ -150,11 +153,140 @@ pub fn taken<R: BitRegister, O: BitOrder<R>>(
     ensures same { SameButReads sweep.old sweep.new }
     ensures lender { sweep_lender sweep.new ≡ sweep_lender sweep.old }
 {
+    match direction {
+        Some(direction) => {
+            let words = sweep.all();
+            let word = with_shifted::<R, O>(direction, words, place, own, from, upto);
+            sweep.count_reads((upto - from) as usize);
+            word
+        }
+        None => taken_turned::<R, O>(sweep, place, own, from, upto),
+    }
+}
+
+// The same in an order that goes neither way.
+#[inline(always)]
+fn taken_turned<R: BitRegister, O: BitOrder<R>>(
+    sweep: &mut Sweep<'_, R>,
+    place: usize,
+    own: R,
+    from: u8,
+    upto: u8,
+) -> R
+    requires order { from < upto }
+    requires index { upto ≤ R.BITS }
+    requires within { place + (upto - from) ≤ length (sweep_words sweep.old) * R.BITS }
+    requires ends { place + (upto - from) < 2 ^ 64 }
+    ensures stored { IsStored (read_by R.BitRegister O.position) own result from upto
+        (λ i. entry (read_by R.BitRegister O.position) (sweep_words sweep.old) (place + (i - from))) }
+    ensures reads { reads_of sweep.new ≡ min (reads_of sweep.old + (upto - from)) (2 ^ 64 - 1) }
+    ensures same { SameButReads sweep.old sweep.new }
+    ensures lender { sweep_lender sweep.new ≡ sweep_lender sweep.old }
+{
+    let count = (upto - from) as usize;
+    if count <= most_singly::<R, O>(Walk::Copy) {
+        return taken_singly::<R, O>(sweep, place, own, from as usize, upto as usize);
+    }
+    taken_by_limbs::<R, O>(sweep, place, own, from, upto)
+}
+
+// The same by limbs. Out of line, so that a few bits are taken by a short function.
+#[inline(never)]
+fn taken_by_limbs<R: BitRegister, O: BitOrder<R>>(
+    sweep: &mut Sweep<'_, R>,
+    place: usize,
+    own: R,
+    from: u8,
+    upto: u8,
+) -> R
+    requires order { from < upto }
+    requires index { upto ≤ R.BITS }
+    requires within { place + (upto - from) ≤ length (sweep_words sweep.old) * R.BITS }
+    requires ends { place + (upto - from) < 2 ^ 64 }
+    ensures stored { IsStored (read_by R.BitRegister O.position) own result from upto
+        (λ i. entry (read_by R.BitRegister O.position) (sweep_words sweep.old) (place + (i - from))) }
+    ensures reads { reads_of sweep.new ≡ min (reads_of sweep.old + (upto - from)) (2 ^ 64 - 1) }
+    ensures same { SameButReads sweep.old sweep.new }
+    ensures lender { sweep_lender sweep.new ≡ sweep_lender sweep.old }
+{
+    if upto <= 64 {
+        return taken_limb::<R, O>(sweep, 0, place, own, from, upto);
+    }
+    if from >= 64 {
+        return taken_limb::<R, O>(sweep, 64, place, own, from, upto);
+    }
+    let begun = taken_limb::<R, O>(sweep, 0, place, own, from, 64);
+    let behind = place + (64 - from) as usize;
+    taken_limb::<R, O>(sweep, 64, behind, begun, 64, upto)
+}
+
+// The same of indices in one limb, that from the index `base` on: one step that counts a read for each of its bits.
+#[inline(always)]
+fn taken_limb<R: BitRegister, O: BitOrder<R>>(
+    sweep: &mut Sweep<'_, R>,
+    base: u8,
+    place: usize,
+    own: R,
+    from: u8,
+    upto: u8,
+) -> R
+    requires limb { base + min 64 R.BITS ≤ R.BITS }
+    requires low { base ≤ from }
+    requires order { from < upto }
+    requires high { upto ≤ base + min 64 R.BITS }
+    requires within { place + (upto - from) ≤ length (sweep_words sweep.old) * R.BITS }
+    requires ends { place + (upto - from) < 2 ^ 64 }
+    ensures stored { IsStored (read_by R.BitRegister O.position) own result from upto
+        (λ i. entry (read_by R.BitRegister O.position) (sweep_words sweep.old) (place + (i - from))) }
+    ensures reads { reads_of sweep.new ≡ min (reads_of sweep.old + (upto - from)) (2 ^ 64 - 1) }
+    ensures same { SameButReads sweep.old sweep.new }
+    ensures lender { sweep_lender sweep.new ≡ sweep_lender sweep.old }
+{
     let words = sweep.all();
-    let word = match direction {
-        Some(direction) => with_shifted::<R, O>(direction, words, place, own, from, upto),
-        None => with_limbs::<R, O>(words, place, own, from, upto),
-    };
+    let word = with_bits::<R, O>(own, base, from, upto, words, place);
     sweep.count_reads((upto - from) as usize);
     word
+}
+
+// The same bit by bit: each is read by itself.
+#[inline(always)]
+fn taken_singly<R: BitRegister, O: BitOrder<R>>(
+    sweep: &mut Sweep<'_, R>,
+    place: usize,
+    own: R,
+    from: usize,
+    upto: usize,
+) -> R
+    requires order { from ≤ upto }
+    requires index { upto ≤ R.BITS }
+    requires within { place + (upto - from) ≤ length (sweep_words sweep.old) * R.BITS }
+    requires ends { place + (upto - from) < 2 ^ 64 }
+    ensures stored { IsStored (read_by R.BitRegister O.position) own result from upto
+        (λ i. entry (read_by R.BitRegister O.position) (sweep_words sweep.old) (place + (i - from))) }
+    ensures reads { reads_of sweep.new ≡ min (reads_of sweep.old + (upto - from)) (2 ^ 64 - 1) }
+    ensures same { SameButReads sweep.old sweep.new }
+    ensures lender { sweep_lender sweep.new ≡ sweep_lender sweep.old }
+{
+    // As many as a `u64` counts.
+    let _read = sweep.reads();
+    let mut made = own;
+    for i in from..upto {
+        let bit = bit_at_place::<R, O>(sweep, place + (i - from));
+        made = write_bit::<R, O>(made, BitIdx::new_unchecked(i as u8), bit);
+    }
+    made
+}
+
+// The bit of the words at a place.
+fn bit_at_place<R: BitRegister, O: BitOrder<R>>(sweep: &mut Sweep<'_, R>, place: usize) -> bool
+    requires { place < length (sweep_words sweep.old) * R.BITS }
+    ensures value { result ≡ entry (read_by R.BitRegister O.position) (sweep_words sweep.old) place }
+    ensures reads { reads_of sweep.new ≡ min (reads_of sweep.old + 1) (2 ^ 64 - 1) }
+    ensures same { SameButReads sweep.old sweep.new }
+    ensures lender { sweep_lender sweep.new ≡ sweep_lender sweep.old }
+{
+    let _read = sweep.reads();
+    let bits = bits_of::<R>();
+    let index = BitIdx::new_unchecked((place % bits) as u8);
+    read_bit::<R, O>(sweep.read(place / bits), index)
 }

@@ -134,7 +134,8 @@ impl<'a, R: Copy> Sweep<'a, R> {
         self.way
     }
 
-    /// How many words were read: the greatest `u64` where there were more.
+    /// How many words were read, one that is read for several bits at once counted once for each: the greatest `u64` where
+    /// there were more.
     pub fn reads(&self) -> u64
         ensures { result ≡ reads_of self.now }
     {

@@ -87,6 +87,16 @@ pub trait OrderCandidate<R: BitRegister>: Positions<R> {
 /// position alone, and `mask` exactly the digits of its indices. In bitvec the trait is unsafe, its
 /// laws are comments, and `select` and `mask` have bodies of their own.
 pub trait BitOrder<R: BitRegister>: OrderCandidate<R> {
+    /// Whether a word is turned to the list of its digits by few instructions, so that many bits are worked on at once.
+    ///
+    /// It is for speed alone: no answer depends on it. It is false unless an order says otherwise, as one may whose
+    /// neighbours mostly stay neighbours; whether a compiler joins them is seen by counting. An order whose positions go
+    /// straight with the indices need not say it.
+    #[inline(always)]
+    fn turns_quickly() -> bool {
+        false
+    }
+
     ghost lawful: { IsLawful R.BITS Self.position Self.selector Self.masked };
 }
 

@@ -6,7 +6,7 @@ ghost use Rattle.bit_containers.specs.Retained.{Keeps, LeavesFirst};
 ghost use Rattle.bit_containers_vector.specs.Vector.{vec_bits};
 
 use crate::chunks::{CHUNK, chunk_has, chunk_of, put_chunk, with_bit};
-use bit_addressing_memory::{BitOrder, BitRegister};
+use bit_addressing_memory::{BitOrder, BitRegister, Walk, most_singly};
 use bit_containers_vector::BitVec;
 use bit_slice_views::{BitStore, Bits};
 use bit_slice_views_mut::BitsMut;
@@ -33,9 +33,6 @@ impl<T: BitStore, O: BitOrder<T>> Retain for BitVec<T, O> {
     }
 }
 
-// Up to how many bits are asked of one by one.
-const FEW: usize = 16;
-
 // Moves the bits at which the predicate answers true to the front, and answers how many they are.
 fn gather<V: BitsMut, F: FnMut(usize, &bool) -> bool>(bits: &mut V, keep: F) -> usize
     requires { F.IsAlwaysCallable keep }
@@ -45,7 +42,7 @@ fn gather<V: BitsMut, F: FnMut(usize, &bool) -> bool>(bits: &mut V, keep: F) -> 
     ensures len { length (V.bits bits.new) ≡ length (V.bits bits.old) }
     ensures frame { V.frame bits.new ≡ V.frame bits.old }
 {
-    if bits.len() <= FEW {
+    if bits.len() <= most_singly::<V::Store, V::Order>(Walk::Retain) {
         gather_singly(bits, keep)
     } else {
         gather_by_chunks(bits, keep)

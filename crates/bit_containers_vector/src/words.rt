@@ -36,7 +36,7 @@ pub(crate) fn extend_words<T: BitStore>(
     let kept = words_taken::<T>(end);
     let wanted = words_taken::<T>(upto);
 
-    // Most bits that are pushed come into a word that is there.
+    // No word more is wanted, and none is to be cut off.
     if kept == wanted && kept == words.len() {
         return Ok(());
     }

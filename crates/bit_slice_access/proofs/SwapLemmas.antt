@@ -1,7 +1,7 @@
 -- Two lists exchanged, part by part from the first on, or element by element.
 --
--- Those before the next part, and those from it on: `changed_below`, `changed_above`; of one element: `one_below`,
--- `one_above`. All of them: `changed_all`.
+-- Those before the next part, and those from it on: `part_below`, `part_above`; of one element: `changed_below`,
+-- `changed_above`. All of them: `changed_all`.
 use Rattle.std.proofs.Common.{◌≡◌, ◌≢◌, ℕ, ◌+◌, ◌-◌, ◌<◌, ◌≤◌, Bool, false, List, length, get_or, set, ◌∙◌, ap, arith, inl, inr}
 use Rattle.std.proofs.Common.{get_or-set_same, get_or-set_other}
 use Rattle.std.proofs.lemmas.Bool.{cases_eq, cases_lt}
@@ -11,11 +11,11 @@ use Rattle.bit_addressing_memory.proofs.MemoryLemmas.{get_or-piece, length-piece
 use Rattle.bit_addressing_memory.proofs.MemoryLemmas.{with_piece_inside}
 
 -- the elements below i of xs are those of ys, and now the n from i on too, of a list that still has them
-pub changed_below : (xs ys zs : List Bool) (i n : ℕ) → i + n ≤ length xs → i + n ≤ length zs
+pub part_below : (xs ys zs : List Bool) (i n : ℕ) → i + n ≤ length xs → i + n ≤ length zs
     → ((k : ℕ) → i ≤ k → get_or zs k false ≡ get_or ys k false)
     → ((k : ℕ) → k < i → get_or xs k false ≡ get_or ys k false)
     → (k : ℕ) → k < i + n → get_or (with_piece xs i (piece zs i n)) k false ≡ get_or ys k false
-changed_below xs ys zs i n room fits still so_far k below =
+part_below xs ys zs i n room fits still so_far k below =
     let part = piece zs i n in
     let size : length part ≡ n = length-piece zs i n fits in
     elim (cases_lt k i) [
@@ -30,28 +30,28 @@ changed_below xs ys zs i n room fits still so_far k below =
     ]
 
 -- the elements from i on of xs are those of ys, and those past the n from i on still are
-pub changed_above : (xs ys zs : List Bool) (i n : ℕ) → i + n ≤ length xs → i + n ≤ length zs
+pub part_above : (xs ys zs : List Bool) (i n : ℕ) → i + n ≤ length xs → i + n ≤ length zs
     → ((k : ℕ) → i ≤ k → get_or xs k false ≡ get_or ys k false)
     → (k : ℕ) → i + n ≤ k → get_or (with_piece xs i (piece zs i n)) k false ≡ get_or ys k false
-changed_above xs ys zs i n room fits so_far k above =
+part_above xs ys zs i n room fits so_far k above =
     let part = piece zs i n in
     let size : length part ≡ n = length-piece zs i n fits in
     with_piece_above xs i part k false (omega arith) (omega arith) ∙ so_far k (omega arith)
 
 -- the elements below i of xs are those of ys, and now the one at i too
-pub one_below : (xs ys : List Bool) (i : ℕ) (bit : Bool) → i < length xs → bit ≡ get_or ys i false
+pub changed_below : (xs ys : List Bool) (i : ℕ) (bit : Bool) → i < length xs → bit ≡ get_or ys i false
     → ((k : ℕ) → k < i → get_or xs k false ≡ get_or ys k false)
     → (k : ℕ) → k < i + 1 → get_or (set xs i bit) k false ≡ get_or ys k false
-one_below xs ys i bit low is so_far k below = elim (cases_eq k i) [
+changed_below xs ys i bit low is so_far k below = elim (cases_eq k i) [
   | inl same ↦ rw same (get_or-set_same xs i bit false low ∙ is)
   | inr other ↦ get_or-set_other xs i k bit false other ∙ so_far k (omega arith)
 ]
 
 -- the elements from i on of xs are those of zs, and those past i still are
-pub one_above : (xs zs : List Bool) (i : ℕ) (bit : Bool)
+pub changed_above : (xs zs : List Bool) (i : ℕ) (bit : Bool)
     → ((k : ℕ) → i ≤ k → get_or xs k false ≡ get_or zs k false)
     → (k : ℕ) → i + 1 ≤ k → get_or (set xs i bit) k false ≡ get_or zs k false
-one_above xs zs i bit so_far k above =
+changed_above xs zs i bit so_far k above =
     let other : k ≢ i = omega arith in
     get_or-set_other xs i k bit false other ∙ so_far k (omega arith)
 

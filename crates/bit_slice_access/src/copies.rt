@@ -5,7 +5,7 @@ ghost use Rattle.bit_addressing_memory.specs.Memory.{memory, piece, read_by, wit
 
 use crate::edits::BitsEdits;
 use crate::parts::BitsParts;
-use bit_addressing_memory::{BitOrder, BitRegister, Lsb0, direction_of, lies_in_runs};
+use bit_addressing_memory::{BitOrder, BitRegister, Lsb0, Walk, most_singly_of_two};
 use bit_slice_views::{BitRange, BitSlice, Bits};
 use bit_slice_views_mut::BitsMut;
 use bit_slice_words::copy_in;
@@ -57,10 +57,10 @@ pub trait BitsCopy: BitsMut {
         ensures other_len { length (W.bits other.new) ≡ length (W.bits other.old) }
         ensures other_frame { W.frame other.new ≡ W.frame other.old }
     {
-        if self.len() <= FEW
-            || goes_singly::<Self::Store, Self::Order>()
-            || goes_singly::<W::Store, W::Order>()
-        {
+        let few = most_singly_of_two::<Self::Store, Self::Order, W::Store, W::Order>(
+            Walk::Exchange,
+        );
+        if self.len() <= few {
             swap_singly(self, other);
         } else {
             swap_by_chunks(self, other);
@@ -84,16 +84,6 @@ pub trait BitsCopy: BitsMut {
 }
 
 impl<V: BitsMut> BitsCopy for V {}
-
-// Up to how many bits are exchanged one by one: parts of many cost more.
-const FEW: usize = 28;
-
-// Whether a part of many bits costs no less than these bits one by one: of a wide word in an order that goes neither way,
-// nor in runs.
-#[inline(always)]
-pub(crate) fn goes_singly<R: BitRegister, O: BitOrder<R>>() -> bool {
-    R::BITS >= 64 && direction_of::<R, O>().is_none() && !lies_in_runs::<R, O>()
-}
 
 // How many words hold bits of a window while others are written over them, and how many bits they have.
 const HELD: usize = 16;

@@ -4,9 +4,11 @@ ghost use Rattle.std.specs.Prelude.{◌≡◌, ◌<◌, ◌≤◌, length, slice
 ghost use Rattle.std.specs.Mem.{FitsInMemory};
 ghost use Rattle.bit_slice_access.specs.Fills.{Filled};
 
-use crate::copies::{goes_singly, hold};
+use crate::copies::hold;
 use crate::edits::BitsEdits;
-use bit_addressing_memory::{BitIdx, BitOrder, BitRegister, Lsb0, read_bit, write_bit};
+use bit_addressing_memory::{
+    BitIdx, BitOrder, BitRegister, Lsb0, Walk, most_singly, read_bit, write_bit,
+};
 use bit_slice_views::{BitSlice, Bits};
 use bit_slice_views_mut::BitsMut;
 
@@ -21,7 +23,7 @@ pub trait BitsFill: BitsMut {
         ensures len { length (Self.bits self.new) ≡ length (Self.bits self.old) }
         ensures frame { Self.frame self.new ≡ Self.frame self.old }
     {
-        if self.len() <= FEW_TO_FILL || goes_singly::<Self::Store, Self::Order>() {
+        if self.len() <= most_singly::<Self::Store, Self::Order>(Walk::Fill) {
             fill_singly(self, f);
         } else {
             fill_held::<Self, F, u64, Lsb0>(self, f);
@@ -37,22 +39,15 @@ pub trait BitsFill: BitsMut {
         ensures len { length (Self.bits self.new) ≡ length (Self.bits self.old) }
         ensures frame { Self.frame self.new ≡ Self.frame self.old }
     {
-        if self.len() <= FEW_FOR_EACH || goes_singly::<Self::Store, Self::Order>() {
+        if self.len() <= most_singly::<Self::Store, Self::Order>(Walk::Each) {
             each_singly(self, f);
         } else {
-            let mut was = [0u64; 1];
-            each_held::<Self, F, u64, Lsb0>(self, f, &mut was);
+            each_by_chunks(self, f);
         }
     }
 }
 
 impl<V: BitsMut> BitsFill for V {}
-
-// Up to how many bits the closure's answers are put one by one, and up to how many bits it is shown so: to gather them in
-// words costs more.
-const FEW_TO_FILL: usize = 32;
-
-const FEW_FOR_EACH: usize = 64;
 
 // `fill_with`, bit by bit.
 #[inline(always)]
@@ -88,7 +83,9 @@ fn each_singly<V: BitsMut, F: FnMut(usize, bool) -> bool>(view: &mut V, mut f: F
     }
 }
 
-// `fill_with`, by parts of 64 bits: the answers are gathered in a word.
+// `fill_with`, by parts of 64 bits: the answers are gathered in a word. Out of line, so that a few are put by a short
+// function.
+#[inline(never)]
 fn fill_held<V: BitsMut, F: FnMut(usize) -> bool, R: BitRegister, O: BitOrder<R>>(
     view: &mut V,
     mut f: F,
@@ -114,7 +111,20 @@ fn fill_held<V: BitsMut, F: FnMut(usize) -> bool, R: BitRegister, O: BitOrder<R>
     }
 }
 
-// `for_each`, by parts of 64 bits: the first word of the memory `was` has them as they were, and the answers are gathered
+// `for_each`, by parts of 64 bits. Out of line, as `fill_held`.
+#[inline(never)]
+fn each_by_chunks<V: BitsMut, F: FnMut(usize, bool) -> bool>(view: &mut V, f: F)
+    requires callable { F.IsAlwaysCallable f }
+    ensures bits { (last : F)
+        × Filled (λ p i bit q. F.step p i (slice_index_or (V.bits view.old) i false) bit q) f (V.bits view.new) last }
+    ensures len { length (V.bits view.new) ≡ length (V.bits view.old) }
+    ensures frame { V.frame view.new ≡ V.frame view.old }
+{
+    let mut was = [0u64; 1];
+    each_held::<V, F, u64, Lsb0>(view, f, &mut was);
+}
+
+// The same: the first word of the memory `was` has them as they were, and the answers are gathered
 // in a word.
 fn each_held<V: BitsMut, F: FnMut(usize, bool) -> bool, R: BitRegister, O: BitOrder<R>>(
     view: &mut V,

@@ -9,9 +9,9 @@ use Rattle.std.specs.Int.{bit_at}
 use Rattle.bit_addressing_memory.specs.Bits.{digit_at}
 use Rattle.bit_addressing_memory.specs.Memory.{Reading, entry, reading_in, Overwrites}
 use Rattle.bit_addressing_memory.proofs.EntryLemmas.{entry_read}
-use Rattle.bit_addressing_memory.proofs.LimbLemmas.{or_left, or_right}
-use Rattle.bit_addressing_memory.proofs.OverwriteLemmas.{overwrites_join}
-use Rattle.bit_addressing_memory.proofs.PlaceLemmas.{begins_before}
+pub use Rattle.bit_addressing_memory.proofs.LimbLemmas.{no_digit, or_left, or_right}
+pub use Rattle.bit_addressing_memory.proofs.OverwriteLemmas.{overwrites_join}
+pub use Rattle.bit_addressing_memory.proofs.PlaceLemmas.{begins_before, begins_behind, ends_behind, first_word}
 use Rattle.bit_addressing_memory.specs.declared.direction.Direction.{Direction}
 use Rattle.bit_addressing_memory.specs.Straight.{straight, Goes}
 use Rattle.bit_slice_chunks.specs.Chunk.{chunk_bit, IsChunk, ReadTo, IsLowered, IsRaised, IsCut, IsPart}

@@ -1,10 +1,13 @@
 -- Chunks in another direction, and where two differ.
-use Rattle.std.proofs.Common.{◌≡◌, ℕ, ◌+◌, ◌-◌, ◌^◌, ◌==◌, ◌<◌, ◌≤◌, ◌≢◌}
-use Rattle.std.proofs.Common.{Bool, true, false, List, bit_xor, refl, sym, ap, ◌∙◌, arith}
+use Rattle.std.proofs.Common.{◌≡◌, ℕ, ◌+◌, ◌-◌, ◌*◌, ◌/◌, ◌^◌, ◌==◌, ◌<◌, ◌≤◌, ◌≢◌}
+use Rattle.std.proofs.Common.{suc, Bool, true, false, List, bit_xor, refl, sym, ap, ◌∙◌, inl, inr, arith}
 use denote.Enum.Bare.{sameb}
 use mathlib.Core.Bool.{xor}
-use Rattle.std.specs.Int.{trailing_zeros, w64}
-use Rattle.std.proofs.lemmas.Nat.Bits.{bit_at-zero, bit_at-trailing_zeros}
+use Rattle.std.specs.Int.{bit_at, leading_zeros, trailing_zeros, w64}
+use Rattle.std.proofs.Math.Nat.{div-lt_iff_lt-mul, le-div_iff_mul-le, two-pow-succ}
+use Rattle.std.proofs.lemmas.Bool.{cases_lt}
+use Rattle.std.proofs.lemmas.Nat.{leading_top, pow_pos}
+use Rattle.std.proofs.lemmas.Nat.Bits.{bit_at-lt, bit_at-zero, bit_at-trailing_zeros, bit_at_above, bit_at_xor, same_from_bits}
 use Rattle.bit_addressing_memory.specs.Bits.{digit_at}
 use Rattle.bit_addressing_memory.specs.Memory.{Reading}
 use Rattle.bit_addressing_memory.specs.declared.direction.Direction.{Direction}
@@ -105,4 +108,53 @@ agree_until direction x y d at faced some fits is =
           (sym (faced_xor direction x y d at faced low)
           ∙ ap (digit_at d) is
           ∙ ap (λ b. b == 1) first.1);
+    }
+
+-- two numbers that are not the same have a digit in which they differ
+xor_some : (x y : ℕ) → x ≢ y → 0 < bit_xor x y
+xor_some x y apart = elim (cases_lt 0 (bit_xor x y)) [
+  | inl some ↦ some
+  | inr none ↦
+      let zero_is : bit_xor x y ≡ 0 = omega arith in
+      absurd (apart (same_from_bits x y (λ i. omega (
+        arith,
+        bit_at_xor x y i,
+        bit_at-lt x i,
+        bit_at-lt y i,
+        ap (λ n. bit_at n i) zero_is,
+        bit_at-zero i,
+      ))))
+]
+
+-- the highest digit of a number that is 1
+pub top_digit : (n k : ℕ) → 2 ^ k ≤ n → n < 2 * 2 ^ k → bit_at n k ≡ 1
+top_digit n k least most =
+    let some = pow_pos k in
+    let below : n / 2 ^ k < 2 = (div-lt_iff_lt-mul some).1 most in
+    let above : 1 ≤ n / 2 ^ k = (le-div_iff_mul-le some).1 (omega arith) in
+    omega arith
+
+pub agree_up : (x y at : ℕ) → x ≢ y → bit_xor x y < 2 ^ 64 → at ≡ trailing_zeros w64 (bit_xor x y)
+    → AgreeTo Ascending x y at
+agree_up x y at apart fits is =
+    agree_until Ascending x y (bit_xor x y) at (λ i small. refl) (xor_some x y apart) fits is
+
+pub agree_down : (x y at : ℕ) → x ≢ y → bit_xor x y < 2 ^ 64 → at ≡ leading_zeros w64 (bit_xor x y)
+    → AgreeTo Descending x y at
+agree_down x y at apart fits is =
+    let d : ℕ = bit_xor x y in
+    let top = leading_top 64 d (xor_some x y apart) fits in
+    let j : ℕ = top.0 in
+    let sum : at + suc j ≡ 64 = ap (λ n. n + suc j) is ∙ top.1 in
+    let high : d < 2 * 2 ^ j = omega (arith, top.3, two-pow-succ j) in
+    let here : 64 - 1 - at ≡ j = omega (arith, sum) in
+    record {
+      most = omega (arith, sum);
+      same = λ i before. same_xor (chunk_bit Descending x i) (chunk_bit Descending y i)
+          (sym (xor_digit x y (64 - 1 - i))
+          ∙ ap (λ b. b == 1) (bit_at_above d (suc j) (64 - 1 - i) top.3 (omega (arith, sum))));
+      differ = λ _. other_xor (chunk_bit Descending x at) (chunk_bit Descending y at)
+          (sym (xor_digit x y (64 - 1 - at))
+          ∙ ap (digit_at d) here
+          ∙ ap (λ b. b == 1) (top_digit d j top.2 high));
     }

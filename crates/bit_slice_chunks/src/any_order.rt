@@ -149,6 +149,10 @@ pub fn combine_bits<R: BitRegister, O: BitOrder<R>>(
         (λ k. combined_bit how (entry (read_by R.BitRegister O.position) words.old (place + k))
         (chunk_bit direction other k)) }
 {
+    if let Combination::Take = how {
+        write_bits::<R, O>(direction, words, place, count, other);
+        return;
+    }
     let chunk = read_bits::<R, O>(direction, words, place, count);
     write_bits::<R, O>(direction, words, place, count, combined(how, chunk, other));
 }

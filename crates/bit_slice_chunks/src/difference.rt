@@ -4,7 +4,6 @@ ghost use Rattle.std.specs.Prelude.{◌≡◌, ℕ};
 ghost use Rattle.bit_addressing_memory.specs.declared.direction.Direction.{Direction};
 ghost use Rattle.bit_slice_chunks.specs.Chunk.{AgreeTo};
 
-use crate::chunk::faced;
 use bit_addressing_memory::Direction;
 
 /// The first bit in which two chunks differ: 64 where they have the same bits.
@@ -15,9 +14,9 @@ pub fn first_difference(direction: Direction, chunk: u64, other: u64) -> usize
     if chunk == other {
         return 64;
     }
-    let differ = faced(direction, Direction::Ascending, chunk ^ other);
-    if differ == 0 {
-        return 64;
+    let differ = chunk ^ other;
+    match direction {
+        Direction::Ascending => differ.trailing_zeros() as usize,
+        Direction::Descending => differ.leading_zeros() as usize,
     }
-    differ.trailing_zeros() as usize
 }

@@ -36,6 +36,25 @@ pub fn read_bits<R: BitRegister, O: BitOrder<R>>(
     first_bits(direction, chunk, count as u8)
 }
 
+/// The `count` bits of one word of a memory from an index on, 1 to 64, as a chunk, as `read_bits` has them.
+#[inline(always)]
+pub fn read_part<R: BitRegister, O: BitOrder<R>>(
+    direction: Direction,
+    words: &[R],
+    word: usize,
+    from: u8,
+    count: u8,
+) -> u64
+    requires goes { Goes R.BITS O.position direction }
+    requires some { 0 < count }
+    requires few { count ≤ 64 }
+    requires inside { word < length words.now }
+    requires within { from + count ≤ R.BITS }
+    ensures { IsChunk (read_by R.BitRegister O.position) words.now (word * R.BITS + from) count direction result }
+{
+    first_bits(direction, part::<R>(direction, words[word], from), count)
+}
+
 /// Makes the `count` bits of a memory from a place on, 1 to 64, those of a chunk: entry `place + k` is bit k of
 /// it. Every other bit of the memory stays. The positions go in `direction`.
 pub fn write_bits<R: BitRegister, O: BitOrder<R>>(

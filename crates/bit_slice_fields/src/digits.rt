@@ -2,7 +2,7 @@
 //! where all its bits weigh in turn, and is read and written as a chunk.
 
 ghost use Rattle.std.specs.Prelude.{◌≡◌, ℕ, ◌+◌, ◌-◌, ◌*◌, ◌%◌, ◌^◌, ◌<◌, ◌≤◌, length, bit_or};
-ghost use Rattle.bit_addressing_memory.specs.Bits.{bits_in_order};
+ghost use Rattle.bit_addressing_memory.specs.Bits.{bits_in_order, digit_at};
 ghost use Rattle.bit_addressing_memory.specs.Memory.{memory, piece, read_by};
 ghost use Rattle.bit_slice_fields.specs.Digits.{cut_weight, HasDigits};
 ghost use Rattle.bit_slice_fields.specs.Number.{field_bits, CountsFrom};
@@ -12,7 +12,9 @@ ghost use Rattle.bit_slice_views.specs.View.{view_bits};
 ghost use Rattle.bit_slice_views_mut.specs.Frame.{KeepsBeside};
 
 use crate::integral::Integral;
-use bit_addressing_memory::{BitOrder, BitRegister, Direction, mem};
+use bit_addressing_memory::{
+    BitOrder, BitRegister, Direction, Walk, mem, most_singly, write_entry,
+};
 use bit_slice_chunks::{read_bits, write_bits};
 use bit_slice_views::{BitSlice, Bits};
 
@@ -175,9 +177,67 @@ pub(crate) fn gathered<T: BitRegister, O: BitOrder<T>>(view: BitSlice<'_, T, O>,
     digits
 }
 
-// Makes the `len` bits from a place on the digits of a number.
+// Makes the `len` bits from a place on the digits of a number: a few one by one.
 #[inline(always)]
 pub(crate) fn scatter<T: BitRegister, O: BitOrder<T>>(
+    words: &mut [T],
+    place: usize,
+    len: usize,
+    digits: u128,
+    cut: Cut,
+)
+    requires counts { CountsFrom cut.low T.BITS O.position }
+    requires within { place + len ≤ length words.old * T.BITS }
+    requires ends { place + len < 2 ^ 63 }
+    requires head { cut.head < T.BITS }
+    requires short { len ≤ 128 }
+    ensures list { piece (memory (read_by T.BitRegister O.position) words.new) place len
+        ≡ bits_in_order (cut_weight cut T.BITS len) len digits }
+    ensures beside { KeepsBeside (read_by T.BitRegister O.position) words.old words.new place len }
+{
+    if len <= most_singly::<T, O>(Walk::Number) {
+        scatter_singly::<T, O>(words, place, len, digits, cut);
+    } else {
+        scatter_by_pieces::<T, O>(words, place, len, digits, cut);
+    }
+}
+
+// A digit of a number.
+fn digit_of(digits: u128, weight: usize) -> bool
+    requires { weight < 128 }
+    ensures { result ≡ digit_at digits weight }
+{
+    (digits >> weight) % 2 == 1
+}
+
+// The same bit by bit.
+#[inline(always)]
+#[tactic(auto, using(bit_slice_words::proofs::ChangedStretchLemmas::stretch_steps))]
+fn scatter_singly<T: BitRegister, O: BitOrder<T>>(
+    words: &mut [T],
+    place: usize,
+    len: usize,
+    digits: u128,
+    cut: Cut,
+)
+    requires within { place + len ≤ length words.old * T.BITS }
+    requires ends { place + len < 2 ^ 63 }
+    requires head { cut.head < T.BITS }
+    requires short { len ≤ 128 }
+    ensures list { piece (memory (read_by T.BitRegister O.position) words.new) place len
+        ≡ bits_in_order (cut_weight cut T.BITS len) len digits }
+    ensures beside { KeepsBeside (read_by T.BitRegister O.position) words.old words.new place len }
+{
+    let bits = mem::bits_of::<T>();
+    for i in 0..len {
+        let bit = digit_of(digits, weight_of(cut, bits, len, i));
+        write_entry::<T, O>(words, place + i, bit);
+    }
+}
+
+// The same piece by piece.
+#[inline(always)]
+fn scatter_by_pieces<T: BitRegister, O: BitOrder<T>>(
     words: &mut [T],
     place: usize,
     len: usize,

@@ -1,12 +1,8 @@
 -- Indices that are held as the digits of a number: `held_none`, `held_first`, `held_last`, `length-held`.
 --
--- Those of a list from one bit on: `indices_from-start`, `indices_from-end`, `indices_from-none`, `length-indices_from`;
--- the last of them:
--- `last_from`, `last_below`, `last_missing`; how they come to be held: `takes_near`, `takes_behind`, `takes_none`,
--- `takes_end`, `takes_found`, `takes_alone`; the digits: `whole_digits`, `last_digits`, `no_digits`, `faced_digits`,
--- `faced_none`, `flipped_digit`.
+-- How they come to be held: `held_ahead`; the digits: `whole_digits`, `last_digits`, `faced_digits`, `flipped_digit`.
 --
--- Both together: `held_more`, `held_no_more`, `held_last_of_all`, `held_nothing`.
+-- What an iterator has left: `held_more`, `held_last_of_all`, `held_nothing`.
 use Rattle.std.proofs.Common.{◌≡◌, ◌≢◌, ℕ, zero, suc, ◌+◌, ◌-◌, ◌*◌, ◌/◌, ◌%◌, ◌^◌, ◌<◌, ◌≤◌, ◌==◌, Bool, true, false}
 use Rattle.std.proofs.Common.{cond, not, List, [], ◌∷◌, ◌++◌, Some, None, length}
 use Rattle.std.proofs.Common.{get_or, position, count_by, min, bit_and}
@@ -31,10 +27,10 @@ use Rattle.bit_addressing_memory.proofs.MemoryLemmas.{piece_piece}
 use Rattle.bit_addressing_memory.proofs.WindowLemmas.{window_bit}
 use Rattle.bit_addressing_span.specs.declared.span.TheConstants.{MAX_BITS}
 use Rattle.bit_slice_chunks.specs.Chunk.{chunk_bit, IsChunk, IsCut, IsFaced}
+use Rattle.bit_slice_chunks.proofs.TurnLemmas.{top_digit}
 use Rattle.bit_slice_words.specs.Found.{is_bit, last_position}
 use Rattle.bit_slice_words.proofs.FoundLemmas.{last_position_found, last_position-Some, last_position-None}
-use Rattle.bit_slice_iterators.specs.Indices.{indices, indices_from, low_digits, held, AreDigits}
-use Rattle.bit_slice_iterators.specs.Indices.{IsLastFrom, TakesAhead}
+use Rattle.bit_slice_iterators.specs.Indices.{indices, low_digits, held, AreDigits}
 use Rattle.bit_slice_iterators.proofs.BitLemmas.{piece_one}
 use Rattle.bit_slice_iterators.proofs.IndexLemmas.{cases_bool, indices-append, indices-no, indices-none}
 use Rattle.bit_slice_iterators.proofs.IndexLemmas.{indices-last, length-indices}
@@ -244,14 +240,6 @@ held_first base n some fits =
     (cleared_digits (trailing_zeros w64 n) n (bit_and n (n - 1)) is)
     (λ k before. get_or-low_digits 64 n k (omega (arith, first.0)) ∙ ap (λ d. d == 1) (first.2 k before))
 
--- the highest digit that is 1
-top_digit : (n k : ℕ) → 2 ^ k ≤ n → n < 2 * 2 ^ k → bit_at n k ≡ 1
-top_digit n k least most =
-    let some = pow_pos k in
-    let below : n / 2 ^ k < 2 = (div-lt_iff_lt-mul some).1 most in
-    let above : 1 ≤ n / 2 ^ k = (le-div_iff_mul-le some).1 (omega arith) in
-    omega arith
-
 -- the last of them
 pub held_last : (base n k : ℕ) → 2 ^ k ≤ n → n < 2 * 2 ^ k → k < 64
     → held base n ≡ held base (bit_and n (bit_not w64 (1 * 2 ^ k % 2 ^ 64))) ++ (base + k) ∷ []
@@ -316,14 +304,6 @@ last_digits reading words head len from count n m r direction test bits some is_
       past = λ k small high. cut.past k (omega arith) small;
     }
 
--- no bits
-pub no_digits : (direction : Direction) (test : Bool → Bool) (bits : List Bool) (from : ℕ) → length bits ≤ from
-    → AreDigits direction test bits from 0
-no_digits direction test bits from none = record {
-  inside = λ k small low. absurd (omega arith);
-  past = λ k small high. ap (λ d. d == 1) (bit_at-zero (straight 64 direction k));
-}
-
 -- the same digits in another direction
 pub faced_digits : (direction : Direction) (test : Bool → Bool) (bits : List Bool) (from n r : ℕ)
     → AreDigits direction test bits from n → IsFaced direction Ascending n r → AreDigits Ascending test bits from r
@@ -331,14 +311,6 @@ faced_digits direction test bits from n r is same = record {
   inside = λ k small low. same k small ∙ is.inside k small low;
   past = λ k small high. same k small ∙ is.past k small high;
 }
-
--- none is 1 in either direction
-pub faced_none : (direction : Direction) (test : Bool → Bool) (bits : List Bool) (from n : ℕ)
-    → AreDigits direction test bits from n → n ≡ 0 → AreDigits Ascending test bits from 0
-faced_none direction test bits from n is none =
-    faced_digits direction test bits from n 0 is (λ k small.
-    ap (λ d. d == 1) (bit_at-zero k)
-    ∙ sym (ap (λ m. chunk_bit direction m k) none ∙ ap (λ d. d == 1) (bit_at-zero (straight 64 direction k))))
 
 -- the digits of a number that has them flipped
 pub flipped_digit : (n k : ℕ) → n < 2 ^ 64 → k < 64 → digit_at (bit_not w64 n) k ≡ not (digit_at n k)
@@ -350,279 +322,46 @@ flipped_digit n k fits low =
     flipped (suc zero) small = refl
     flipped (suc (suc d)) small = absurd (omega arith)
 
--- those of a piece that the digits show
-held_piece : (test : Bool → Bool) (bits : List Bool) (from n count : ℕ) → count ≡ min 64 (length bits - from)
-    → from ≤ length bits → AreDigits Ascending test bits from n
-    → indices test from (piece bits from count) ≡ held from n
-held_piece test bits from n count is_count within is =
-    let size : length (piece bits from count) ≡ count = length-piece bits from count (omega arith) in
+-- the indices that the digits of the first bits hold, and those of the bits behind
+pub held_ahead : (test : Bool → Bool) (bits : List Bool) (from n count : ℕ) → count ≡ min (length bits) 64
+    → AreDigits Ascending test bits 0 n
+    → indices test from bits
+    ≡ held from n ++ indices test (from + count) (piece bits count (length bits - count))
+held_ahead test bits from n count is_count is =
+    let front : List Bool = piece bits 0 count in
+    let rest : List Bool = piece bits count (length bits - count) in
+    let size : length front ≡ count = length-piece bits 0 count (omega arith) in
     let wide : length (low_digits 64 n) ≡ 64 = length-low_digits 64 n in
-    indices-same test (is_bit true) from (piece bits from count) (low_digits 64 n) (omega arith)
+    let whole : bits ≡ front ++ rest =
+    sym (piece_join bits 0 count count (length bits - count) (length bits) (omega arith) (omega arith)
+    ∙ piece_all bits (length bits) refl) in
+    let shown : indices test from front ≡ held from n =
+    indices-same test (is_bit true) from front (low_digits 64 n) (omega arith)
     (λ k low.
     let small : k < count = omega arith in
-    ap test (get_or-piece bits from count k false small)
+    ap test (get_or-piece bits 0 count k false small)
     ∙ sym (is.inside k (omega arith) (omega arith))
     ∙ sym (get_or-low_digits 64 n k (omega arith)))
-    (λ k high low. get_or-low_digits 64 n k (omega arith) ∙ is.past k (omega arith) (omega arith))
-
--- the indices from one on, in two parts
-indices_from-split : (test : Bool → Bool) (bits : List Bool) (from count next : ℕ) → next ≡ from + count
-    → next ≤ length bits
-    → indices_from test bits from ≡ indices test from (piece bits from count) ++ indices_from test bits next
-indices_from-split test bits from count next is_next within =
-    let size : length (piece bits from count) ≡ count = length-piece bits from count (omega arith) in
-    let tail : piece bits from (length bits - from) ≡ piece bits from count ++ piece bits next (length bits - next) =
-    sym (piece_join bits from count next (length bits - next) (length bits - from) is_next (omega arith)) in
-    let goes_on : from + length (piece bits from count) ≡ next = omega arith in
-    ap (indices test from) tail
-    ∙ indices-append test from (piece bits from count) (piece bits next (length bits - next))
-    ∙ ap (λ n. indices test from (piece bits from count) ++ indices test n (piece bits next (length bits - next)))
-    goes_on
-
--- none where none passes up to another
-pub indices_from-none : (test : Bool → Bool) (bits : List Bool) (from next : ℕ) → from ≤ next → next ≤ length bits
-    → ((k : ℕ) → from ≤ k → k < next → test (get_or bits k false) ≡ false)
-    → indices_from test bits from ≡ indices_from test bits next
-indices_from-none test bits from next order within none =
-    let step : ℕ = next - from in
-    let before : indices test from (piece bits from step) ≡ [] = indices-no test from (piece bits from step) (λ j small.
-    let wide : length (piece bits from step) ≡ step = length-piece bits from step (omega arith) in
-    let early : j < step = omega arith in
-    ap test (get_or-piece bits from step j false early) ∙ none (from + j) (omega arith) (omega arith)) in
-    indices_from-split test bits from step next (omega arith) within
-    ∙ ap (λ l. l ++ indices_from test bits next) before
-
--- none from the end on
-pub indices_from-end : (test : Bool → Bool) (bits : List Bool) (from : ℕ) → from ≡ length bits
-    → indices_from test bits from ≡ []
-indices_from-end test bits from is_end =
-    indices-no test from (piece bits from (length bits - from)) (λ k low.
-    absurd (omega (arith, length-piece bits from (length bits - from) (omega arith))))
-
--- all from the start on
-pub indices_from-start : (test : Bool → Bool) (bits : List Bool) → indices_from test bits 0 ≡ indices test 0 bits
-indices_from-start test bits = ap (indices test 0) (piece_all bits (length bits - 0) (omega arith))
-
--- as many as pass
-pub length-indices_from : (test : Bool → Bool) (bits : List Bool) (from : ℕ)
-    → length (indices_from test bits from) ≡ count_by test (piece bits from (length bits - from))
-length-indices_from test bits from = length-indices test from (piece bits from (length bits - from))
-
--- the digits of some bits, and the indices behind
-digits_taken : (test : Bool → Bool) (bits : List Bool) (from n : ℕ) → from ≤ length bits
-    → AreDigits Ascending test bits from n
-    → indices_from test bits from ≡ held from n ++ indices_from test bits (min (length bits) (from + 64))
-digits_taken test bits from n within is =
-    let count : ℕ = min 64 (length bits - from) in
-    let next : ℕ = min (length bits) (from + 64) in
-    indices_from-split test bits from count next (omega arith) (omega arith)
-    ∙ ap (λ l. l ++ indices_from test bits next) (held_piece test bits from n count refl within is)
-
--- the bits that are near have some
-pub takes_near : (test : Bool → Bool) (bits : List Bool) (from n : ℕ) → from ≤ length bits → length bits ≤ MAX_BITS
-    → AreDigits Ascending test bits from n → n ≢ 0 → TakesAhead test bits from from n
-takes_near test bits from n within short is some = record {
-  all = digits_taken test bits from n within is;
-  none = λ zero. absurd (some zero);
-  within = within;
-  short = short;
-}
-
--- they have none
-pub takes_behind : (test : Bool → Bool) (bits : List Bool) (from near next base n : ℕ) → from ≤ length bits
-    → AreDigits Ascending test bits from near → near ≡ 0 → next ≡ min (length bits) (from + 64)
-    → TakesAhead test bits next base n → TakesAhead test bits from base n
-takes_behind test bits from near next base n within is none is_next then =
-    let same : indices_from test bits from ≡ indices_from test bits next =
-    digits_taken test bits from near within is
-    ∙ ap (λ p. held from near ++ indices_from test bits p) (sym is_next)
-    ∙ ap (λ m. held from m ++ indices_from test bits next) none
-    ∙ ap (λ l. l ++ indices_from test bits next) (held_none from) in
-    record {
-      all = same ∙ then.all;
-      none = λ zero. same ∙ then.none zero;
-      within = then.within;
-      short = then.short;
-    }
-
--- nothing is found
-pub takes_none : (test : Bool → Bool) (bits : List Bool) (from base : ℕ) → from ≤ length bits
-    → length bits ≤ MAX_BITS → position test (piece bits from (length bits - from)) ≡ None → base ≡ length bits
-    → TakesAhead test bits from base 0
-takes_none test bits from base within short found is_base =
-    let none : indices_from test bits from ≡ [] = indices-none test from (piece bits from (length bits - from)) found in
-    let end : indices_from test bits (min (length bits) (base + 64)) ≡ [] =
-    indices_from-end test bits (min (length bits) (base + 64)) (omega arith) in
-    record {
-      all = none ∙ sym (ap (λ l. l ++ indices_from test bits (min (length bits) (base + 64))) (held_none base) ∙ end);
-      none = λ _. none;
-      within = omega arith;
-      short = short;
-    }
-
--- all were looked at
-pub takes_end : (test : Bool → Bool) (bits : List Bool) (base : ℕ) → length bits ≤ MAX_BITS → base ≡ length bits
-    → TakesAhead test bits base base 0
-takes_end test bits base short is =
-    let none : indices_from test bits base ≡ [] = indices_from-end test bits base is in
-    let end : indices_from test bits (min (length bits) (base + 64)) ≡ [] =
-    indices_from-end test bits (min (length bits) (base + 64)) (omega arith) in
-    record {
-      all = none ∙ sym (ap (λ l. l ++ indices_from test bits (min (length bits) (base + 64))) (held_none base) ∙ end);
-      none = λ _. none;
-      within = omega arith;
-      short = short;
-    }
-
-some_digit : (n k : ℕ) → digit_at n k ≡ true → n ≢ 0
-some_digit zero k one same = let none : digit_at 0 k ≡ false = ap (λ d. d == 1) (bit_at-zero k) in cc
-some_digit (suc n) k one same = absurd (omega arith)
-
--- the first one is found: bits before it give none
-skipped : (test : Bool → Bool) (bits : List Bool) (from i at base : ℕ) → from ≤ length bits
-    → position test (piece bits from (length bits - from)) ≡ Some i → at ≡ from + i → from ≤ base → base ≤ at
-    → (at < length bits) × (test (get_or bits at false) ≡ true)
-    × (indices_from test bits from ≡ indices_from test bits base)
-skipped test bits from i at base within found is_at least most =
-    let rest = piece bits from (length bits - from) in
-    let size : length rest ≡ length bits - from = length-piece bits from (length bits - from) (omega arith) in
-    let first = position-Some test rest i false found in
-    let low : i < length rest = first.0 in
-    let inside : at < length bits = omega arith in
-    let here : test (get_or bits at false) ≡ true =
-    ap (λ q. test (get_or bits q false)) is_at
-    ∙ sym (ap test (get_or-piece bits from (length bits - from) i false (omega arith)))
-    ∙ first.1 in
-    let same : indices_from test bits from ≡ indices_from test bits base =
-    indices_from-none test bits from base least (omega arith) (λ k low small.
-    let j : ℕ = k - from in
-    let there : from + j ≡ k = omega arith in
-    ap (λ q. test (get_or bits q false)) (sym there)
-    ∙ sym (ap test (get_or-piece bits from (length bits - from) j false (omega arith)))
-    ∙ first.2 j (omega arith)) in
-    (inside, here, same)
-
--- it is one of the digits
-pub takes_found : (test : Bool → Bool) (bits : List Bool) (from i base n : ℕ) → from ≤ length bits
-    → length bits ≤ MAX_BITS → position test (piece bits from (length bits - from)) ≡ Some i → from ≤ base
-    → base ≤ from + i → from + i < base + 64 → AreDigits Ascending test bits base n → TakesAhead test bits from base n
-takes_found test bits from i base n within short found least most near is =
-    let at : ℕ = from + i in
-    let first = skipped test bits from i at base within found refl least most in
-    let low : at < length bits = first.0 in
-    let k : ℕ = at - base in
-    let there : base + k ≡ at = omega arith in
-    let here : digit_at n k ≡ true =
-    is.inside k (omega arith) (omega arith) ∙ ap (λ q. test (get_or bits q false)) there ∙ first.1 in
-    record {
-      all = first.2 ∙ digits_taken test bits base n (omega arith) is;
-      none = λ zero. absurd (some_digit n k here zero);
-      within = omega arith;
-      short = short;
-    }
-
--- the highest digit alone
-held_alone : (base : ℕ) → held base (2 ^ 63) ≡ (base + 63) ∷ []
-held_alone base =
-    let none : bit_and (2 ^ 63) (bit_not w64 (1 * 2 ^ 63 % 2 ^ 64)) ≡ 0 = refl in
-    held_last base (2 ^ 63) 63 (omega arith) (omega arith) (omega arith)
-    ∙ ap (λ m. held base m ++ (base + 63) ∷ []) none
-    ∙ ap (λ l. l ++ (base + 63) ∷ []) (held_none base)
-
--- it is taken alone
-pub takes_alone : (test : Bool → Bool) (bits : List Bool) (from i at base n : ℕ) → from ≤ length bits
-    → length bits ≤ MAX_BITS → position test (piece bits from (length bits - from)) ≡ Some i → at ≡ from + i
-    → base + 63 ≡ at → n ≡ 2 ^ 63 → TakesAhead test bits from base n
-takes_alone test bits from i at base n within short found is_at is_base is_n =
-    let first = skipped test bits from i at at within found is_at (omega arith) (omega arith) in
-    let low : at < length bits = first.0 in
-    let next : min (length bits) (base + 64) ≡ at + 1 = omega arith in
-    let one : indices test at (piece bits at 1) ≡ at ∷ [] =
-    ap (indices test at) (piece_one bits at low) ∙ rw first.1 refl in
-    let had : held base n ≡ at ∷ [] = ap (held base) is_n ∙ held_alone base ∙ ap (λ p. p ∷ []) is_base in
-    record {
-      all = first.2
-          ∙ indices_from-split test bits at 1 (at + 1) refl (omega arith)
-          ∙ ap (λ l. l ++ indices_from test bits (at + 1)) (one ∙ sym had)
-          ∙ ap (λ p. held base n ++ indices_from test bits p) (sym next);
-      none = λ zero. absurd (omega arith);
-      within = omega arith;
-      short = short;
-    }
-
--- ---- the last index that is not below one
-
-pub last_from : (test : Bool → Bool) (bits : List Bool) (from at : ℕ) → from ≤ at → last_position test bits ≡ Some at
-    → IsLastFrom test bits from at
-last_from test bits from at least found =
-    let last = last_position-Some test bits at false found in
-    let low : at < length bits = last.0 in
-    let i : ℕ = at - from in
-    let count : ℕ = length bits - from in
-    let rest = piece bits from count in
-    let size : length rest ≡ count = length-piece bits from count (omega arith) in
-    let there : from + i ≡ at = omega arith in
-    let in_rest : last_position test rest ≡ Some i = last_position_found test rest i false (omega arith)
-    (λ k high small.
-    ap test (get_or-piece bits from count k false (omega arith)) ∙ last.2 (from + k) (omega arith) (omega arith))
-    (ap test (get_or-piece bits from count i false (omega arith)) ∙ ap (λ q. test (get_or bits q false)) there ∙ last.1)
-    in
-    let front : length (piece bits 0 at) ≡ at = length-piece bits 0 at (omega arith) in
-    let left : length (piece bits 0 at) - from ≡ i = omega arith in
-    let begins : from + 0 ≡ 0 + from = omega arith in
-    let same : piece rest 0 i ≡ piece (piece bits 0 at) from (length (piece bits 0 at) - from) =
-    piece_piece bits from count 0 i (omega arith)
-    ∙ ap (λ p. piece bits p i) begins
-    ∙ sym (piece_piece bits 0 at from i (omega arith))
-    ∙ ap (piece (piece bits 0 at) from) (sym left) in
-    record {
-      least = least;
-      within = omega arith;
-      all = indices-last test from i at rest in_rest (sym there) ∙ ap (λ xs. indices test from xs ++ at ∷ []) same;
-    }
-
--- none is there where the last one is below
-pub last_below : (test : Bool → Bool) (bits : List Bool) (from at : ℕ) → at < from → from ≤ length bits
-    → last_position test bits ≡ Some at → indices_from test bits from ≡ []
-last_below test bits from at below within found =
-    let count : ℕ = length bits - from in
-    let last = last_position-Some test bits at false found in
-    indices-no test from (piece bits from count) (λ k low.
-    let size : length (piece bits from count) ≡ count = length-piece bits from count (omega arith) in
-    ap test (get_or-piece bits from count k false (omega arith)) ∙ last.2 (from + k) (omega arith) (omega arith))
-
--- and where there is none at all
-pub last_missing : (test : Bool → Bool) (bits : List Bool) (from : ℕ) → from ≤ length bits
-    → last_position test bits ≡ None → indices_from test bits from ≡ []
-last_missing test bits from within found =
-    let count : ℕ = length bits - from in
-    indices-no test from (piece bits from count) (λ k low.
-    let size : length (piece bits from count) ≡ count = length-piece bits from count (omega arith) in
-    ap test (get_or-piece bits from count k false (omega arith))
-    ∙ last_position-None test bits (from + k) false found (omega arith))
+    (λ k high low. get_or-low_digits 64 n k (omega arith) ∙ is.past k (omega arith) (omega arith)) in
+    ap (indices test from) whole
+    ∙ indices-append test from front rest
+    ∙ ap (λ l. l ++ indices test (from + length front) rest) shown
+    ∙ ap (λ m. held from n ++ indices test (from + m) rest) size
 
 -- ---- what an iterator has left
 
 -- more is held, where nothing was
-pub held_more : (test : Bool → Bool) (bits : List Bool) (now : List ℕ) (was had from base n next : ℕ)
-    → now ≡ held was had ++ indices_from test bits from → had ≡ 0 → TakesAhead test bits from base n
-    → next ≡ min (length bits) (base + 64) → now ≡ held base n ++ indices_from test bits next
-held_more test bits now was had from base n next is none takes is_next =
-    is
-    ∙ ap (λ m. held was m ++ indices_from test bits from) none
-    ∙ ap (λ l. l ++ indices_from test bits from) (held_none was)
-    ∙ takes.all
-    ∙ ap (λ p. held base n ++ indices_from test bits p) (sym is_next)
-
--- and where this is nothing too, none is left
-pub held_no_more : (test : Bool → Bool) (bits : List Bool) (now : List ℕ) (was had from base n : ℕ)
-    → now ≡ held was had ++ indices_from test bits from → had ≡ 0 → TakesAhead test bits from base n → n ≡ 0
-    → now ≡ []
-held_no_more test bits now was had from base n is none takes empty =
-    is
-    ∙ ap (λ m. held was m ++ indices_from test bits from) none
-    ∙ ap (λ l. l ++ indices_from test bits from) (held_none was)
-    ∙ takes.none empty
+pub held_more : (test : Bool → Bool) (bits rest : List Bool) (was had from n count next : ℕ) → had ≡ 0
+    → count ≡ min (length bits) 64 → AreDigits Ascending test bits 0 n → next ≡ from + count
+    → rest ≡ piece bits count (length bits - count)
+    → held from n ++ indices test next rest ≡ held was had ++ indices test from bits
+held_more test bits rest was had from n count next none is_count is is_next is_rest = sym (
+    ap (λ m. held was m ++ indices test from bits) none
+    ∙ ap (λ l. l ++ indices test from bits) (held_none was)
+    ∙ held_ahead test bits from n count is_count is
+    ∙ ap (λ m. held from n ++ indices test m (piece bits count (length bits - count))) (sym is_next)
+    ∙ ap (λ xs. held from n ++ indices test next xs) (sym is_rest)
+    )
 
 -- the last of those that are held is the last of all, where the others are none
 pub held_last_of_all : (now left rest : List ℕ) (base n m at : ℕ) → now ≡ held base n ++ left → left ≡ []

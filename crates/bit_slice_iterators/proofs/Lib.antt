@@ -1,7 +1,6 @@
 pub mod BitLemmas
 pub mod IndexLemmas
 pub mod HeldLemmas
-pub mod NearLemmas
 pub mod KnownRows
 pub mod CutLemmas
 pub mod PieceLemmas

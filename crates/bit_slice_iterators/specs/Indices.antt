@@ -1,7 +1,6 @@
 -- Where bits stand in a list: `indices`.
 --
--- What an iterator over them holds, which no public clause cites: `low_digits`, `held`, `indices_from`; its steps:
--- `AreDigits`, `IsLastFrom`, `TakesAhead`.
+-- What an iterator over them holds, which no public clause cites: `low_digits`, `held`; a step of it: `AreDigits`.
 use Rattle.std.specs.Prelude.{ℕ, zero, suc, ◌≡◌, ◌+◌, ◌-◌, ◌<◌, ◌≤◌, ◌/◌, ◌%◌, ◌==◌, min, Bool, true, false}
 use Rattle.std.specs.Prelude.{List, [], ◌∷◌, ◌++◌, length, get_or}
 use Rattle.std.proofs.Common.{cond}
@@ -25,26 +24,8 @@ low_digits (suc w) n = (n % 2 == 1) ∷ low_digits w (n / 2)
 abbrev pub held : ℕ → ℕ → List ℕ
 held base n = indices (is_bit true) base (low_digits 64 n)
 
--- the indices of the bits of a list from one on
-abbrev pub indices_from : (Bool → Bool) → List Bool → ℕ → List ℕ
-indices_from test bits from = indices test from (piece bits from (length bits - from))
-
 -- the digits of a chunk are 1 where bits of a list from one on pass, and the others are 0
 pub record AreDigits (direction : Direction) (test : Bool → Bool) (bits : List Bool) (from chunk : ℕ) : Type 0 where
   pub inside : (k : ℕ) → k < 64 → from + k < length bits
       → chunk_bit direction chunk k ≡ test (get_or bits (from + k) false)
   pub past : (k : ℕ) → k < 64 → length bits ≤ from + k → chunk_bit direction chunk k ≡ false
-
--- the last index of a list is `at`, which is not below `from`
-pub record IsLastFrom (test : Bool → Bool) (bits : List Bool) (from at : ℕ) : Type 0 where
-  pub least : from ≤ at
-  pub within : at ≤ length bits
-  pub all : indices_from test bits from ≡ indices_from test (piece bits 0 at) from ++ at ∷ []
-
--- the indices of a list from `from` on are those that a number holds, counted from `base`, and those behind; it holds
--- none where there are none
-pub record TakesAhead (test : Bool → Bool) (bits : List Bool) (from base n : ℕ) : Type 0 where
-  pub all : indices_from test bits from ≡ held base n ++ indices_from test bits (min (length bits) (base + 64))
-  pub none : n ≡ 0 → indices_from test bits from ≡ []
-  pub within : base ≤ length bits
-  pub short : length bits ≤ MAX_BITS

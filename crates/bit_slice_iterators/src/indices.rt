@@ -8,17 +8,15 @@ ghost use Rattle.std.specs.Iterator.SizeHint.{IsWithinCount};
 ghost use Rattle.bit_addressing_memory.specs.Bits.{digit_at};
 ghost use Rattle.bit_addressing_memory.specs.Memory.{read_by};
 ghost use Rattle.bit_addressing_memory.specs.declared.direction.Direction.TheVariants.{Ascending};
-ghost use Rattle.bit_addressing_span.specs.declared.span.TheConstants.{MAX_BITS};
+ghost use Rattle.bit_slice_chunks.specs.Chunk.{IsFaced};
 ghost use Rattle.bit_slice_words.specs.Found.{is_bit, last_position};
 ghost use Rattle.bit_slice_views.specs.View.{view_bits};
-ghost use Rattle.bit_slice_iterators.specs.Indices.{indices, indices_from, AreDigits, IsLastFrom, TakesAhead};
+ghost use Rattle.bit_slice_iterators.specs.Indices.{indices, AreDigits};
 
-use bit_addressing_memory::mem::bits_of;
-use bit_addressing_memory::{BitOrder, BitRegister, Direction, Lsb0, direction_of};
+use bit_addressing_memory::{BitOrder, BitRegister, Direction, Walk, most_singly};
 use bit_slice_chunks::any_order::{direction_for, read_bits, read_chunk};
 use bit_slice_chunks::{faced, first_bits};
 use bit_slice_views::{BitSlice, Bits};
-use bit_slice_words::lacks;
 use std::alloc::AllocError;
 use std::iter::FusedIterator;
 use std::marker::{Model, PhantomData};
@@ -39,18 +37,13 @@ pub trait Sought {
     fn count<V: Bits>(view: &V) -> usize
         ensures { result ≡ count_by (is_bit bit) (V.bits view.now) };
 
-    /// The number whose digits are 1 where those of another are these bits.
-    ///
-    /// It is provided, so that an impl elsewhere need not have it: whether zeros are found tells the kind. A body that
-    /// knows the kind is quicker.
-    #[tactic(auto, using(crate::proofs::HeldLemmas::flipped_digit))]
-    fn among(digits: u64) -> u64
-        ensures { (k : ℕ) → k < 64 → digit_at result k ≡ is_bit bit (digit_at digits k) }
+    /// The number whose digits are 1 where those of another are these bits, of a kind that tells it: then up to 64 bits
+    /// are looked at once. An impl need not have it.
+    #[inline(always)]
+    fn among(_digits: u64) -> Option<u64>
+        ensures { IfSome result (λ n. (k : ℕ) → k < 64 → digit_at n k ≡ is_bit bit (digit_at _digits k)) }
     {
-        match Self::first(&BitSlice::<u8, Lsb0>::from_element(&0)) {
-            Some(_) => !digits,
-            None => digits,
-        }
+        None
     }
 }
 
@@ -73,8 +66,8 @@ impl Sought for Ones {
     }
 
     #[inline(always)]
-    fn among(digits: u64) -> u64 {
-        digits
+    fn among(digits: u64) -> Option<u64> {
+        Some(digits)
     }
 }
 
@@ -97,29 +90,23 @@ impl Sought for Zeros {
     }
 
     #[inline(always)]
-    fn among(digits: u64) -> u64 {
-        !digits
+    fn among(digits: u64) -> Option<u64> {
+        Some(!digits)
     }
 }
 
 // How many bits are looked at as one number.
 const CHUNK: usize = 64;
 
-// How many bits lie before an index that comes alone.
-const FAR: usize = 4;
-
-// How many bits are looked at one by one for the last index.
-const NEAR: usize = 4;
-
 /// The indices of the bits of one kind that are left, ascending; a contract sees their list.
 ///
 /// It is exact in length, gives each index once from either end, and then `None` for good.
 #[derive(Drop)]
 pub struct Indices<'a, T: BitRegister, O: BitOrder<T>, B: Sought> {
+    // The bits that were not looked at, and the index of the first of them.
     view: BitSlice<'a, T, O>,
-    // The bits from here on were not looked at.
     from: usize,
-    // What is left of the last 64 that were: the index `base + k` where digit k is 1.
+    // What is left of up to 64 before them: the index `base + k` where digit k is 1.
     ahead: u64,
     base: usize,
     sought: PhantomData<B>,
@@ -132,20 +119,20 @@ pub type IterOnes<'a, T, O> = Indices<'a, T, O, Ones>;
 pub type IterZeros<'a, T, O> = Indices<'a, T, O, Zeros>;
 
 impl<'a, T: BitRegister, O: BitOrder<T>, B: Sought> Model for Indices<'a, T, O, B> {
-    ghost use Rattle.std.specs.Prelude.{ℕ, List, ◌++◌, ◌≤◌, length};
+    ghost use Rattle.std.specs.Prelude.{ℕ, List, ◌+◌, ◌++◌, ◌≤◌, length};
     ghost use Rattle.bit_addressing_memory.specs.Memory.{read_by};
     ghost use Rattle.bit_addressing_span.specs.declared.span.TheConstants.{MAX_BITS};
     ghost use Rattle.bit_slice_words.specs.Found.{is_bit};
     ghost use Rattle.bit_slice_views.specs.View.{view_bits};
-    ghost use Rattle.bit_slice_iterators.specs.Indices.{held, indices_from};
+    ghost use Rattle.bit_slice_iterators.specs.Indices.{held, indices};
 
     ghost Value = { List ℕ };
 
     ghost view = { λ iter. held iter.base iter.ahead
-        ++ indices_from (is_bit B.bit) (view_bits (read_by T.BitRegister O.position) iter.view) iter.from };
+        ++ indices (is_bit B.bit) iter.from (view_bits (read_by T.BitRegister O.position) iter.view) };
 
     ghost invariant = { λ iter. (iter.base ≤ MAX_BITS)
-        × (iter.from ≤ length (view_bits (read_by T.BitRegister O.position) iter.view)) };
+        × (iter.from + length (view_bits (read_by T.BitRegister O.position) iter.view) ≤ MAX_BITS) };
 }
 
 impl<'a, T: BitRegister, O: BitOrder<T>, B: Sought> Indices<'a, T, O, B> {
@@ -153,6 +140,7 @@ impl<'a, T: BitRegister, O: BitOrder<T>, B: Sought> Indices<'a, T, O, B> {
     pub fn new(view: BitSlice<'a, T, O>) -> Indices<'a, T, O, B>
         ensures { result ≡ indices (is_bit B.bit) 0 (view_bits (read_by T.BitRegister O.position) view.entry) }
     {
+        let _counted = view.parts();
         Indices {
             view,
             from: 0,
@@ -161,196 +149,83 @@ impl<'a, T: BitRegister, O: BitOrder<T>, B: Sought> Indices<'a, T, O, B> {
             sought: PhantomData,
         }
     }
-}
 
-// The bits that are looked for.
-#[inline(always)]
-fn sought_bit<B: Sought>() -> bool
-    ensures { result ≡ B.bit }
-{
-    B::among(0) % 2 == 0
-}
+    // Whether the next bits are to be held ahead: where none are and one index was given already, since one alone is looked
+    // for by words; of a kind that tells them. A few are cheaper by words too, and all where a word is not turned quickly.
+    #[inline(always)]
+    fn looks_ahead(&self) -> bool {
+        self.ahead == 0
+            && self.from != 0
+            && B::among(0).is_some()
+            && self.view.len() > most_singly::<T, O>(Walk::Look)
+    }
 
-// A number whose digits are 1 at the next indices from a bit on, with the index of its lowest digit; 0 where there are
-// none. Most of the time one is near.
-#[inline(always)]
-fn take_ahead<T: BitRegister, O: BitOrder<T>, B: Sought>(
-    view: BitSlice<'_, T, O>,
-    from: usize,
-) -> (usize, u64)
-    requires { from ≤ length (view_bits (read_by T.BitRegister O.position) view) }
-    ensures { TakesAhead (is_bit B.bit) (view_bits (read_by T.BitRegister O.position) view.entry) from result.0
-        result.1 }
-{
-    if T::BITS < 32 && direction_of::<T, O>().is_none() {
-        return take_by_words::<T, O, B>(view, from);
-    }
-    let next = lacking_upto::<T, O, B>(view, from);
-    let near = digits_at::<T, O, B>(view, next);
-    if near != 0 {
-        return (next, near);
-    }
-    let behind = view.len().min(next + CHUNK);
-    if behind == view.len() {
-        return (behind, 0);
-    }
-    take_behind::<T, O, B>(view, behind)
-}
-
-// Up to where a window's bits from one on lie in words that have no index. A comparison of words passes over each, where a
-// chunk costs more: in an order that does not go straight.
-#[inline(always)]
-fn lacking_upto<T: BitRegister, O: BitOrder<T>, B: Sought>(
-    view: BitSlice<'_, T, O>,
-    from: usize,
-) -> usize
-    requires { from ≤ length (view_bits (read_by T.BitRegister O.position) view) }
-    ensures least { from ≤ result }
-    ensures most { result ≤ length (view_bits (read_by T.BitRegister O.position) view.entry) }
-    ensures none { (k : ℕ) → from ≤ k → k < result
-        → is_bit B.bit (slice_index_or (view_bits (read_by T.BitRegister O.position) view.entry) k false) ≡ false }
-{
-    if direction_of::<T, O>().is_some() {
-        return from;
-    }
-    let (words, head, len) = view.parts();
-    let bits = bits_of::<T>();
-    let mut next = from;
-    while next < len {
-        let place = head as usize + next;
-        if !lacks::<T, O>(words[place / bits], sought_bit::<B>()) {
-            return next;
+    // Holds the next bits ahead, where none are.
+    #[inline(never)]
+    fn look_ahead(&mut self)
+        ensures { self.new ≡ self.old }
+    {
+        let len = self.view.len();
+        if self.ahead != 0 || len == 0 {
+            return;
         }
-        next = len.min(next + (bits - place % bits));
+        let Some(ahead) = digits_ahead::<T, O, B>(self.view) else {
+            return;
+        };
+        let count = len.min(CHUNK);
+        self.base = self.from;
+        self.ahead = ahead;
+        self.view = self.view.part(count, len - count);
+        self.from += count;
     }
-    next
 }
 
-// The same where it may be far.
-#[inline(never)]
-fn take_behind<T: BitRegister, O: BitOrder<T>, B: Sought>(
-    view: BitSlice<'_, T, O>,
-    from: usize,
-) -> (usize, u64)
-    requires { from ≤ length (view_bits (read_by T.BitRegister O.position) view) }
-    ensures { TakesAhead (is_bit B.bit) (view_bits (read_by T.BitRegister O.position) view.entry) from result.0
-        result.1 }
-{
-    let (_, _, len) = view.parts();
-    let Some(i) = B::first(&view.part(from, len - from)) else {
-        return (len, 0)
-    };
-    let base = from + i / CHUNK * CHUNK;
-    (base, digits_at::<T, O, B>(view, base))
-}
-
-// The same where a chunk has many words, each to be turned: an index that is far comes alone, as the last digit.
-#[inline(never)]
-fn take_by_words<T: BitRegister, O: BitOrder<T>, B: Sought>(
-    view: BitSlice<'_, T, O>,
-    from: usize,
-) -> (usize, u64)
-    requires { from ≤ length (view_bits (read_by T.BitRegister O.position) view) }
-    ensures { TakesAhead (is_bit B.bit) (view_bits (read_by T.BitRegister O.position) view.entry) from result.0
-        result.1 }
-{
-    let (_, _, len) = view.parts();
-    let Some(i) = B::first(&view.part(from, len - from)) else {
-        return (len, 0)
-    };
-    let at = from + i;
-    if FAR <= i && CHUNK <= at {
-        return (at - (CHUNK - 1), 1 << (CHUNK - 1));
-    }
-    (at, digits_at::<T, O, B>(view, at))
-}
-
-// The bits of a window from one on, 64 or all, as the digits of a number: 1 where they are of the kind.
+// The first bits of a window, 64 or all, as the digits of a number: 1 where they are of the kind. `None` where the kind
+// does not tell them.
 #[inline(always)]
-fn digits_at<T: BitRegister, O: BitOrder<T>, B: Sought>(
-    view: BitSlice<'_, T, O>,
-    from: usize,
-) -> u64
-    requires { from ≤ length (view_bits (read_by T.BitRegister O.position) view) }
-    ensures short { length (view_bits (read_by T.BitRegister O.position) view.entry) ≤ MAX_BITS }
-    ensures digits { AreDigits Ascending (is_bit B.bit) (view_bits (read_by T.BitRegister O.position) view.entry)
-        from result }
+fn digits_ahead<T: BitRegister, O: BitOrder<T>, B: Sought>(view: BitSlice<'_, T, O>) -> Option<u64>
+    requires { 0 < length (view_bits (read_by T.BitRegister O.position) view) }
+    ensures { IfSome result
+        (AreDigits Ascending (is_bit B.bit) (view_bits (read_by T.BitRegister O.position) view.entry) 0) }
 {
     let way = direction_for::<T, O>();
-    let chunk = chunk_at::<T, O, B>(way, view, from);
-    if chunk == 0 {
-        return 0;
+    match chunk_ahead::<T, O, B>(way, view) {
+        Some(chunk) => Some(ascending(way, chunk)),
+        None => None,
     }
-    faced(way, Direction::Ascending, chunk)
 }
 
 // The same as a chunk of a direction.
 #[inline(always)]
-fn chunk_at<T: BitRegister, O: BitOrder<T>, B: Sought>(
+fn chunk_ahead<T: BitRegister, O: BitOrder<T>, B: Sought>(
     direction: Direction,
     view: BitSlice<'_, T, O>,
-    from: usize,
-) -> u64
-    requires { from ≤ length (view_bits (read_by T.BitRegister O.position) view) }
-    ensures short { length (view_bits (read_by T.BitRegister O.position) view.entry) ≤ MAX_BITS }
-    ensures digits { AreDigits direction (is_bit B.bit) (view_bits (read_by T.BitRegister O.position) view.entry)
-        from result }
+) -> Option<u64>
+    requires { 0 < length (view_bits (read_by T.BitRegister O.position) view) }
+    ensures { IfSome result
+        (AreDigits direction (is_bit B.bit) (view_bits (read_by T.BitRegister O.position) view.entry) 0) }
 {
     let (words, head, len) = view.parts();
-    let place = head as usize + from;
-    let count = len - from;
-    if CHUNK <= count {
+    let place = head as usize;
+    if CHUNK <= len {
         return B::among(read_chunk::<T, O>(direction, words, place));
     }
-    if count == 0 {
-        return 0;
+    match B::among(read_bits::<T, O>(direction, words, place, len)) {
+        Some(chunk) => Some(first_bits(direction, chunk, len as u8)),
+        None => None,
     }
-    let chunk = B::among(read_bits::<T, O>(direction, words, place, count));
-    first_bits(direction, chunk, count as u8)
 }
 
-// The last index of a window, if it is not below one.
+// A chunk as the digits of a number. Zeros need no turn.
 #[inline(always)]
-fn last_from<T: BitRegister, O: BitOrder<T>, B: Sought>(
-    view: BitSlice<'_, T, O>,
-    from: usize,
-) -> Option<usize>
-    requires { from ≤ length (view_bits (read_by T.BitRegister O.position) view) }
-    ensures { MatchOption result
-        (indices_from (is_bit B.bit) (view_bits (read_by T.BitRegister O.position) view.entry) from ≡ [])
-        (IsLastFrom (is_bit B.bit) (view_bits (read_by T.BitRegister O.position) view.entry) from) }
+fn ascending(direction: Direction, chunk: u64) -> u64
+    ensures { IsFaced direction Ascending chunk result }
 {
-    if from == view.len() {
-        return None;
+    if chunk == 0 {
+        0
+    } else {
+        faced(direction, Direction::Ascending, chunk)
     }
-    let Some(at) = last_of::<T, O, B>(view) else {
-        return None
-    };
-    if at < from {
-        return None;
-    }
-    Some(at)
-}
-
-// The last index of a window. Mostly it is near.
-#[inline(always)]
-fn last_of<T: BitRegister, O: BitOrder<T>, B: Sought>(view: BitSlice<'_, T, O>) -> Option<usize>
-    ensures { result ≡ last_position (is_bit B.bit) (view_bits (read_by T.BitRegister O.position) view.entry) }
-{
-    let bit = sought_bit::<B>();
-    let (words, head, len) = view.parts();
-    if len == 0 || lacks::<T, O>(words[(head as usize + len - 1) / bits_of::<T>()], bit) {
-        return B::last(&view);
-    }
-    let near = len.saturating_sub(NEAR);
-    let mut k = len;
-    while near < k {
-        k -= 1;
-        if view.bit(k) == bit {
-            return Some(k);
-        }
-    }
-    B::last(&view)
 }
 
 impl<'a, T: BitRegister, O: BitOrder<T>, B: Sought> Default for Indices<'a, T, O, B> {
@@ -386,18 +261,23 @@ impl<'a, T: BitRegister, O: BitOrder<T>, B: Sought> Iterator for Indices<'a, T, 
 
     ghost remaining = { item_count (λ left. left) };
 
+    #[inline(always)]
     fn next(&mut self) -> Option<usize> {
-        if self.ahead == 0 {
-            let (base, ahead) = take_ahead::<T, O, B>(self.view, self.from);
-            self.from = self.view.len().min(base + CHUNK);
-            self.base = base;
-            self.ahead = ahead;
-            if ahead == 0 {
-                return None;
-            }
+        if self.looks_ahead() {
+            self.look_ahead();
         }
-        let at = self.base + self.ahead.trailing_zeros() as usize;
-        self.ahead = self.ahead & (self.ahead - 1);
+        if self.ahead != 0 {
+            let at = self.base + self.ahead.trailing_zeros() as usize;
+            self.ahead = self.ahead & (self.ahead - 1);
+            return Some(at);
+        }
+        let Some(i) = B::first(&self.view) else {
+            return None
+        };
+        let rest = i + 1;
+        let at = self.from + i;
+        self.view = self.view.part(rest, self.view.len() - rest);
+        self.from = at + 1;
         Some(at)
     }
 
@@ -416,15 +296,15 @@ impl<'a, T: BitRegister, O: BitOrder<T>, B: Sought> DoubleEndedIterator for Indi
     ghost next_back_gives = { YieldsLast (λ left. left) };
 
     fn next_back(&mut self) -> Option<usize> {
-        if let Some(at) = last_from::<T, O, B>(self.view, self.from) {
-            self.view = self.view.part(0, at);
-            return Some(at);
+        if let Some(i) = B::last(&self.view) {
+            self.view = self.view.part(0, i);
+            return Some(self.from + i);
         }
-        // What has none is not looked at again.
-        self.view = self.view.part(0, self.from);
         if self.ahead == 0 {
             return None;
         }
+        // What has none is not looked at again.
+        self.view = self.view.part(0, 0);
         let k = self.ahead.ilog2();
         self.ahead = self.ahead & !(1 << k);
         Some(self.base + k as usize)
@@ -434,9 +314,8 @@ impl<'a, T: BitRegister, O: BitOrder<T>, B: Sought> DoubleEndedIterator for Indi
 #[tactic(auto, using(crate::proofs::IndexLemmas::ends_of_indices))]
 impl<'a, T: BitRegister, O: BitOrder<T>, B: Sought> ExactSizeIterator for Indices<'a, T, O, B> {
     fn len(&self) -> usize {
-        let (_, _, len) = self.view.parts();
-        let rest = self.view.part(self.from, len - self.from);
-        B::count(&rest) + self.ahead.count_ones() as usize
+        let _counted = self.view.parts();
+        B::count(&self.view) + self.ahead.count_ones() as usize
     }
 }
 

@@ -1,6 +1,6 @@
 -- Where bits of one memory stand in another, chunk by chunk.
 --
--- One place: `stands_agreed`, `stands_not`; by the first bits: `shown_chunk`, `shown_other`. So many of them:
+-- One place: `stands_agreed`, `stands_not`; by the first bits: `shown_chunk`, `shown_same`, `shown_other`. So many of them:
 -- `seeks_here`, `seeks_none`, `seeks_next`, `seeks_before`, `seeks_more`.
 use Rattle.std.proofs.Common.{◌≡◌, ◌≢◌, ℕ, ◌+◌, ◌-◌, ◌^◌, ◌<◌, ◌≤◌, List, ap, ◌∙◌, inl, inr, arith}
 use Rattle.std.proofs.lemmas.Bool.{cases_lt}
@@ -40,6 +40,14 @@ shown_chunk reading words place from n direction chunk low shown few has lower c
       ∙ ap (entry reading words) here;
   past = λ i past small. cut.past i past small;
 }
+
+-- where the first bits are the same, and there are no others, they stand
+pub shown_same : {R Q : Type 0} (reading : Reading R) (its : Reading Q) (words : List R) (others : List Q)
+    (place other_place n m : ℕ) (direction : Direction) (x y : ℕ) → x < 2 ^ 64 → y < 2 ^ 64 → m ≤ n
+    → IsChunk reading words place n direction x → IsChunk its others other_place n direction y → x ≡ y
+    → Stands reading words place its others other_place m
+shown_same reading its words others place other_place n m direction x y low_x low_y all mine theirs same k low =
+    (chunks_equal reading its words others place other_place n direction x y low_x low_y mine theirs).0 same k (omega arith)
 
 -- where the first bits are others, they do not stand
 pub shown_other : {R Q : Type 0} (reading : Reading R) (its : Reading Q) (words : List R) (others : List Q)

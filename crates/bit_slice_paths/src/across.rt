@@ -162,7 +162,7 @@ fn difference_of_whole<R: BitRegister, O: BitOrder<R>, Q: BitRegister, P: BitOrd
 }
 
 // The first of up to 64 bits that differ.
-#[inline(never)]
+#[inline(always)]
 fn difference_of_rest<R: BitRegister, O: BitOrder<R>, Q: BitRegister, P: BitOrder<Q>>(
     direction: Direction,
     other_direction: Direction,

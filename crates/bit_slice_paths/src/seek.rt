@@ -75,6 +75,9 @@ fn shows<R: BitRegister, O: BitOrder<R>, Q: BitRegister, P: BitOrder<Q>>(
     if first_bits(direction, shown, len.min(32) as u8) != sought {
         return false;
     }
+    if len <= 32 {
+        return true;
+    }
     same::<R, O, Q, P>(
         direction,
         other_direction,

@@ -6,6 +6,7 @@ use bit_addressing_memory::{BitOrder, BitRegister, Lsb0, Msb0};
 use bit_addressing_sample_orders::FifthStep;
 use bit_slice_iterators::{Indices, Ones, Sought, Zeros};
 use bit_slice_views::{BitSlice, Bits};
+use bit_table_fields::HiLo;
 
 const BYTES: [u8; 24] = [
     0x6f, 0xee, 0x00, 0x01, 0x80, 0x00, 0x00, 0x00, 0x00, 0x00, 0x00, 0x00, 0x00, 0x30, 0xff, 0xff,
@@ -123,6 +124,8 @@ fn indices_come_from_both_ends(rt: HostRuntime) {
     assert!(rt; come_right(BitSlice::<u64, Lsb0>::from_place(&WORDS, 63, 193)));
     assert!(rt; come_right(BitSlice::<u64, Msb0>::from_place(&WORDS, 1, 255)));
     assert!(rt; come_right(BitSlice::<u64, FifthStep>::from_place(&WORDS, 60, 70)));
+    assert!(rt; come_right(BitSlice::<u64, HiLo>::from_place(&WORDS, 63, 193)));
+    assert!(rt; come_right(BitSlice::<u8, HiLo>::from_place(&BYTES, 3, 128)));
 }
 
 #[test]
@@ -133,5 +136,5 @@ fn indices_of_own_kinds_come_right(rt: HostRuntime) {
     assert!(rt; come_by_turns::<u8, Lsb0, OwnZeros>(near, false, 3));
     assert!(rt; come_by_turns::<u64, FifthStep, OwnOnes>(far, true, 2));
     assert!(rt; come_by_turns::<u64, FifthStep, OwnZeros>(far, false, 2));
-    assert!(rt; OwnOnes::among(0x9c) == 0x9c && OwnZeros::among(0x9c) == 0xffff_ffff_ffff_ff63);
+    assert!(rt; OwnOnes::among(0x9c).is_none() && OwnZeros::among(0x9c).is_none());
 }

@@ -23,6 +23,8 @@ pub mod iter_callers;
 #[cfg(test)]
 mod iterators;
 #[cfg(test)]
+mod lacking;
+#[cfg(test)]
 mod limbs;
 #[cfg(test)]
 mod list;

@@ -1,7 +1,7 @@
 -- A stretch overwritten bit by bit.
 use Rattle.std.proofs.Common.{◌≡◌, ℕ, ◌+◌, Bool, List, ap₂, ◌∙◌, arith}
 use Rattle.bit_addressing_memory.specs.Memory.{Reading, entry, Writes}
-use Rattle.bit_addressing_memory.proofs.OverwriteLemmas.{stretch_more, stretch_none}
+pub use Rattle.bit_addressing_memory.proofs.OverwriteLemmas.{stretch_more, stretch_none}
 use Rattle.bit_slice_paths.specs.Combined.{Combines}
 
 -- one more bit, made of the one that stands there and another

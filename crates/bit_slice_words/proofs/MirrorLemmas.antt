@@ -4,7 +4,7 @@ use Rattle.std.proofs.Common.{below_more}
 use Rattle.std.proofs.lemmas.Bool.{cases_lt}
 use Rattle.bit_addressing_memory.specs.Memory.{Reading, entry, Swaps}
 use Rattle.bit_slice_paths.specs.Mirrored.{Mirrored}
-use Rattle.bit_slice_paths.proofs.MirrorLemmas.{mirrored_none, mirrored_all}
+pub use Rattle.bit_slice_paths.proofs.MirrorLemmas.{mirrored_none, mirrored_all}
 
 -- one more exchange
 pub mirrored_more : {R : Type 0} (reading : Reading R) (before now after : List R) (place n i : ℕ)

@@ -1,8 +1,11 @@
 -- Word paths bit by bit: their steps, and bits that are equal so far.
-use Rattle.std.proofs.Common.{◌≡◌, ◌≢◌, ℕ, ◌+◌, ◌-◌, ◌<◌, ◌≤◌, Bool, true, false, not, refl, arith, min}
+use Rattle.std.proofs.Common.{◌≡◌, ◌≢◌, ℕ, ◌+◌, ◌-◌, ◌<◌, ◌≤◌, ◌↔◌, IsTrue, Bool, true, false, not, List, refl, sym, ap, ◌∙◌}
+use Rattle.std.proofs.Common.{inl, inr, arith, min}
+use Rattle.std.proofs.lemmas.Bool.{cases_lt}
 use mathlib.Core.Bool.{beq}
+use Rattle.bit_addressing_memory.specs.Memory.{Reading, entry}
 use Rattle.bit_slice_paths.specs.Steps.{most_steps, groups, Takes}
-use Rattle.bit_slice_paths.proofs.StepLemmas.{takes_none, takes_more, takes_as}
+use Rattle.bit_slice_paths.proofs.StepLemmas.{takes_none, takes_more, takes_as, takes_join}
 
 groups_one : (n : ℕ) → groups n 1 ≡ n
 groups_one n = omega arith
@@ -37,6 +40,49 @@ takes_some old new n k some h had =
     let a = had.at_least in
     let b = had.at_most in
     record { at_least = omega arith; at_most = omega (arith, groups_one n) }
+
+-- the same of a count that the bits bound
+pub takes_few : (old new n k : ℕ) → 1 ≤ k → k ≤ n → Takes old new k k → Takes old new 1 n
+takes_few old new n k some h had =
+    let a = had.at_least in
+    let b = had.at_most in
+    record { at_least = omega arith; at_most = omega arith }
+
+-- a step a bit, and then so many others
+pub takes_behind : (old now new few rest n : ℕ) → few + rest ≡ n → Takes old now few few → Takes now new rest rest
+    → Takes old new (groups n 64) (groups n 1)
+takes_behind old now new few rest n sum had more =
+    takes_bits old new n (few + rest) sum (takes_join old now new few rest (few + rest) refl had more)
+
+pub takes_behind_some : (old now new few rest n : ℕ) → few + rest ≡ n → Takes old now few few → Takes now new 1 rest
+    → Takes old new 1 (groups n 1)
+takes_behind_some old now new few rest n sum had more =
+    let a = had.at_least in
+    let b = had.at_most in
+    let c = more.at_least in
+    let d = more.at_most in
+    record { at_least = omega arith; at_most = omega (arith, groups_one n) }
+
+-- bits that are equal, and then others of which an answer tells it
+pub equal_behind : {R : Type 0} (reading : Reading R) (words others : List R) (place other_place few rest n : ℕ)
+    (r : Bool) → few + rest ≡ n
+    → ((k : ℕ) → k < few → entry reading words (place + k) ≡ entry reading others (other_place + k))
+    → (IsTrue r ↔ ((k : ℕ) → k < rest
+    → entry reading words (place + few + k) ≡ entry reading others (other_place + few + k)))
+    → IsTrue r ↔ ((k : ℕ) → k < n → entry reading words (place + k) ≡ entry reading others (other_place + k))
+equal_behind reading words others place other_place few rest n r sum had told = (
+  λ yes k low. elim (cases_lt k few) [
+    | inl early ↦ had k early
+    | inr later ↦
+        let here : place + few + (k - few) ≡ place + k = omega arith in
+        let there : other_place + few + (k - few) ≡ other_place + k = omega arith in
+        sym (ap (entry reading words) here) ∙ told.0 yes (k - few) (omega arith) ∙ ap (entry reading others) there
+  ],
+  λ same. told.1 (λ k low.
+      let here : place + few + k ≡ place + (few + k) = omega arith in
+      let there : other_place + few + k ≡ other_place + (few + k) = omega arith in
+      ap (entry reading words) here ∙ same (few + k) (omega arith) ∙ sym (ap (entry reading others) there)),
+)
 
 -- what the test `a != b` says
 pub same_bits : (a b : Bool) → not (beq a b) ≡ false → a ≡ b

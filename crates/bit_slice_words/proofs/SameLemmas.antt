@@ -1,7 +1,7 @@
 -- Tests and answers: `differ_tested`, `answers_yes`, `answers_no`. Bits of two memories: `windows_equal`,
 -- `windows_differ`, `windows_agree`. One list in another: `holds_empty`, `holds_here`, `holds_none`, `holds_short`;
--- told by the first place: `holds_first`.
-use Rattle.std.proofs.Common.{◌≡◌, ◌≢◌, ℕ, ◌+◌, ◌*◌, ◌<◌, ◌≤◌, ◌↔◌, ◌==◌, nat_lt, IsTrue}
+-- told by the first place: `holds_first`, `holds_behind`.
+use Rattle.std.proofs.Common.{◌≡◌, ◌≢◌, ℕ, ◌+◌, ◌-◌, ◌*◌, ◌<◌, ◌≤◌, ◌↔◌, ◌==◌, nat_lt, IsTrue}
 use Rattle.std.proofs.Common.{Bool, true, false, not, List, [], ◌∷◌, length, get_or, refl, sym, ap, ◌∙◌, inl, inr, arith}
 use Rattle.std.proofs.Math.Bool.{beq}
 use Rattle.std.proofs.lemmas.Bool.{cases_lt, eqb-true, eq-eqb, false≢true, lt-ltb, ltb-true}
@@ -139,5 +139,37 @@ holds_first reading words its others place len other_place n starts at some its_
             absurd (holds_none reading words place len n ys fits size
             (λ i inside same. first.before i (omega arith)
             (windows_stand reading words its others (place + i) other_place n some its_some same)) held)
+      ],
+    )
+
+-- so does the first of those behind places at which it does not stand
+pub holds_behind : {R Q : Type 0} (reading : Reading R) (words : List R) (its : Reading Q) (others : List Q)
+    (place len other_place n done near at : ℕ) → 0 < reading.bits → 0 < its.bits
+    → place + len ≤ length words * reading.bits → other_place + n ≤ length others * its.bits
+    → done + near + n ≡ len + 1
+    → ((k : ℕ) → k < done → piece (memory reading words) (place + k) n ≢ piece (memory its others) other_place n)
+    → StandsFirst reading words (place + done) its others other_place n near at
+    → IsTrue (nat_lt at near)
+    ↔ Holds (piece (memory reading words) place len) (piece (memory its others) other_place n)
+holds_behind reading words its others place len other_place n done near at some its_some fits its_fit sum none first =
+    let ys = piece (memory its others) other_place n in
+    let size : length ys ≡ n = length-window its others other_place n its_fit in (
+      λ test.
+          let low : at < near = ltb-true at near test in
+          let here : place + done + at ≡ place + (done + at) = omega arith in
+          holds_here reading words place len (done + at) n ys fits (omega arith) size
+          (windows_equal reading words its others (place + (done + at)) other_place n some its_some (omega arith) its_fit
+          (rw here at (first.here low))),
+      λ held. elim (cases_lt at near) [
+        | inl low ↦ lt-ltb at near low
+        | inr past ↦
+            absurd (holds_none reading words place len n ys fits size
+            (λ i inside same. elim (cases_lt i done) [
+              | inl early ↦ none i early same
+              | inr later ↦
+                  let here : place + done + (i - done) ≡ place + i = omega arith in
+                  first.before (i - done) (omega arith)
+                  (rw here (windows_stand reading words its others (place + i) other_place n some its_some same))
+            ]) held)
       ],
     )

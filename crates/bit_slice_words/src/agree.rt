@@ -4,18 +4,9 @@ ghost use Rattle.std.specs.Prelude.{◌+◌, ◌*◌, ◌^◌, ◌<◌, ◌≤�
 ghost use Rattle.bit_addressing_memory.specs.Memory.{read_by};
 ghost use Rattle.bit_slice_paths.specs.Agrees.{Agrees};
 
-use bit_addressing_memory::{BitOrder, BitRegister, direction_of, read_entry};
+use bit_addressing_memory::{BitOrder, BitRegister, Walk, most_singly_of_two, read_entry};
 use bit_slice_chunks::any_order::direction_for;
 use bit_slice_paths::across;
-
-// Up to how many bits are compared one by one alone.
-const SHORT: usize = 8;
-
-// How many of more are compared one by one before chunks are: where both orders go straight, and else, where a chunk
-// costs as much as some of them.
-const FEW: usize = 4;
-
-const FEW_TURNED: usize = 32;
 
 // How many of `len` bits are compared one by one first.
 #[inline(always)]
@@ -24,13 +15,7 @@ pub(crate) fn few_to_compare<R: BitRegister, O: BitOrder<R>, Q: BitRegister, P: 
 ) -> usize
     ensures { result ≤ len }
 {
-    if len <= SHORT {
-        return len;
-    }
-    match (direction_of::<R, O>(), direction_of::<Q, P>()) {
-        (Some(_), Some(_)) => len.min(FEW),
-        _ => len.min(FEW_TURNED),
-    }
+    len.min(most_singly_of_two::<R, O, Q, P>(Walk::Compare))
 }
 
 // How many of `len` bits of two memories are the same, from the first on. Lists that differ mostly do so early.
@@ -58,18 +43,31 @@ pub(crate) fn agree_in<R: BitRegister, O: BitOrder<R>, Q: BitRegister, P: BitOrd
     if few == len {
         return len;
     }
-    let same = agree_by_chunks::<R, O, Q, P>(
-        words,
-        place + few,
-        others,
-        other_place + few,
-        len - few,
-    );
+    let same = agree_rest::<R, O, Q, P>(words, place + few, others, other_place + few, len - few);
     few + same
 }
 
 // The same, by chunks. Out of line, so that lists that differ early are compared by a short function.
 #[inline(never)]
+fn agree_rest<R: BitRegister, O: BitOrder<R>, Q: BitRegister, P: BitOrder<Q>>(
+    words: &[R],
+    place: usize,
+    others: &[Q],
+    other_place: usize,
+    len: usize,
+) -> usize
+    requires within { place + len ≤ length words.now * R.BITS }
+    requires ends { place + len < 2 ^ 64 }
+    requires other_within { other_place + len ≤ length others.now * Q.BITS }
+    requires other_ends { other_place + len < 2 ^ 64 }
+    ensures { Agrees (read_by R.BitRegister O.position) words.now place
+        (read_by Q.BitRegister P.position) others.now other_place len result }
+{
+    agree_by_chunks::<R, O, Q, P>(words, place, others, other_place, len)
+}
+
+// The same, where it stands.
+#[inline(always)]
 pub(crate) fn agree_by_chunks<R: BitRegister, O: BitOrder<R>, Q: BitRegister, P: BitOrder<Q>>(
     words: &[R],
     place: usize,

@@ -1,5 +1,5 @@
-//! Word paths that count one step a bit: what an order whose `SPAN` is 1 calls. Up to 64 bits are compared or combined at
-//! once, and the steps of these bits are counted in the loop that does it.
+//! Word paths that count one step a bit: what an order whose `SPAN` is 1 calls. A few bits go one by one, and all where the
+//! order turns no word quickly; of others up to 64 are compared or combined in one step, which counts one for each.
 
 ghost use Rattle.std.specs.Prelude.{◌≡◌, ℕ, ◌+◌, ◌*◌, ◌^◌, ◌<◌, ◌≤◌, ◌↔◌, ◌&&◌, ◌||◌};
 ghost use Rattle.std.specs.Prelude.{length, IsTrue, true, false};
@@ -8,15 +8,17 @@ ghost use Rattle.bit_addressing_memory.specs.Memory.{entry, read_by, Copies, Ove
 ghost use Rattle.bit_slice_paths.specs.Combined.{combined_bit, Combines};
 ghost use Rattle.bit_slice_paths.specs.Steps.{groups, Takes};
 
-use crate::agree::agree_in;
-use crate::combine::combine_in;
-use bit_addressing_memory::{BitOrder, BitRegister, read_entry, write_entry};
-use bit_slice_paths::{Combination, Steps};
+use crate::agree::{agree_by_chunks, few_to_compare};
+use crate::combine::combined;
+use bit_addressing_memory::{BitOrder, BitRegister, Walk, most_singly, read_entry, write_entry};
+use bit_slice_chunks::any_order::direction_for;
+use bit_slice_paths::{Combination, Steps, across};
 
 // How many bits are worked on at once, at most.
 const CHUNK: usize = 64;
 
 /// `WordPaths::equal`, a step a bit.
+#[tactic(auto, using(crate::proofs::PathLemmas::takes_behind, crate::proofs::PathLemmas::takes_behind_some))]
 pub fn equal<R: BitRegister, O: BitOrder<R>>(
     words: &[R],
     place: usize,
@@ -35,10 +37,57 @@ pub fn equal<R: BitRegister, O: BitOrder<R>>(
     ensures same { result ≡ true → Takes steps.old steps.new (groups len 64) (groups len 1) }
     ensures other { result ≡ false → Takes steps.old steps.new 1 (groups len 1) }
 {
+    let few = few_to_compare::<R, O, R, O>(len);
+    for k in 0..few {
+        steps.step();
+        let bit = read_entry::<R, O>(words, place + k);
+        let other = read_entry::<R, O>(others, other_place + k);
+        if bit != other {
+            return false;
+        }
+    }
+    if few == len {
+        return true;
+    }
+    equal_by_chunks::<R, O>(
+        words,
+        place + few,
+        others,
+        other_place + few,
+        len - few,
+        steps,
+    )
+}
+
+// The same, by chunks.
+fn equal_by_chunks<R: BitRegister, O: BitOrder<R>>(
+    words: &[R],
+    place: usize,
+    others: &[R],
+    other_place: usize,
+    len: usize,
+    steps: &mut Steps,
+) -> bool
+    requires within { place + len ≤ length words.now * R.BITS }
+    requires ends { place + len < 2 ^ 64 }
+    requires other_within { other_place + len ≤ length others.now * R.BITS }
+    requires other_ends { other_place + len < 2 ^ 64 }
+    ensures value { IsTrue result ↔ ((k : ℕ) → k < len
+        → entry (read_by R.BitRegister O.position) words.now (place + k)
+        ≡ entry (read_by R.BitRegister O.position) others.now (other_place + k)) }
+    ensures same { result ≡ true → Takes steps.old steps.new len len }
+    ensures other { result ≡ false → Takes steps.old steps.new 1 len }
+{
     for k in 0..len.div_ceil(CHUNK) {
         let done = CHUNK * k;
         let count = CHUNK.min(len - done);
-        let same = agree_in::<R, O, R, O>(words, place + done, others, other_place + done, count);
+        let same = agree_by_chunks::<R, O, R, O>(
+            words,
+            place + done,
+            others,
+            other_place + done,
+            count,
+        );
         if same < count {
             steps.many(same + 1);
             return false;
@@ -225,7 +274,6 @@ pub fn xor<R: BitRegister, O: BitOrder<R>>(
 }
 
 // Makes each of `len` bits what `how` makes of it and of one of another memory.
-#[tactic(auto, using(crate::proofs::PathLemmas::count_steps))]
 fn combine<R: BitRegister, O: BitOrder<R>>(
     words: &mut [R],
     place: usize,
@@ -243,10 +291,73 @@ fn combine<R: BitRegister, O: BitOrder<R>>(
         (combined_bit how) (read_by R.BitRegister O.position) others.now other_place }
     ensures steps { Takes steps.old steps.new (groups len 64) (groups len 1) }
 {
+    if len <= most_singly::<R, O>(Walk::Copy) {
+        combine_singly::<R, O>(words, place, others, other_place, len, how, steps);
+    } else {
+        combine_by_chunks::<R, O>(words, place, others, other_place, len, how, steps);
+    }
+}
+
+// The same, bit by bit.
+#[tactic(auto, using(crate::proofs::PathLemmas::count_steps, crate::proofs::ChangedStretchLemmas::stretch_none))]
+fn combine_singly<R: BitRegister, O: BitOrder<R>>(
+    words: &mut [R],
+    place: usize,
+    others: &[R],
+    other_place: usize,
+    len: usize,
+    how: Combination,
+    steps: &mut Steps,
+)
+    requires within { place + len ≤ length words.old * R.BITS }
+    requires ends { place + len < 2 ^ 64 }
+    requires other_within { other_place + len ≤ length others.now * R.BITS }
+    requires other_ends { other_place + len < 2 ^ 64 }
+    ensures combined { Combines (read_by R.BitRegister O.position) words.old words.new place len
+        (combined_bit how) (read_by R.BitRegister O.position) others.now other_place }
+    ensures steps { Takes steps.old steps.new (groups len 64) (groups len 1) }
+{
+    for k in 0..len {
+        let bit = read_entry::<R, O>(words, place + k);
+        let other = read_entry::<R, O>(others, other_place + k);
+        write_entry::<R, O>(words, place + k, combined(how, bit, other));
+        steps.step();
+    }
+}
+
+// The same, by chunks.
+#[tactic(auto, using(crate::proofs::PathLemmas::count_steps))]
+fn combine_by_chunks<R: BitRegister, O: BitOrder<R>>(
+    words: &mut [R],
+    place: usize,
+    others: &[R],
+    other_place: usize,
+    len: usize,
+    how: Combination,
+    steps: &mut Steps,
+)
+    requires within { place + len ≤ length words.old * R.BITS }
+    requires ends { place + len < 2 ^ 64 }
+    requires other_within { other_place + len ≤ length others.now * R.BITS }
+    requires other_ends { other_place + len < 2 ^ 64 }
+    ensures combined { Combines (read_by R.BitRegister O.position) words.old words.new place len
+        (combined_bit how) (read_by R.BitRegister O.position) others.now other_place }
+    ensures steps { Takes steps.old steps.new (groups len 64) (groups len 1) }
+{
+    let way = direction_for::<R, O>();
     for k in 0..len.div_ceil(CHUNK) {
         let done = CHUNK * k;
         let count = CHUNK.min(len - done);
-        combine_in::<R, O, R, O>(words, place + done, others, other_place + done, count, how);
+        across::combine::<R, O, R, O>(
+            way,
+            way,
+            how,
+            words,
+            place + done,
+            others,
+            other_place + done,
+            count,
+        );
         steps.many(count);
     }
 }

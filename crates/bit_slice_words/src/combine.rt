@@ -5,13 +5,14 @@ ghost use Rattle.std.specs.Bool.{xor};
 ghost use Rattle.bit_addressing_memory.specs.Memory.{entry, read_by, Overwrites};
 ghost use Rattle.bit_slice_paths.specs.Combined.{combined_bit, Combines};
 
-use crate::few::few_to_combine;
-use bit_addressing_memory::{BitOrder, BitRegister, read_entry, write_entry};
+use bit_addressing_memory::{
+    BitOrder, BitRegister, Walk, most_singly_of_two, read_entry, write_entry,
+};
 use bit_slice_chunks::any_order::direction_for;
 use bit_slice_paths::{Combination, across};
 
 // The bit that two make.
-fn combined(how: Combination, bit: bool, other: bool) -> bool
+pub(crate) fn combined(how: Combination, bit: bool, other: bool) -> bool
     ensures { result ≡ combined_bit how bit other }
 {
     match how {
@@ -39,10 +40,30 @@ pub(crate) fn combine_in<R: BitRegister, O: BitOrder<R>, Q: BitRegister, P: BitO
     ensures { Combines (read_by R.BitRegister O.position) words.old words.new place len
         (combined_bit how) (read_by Q.BitRegister P.position) others.now other_place }
 {
-    if len <= few_to_combine::<R, O>().max(few_to_combine::<Q, P>()) {
+    if len <= most_singly_of_two::<R, O, Q, P>(Walk::Copy) {
         combine_singly::<R, O, Q, P>(words, place, others, other_place, len, how);
         return;
     }
+    combine_by_chunks::<R, O, Q, P>(words, place, others, other_place, len, how);
+}
+
+// The same, by chunks. Out of line, so that a few bits are combined by a short function.
+#[inline(never)]
+fn combine_by_chunks<R: BitRegister, O: BitOrder<R>, Q: BitRegister, P: BitOrder<Q>>(
+    words: &mut [R],
+    place: usize,
+    others: &[Q],
+    other_place: usize,
+    len: usize,
+    how: Combination,
+)
+    requires within { place + len ≤ length words.old * R.BITS }
+    requires ends { place + len < 2 ^ 64 }
+    requires other_within { other_place + len ≤ length others.now * Q.BITS }
+    requires other_ends { other_place + len < 2 ^ 64 }
+    ensures { Combines (read_by R.BitRegister O.position) words.old words.new place len
+        (combined_bit how) (read_by Q.BitRegister P.position) others.now other_place }
+{
     across::combine::<R, O, Q, P>(
         direction_for::<R, O>(),
         direction_for::<Q, P>(),

@@ -3,8 +3,7 @@
 ghost use Rattle.std.specs.Prelude.{◌+◌, ◌*◌, ◌^◌, ◌<◌, ◌≤◌, length};
 ghost use Rattle.bit_addressing_memory.specs.Memory.{read_by, Copies};
 
-use crate::few::few_to_combine;
-use bit_addressing_memory::{BitOrder, BitRegister, copy_between};
+use bit_addressing_memory::{BitOrder, BitRegister, Walk, copy_between, most_singly_of_two};
 use bit_slice_chunks::any_order::direction_for;
 use bit_slice_paths::{Combination, across};
 
@@ -12,7 +11,8 @@ use bit_slice_paths::{Combination, across};
 /// `words`. Both stretches lie in their memories, and their ends fit a `usize`; the two may have different words and
 /// orders. Every other bit of `words` stays.
 ///
-/// It does what `copy_between` of `bit_addressing_memory` does, but for a few bits by chunks of 64.
+/// It does what `copy_between` of `bit_addressing_memory` does: a few bits as that call does, one by one, and more by
+/// chunks of 64, but for orders that turn no word quickly.
 pub fn copy_in<Q: BitRegister, P: BitOrder<Q>, R: BitRegister, O: BitOrder<R>>(
     from: &[Q],
     source: usize,
@@ -27,10 +27,29 @@ pub fn copy_in<Q: BitRegister, P: BitOrder<Q>, R: BitRegister, O: BitOrder<R>>(
     ensures copied { Copies (read_by R.BitRegister O.position) words.old words.new
         (read_by Q.BitRegister P.position) from.now source target len }
 {
-    if len <= few_to_combine::<R, O>().max(few_to_combine::<Q, P>()) {
+    if len <= most_singly_of_two::<R, O, Q, P>(Walk::Copy) {
         copy_between::<Q, P, R, O>(from, source, words, target, len);
         return;
     }
+    copy_by_chunks::<Q, P, R, O>(from, source, words, target, len);
+}
+
+// The same, by chunks. Out of line, so that a few bits are copied by a short function.
+#[inline(never)]
+fn copy_by_chunks<Q: BitRegister, P: BitOrder<Q>, R: BitRegister, O: BitOrder<R>>(
+    from: &[Q],
+    source: usize,
+    words: &mut [R],
+    target: usize,
+    len: usize,
+)
+    requires source_in { source + len ≤ length from.now * Q.BITS }
+    requires source_ends { source + len < 2 ^ 64 }
+    requires target_in { target + len ≤ length words.old * R.BITS }
+    requires target_ends { target + len < 2 ^ 64 }
+    ensures copied { Copies (read_by R.BitRegister O.position) words.old words.new
+        (read_by Q.BitRegister P.position) from.now source target len }
+{
     across::combine::<R, O, Q, P>(
         direction_for::<R, O>(),
         direction_for::<Q, P>(),

@@ -3,15 +3,15 @@
 ghost use Rattle.std.specs.Prelude.{◌+◌, ◌*◌, ◌^◌, ◌<◌, ◌≤◌, length};
 ghost use Rattle.bit_addressing_memory.specs.Memory.{read_by, Swaps};
 
-use crate::few::few_to_combine;
-use bit_addressing_memory::{BitOrder, BitRegister, swap_within};
+use bit_addressing_memory::{BitOrder, BitRegister, Walk, most_singly, swap_within};
 use bit_slice_chunks::any_order::direction_for;
 use bit_slice_paths::exchange;
 
 /// Exchanges `len` bits of a memory, those from `first` on, with those from `second` on. The first stretch ends before
 /// the second begins, which lies in the memory, and its end fits a `usize`. Every other bit stays.
 ///
-/// It does what `swap_within` of `bit_addressing_memory` does, but for a few bits by chunks of 64.
+/// It does what `swap_within` of `bit_addressing_memory` does: a few bits as that call does, one by one, and more by chunks
+/// of 64, but for orders that turn no word quickly.
 pub fn exchange_in<R: BitRegister, O: BitOrder<R>>(
     words: &mut [R],
     first: usize,
@@ -23,9 +23,25 @@ pub fn exchange_in<R: BitRegister, O: BitOrder<R>>(
     requires ends { second + len < 2 ^ 64 }
     ensures swapped { Swaps (read_by R.BitRegister O.position) words.old words.new first second len }
 {
-    if len <= few_to_combine::<R, O>() {
+    if len <= most_singly::<R, O>(Walk::Copy) {
         swap_within::<R, O>(words, first, second, len);
         return;
     }
+    exchange_by_chunks::<R, O>(words, first, second, len);
+}
+
+// The same, by chunks. Out of line, so that a few bits are exchanged by a short function.
+#[inline(never)]
+fn exchange_by_chunks<R: BitRegister, O: BitOrder<R>>(
+    words: &mut [R],
+    first: usize,
+    second: usize,
+    len: usize,
+)
+    requires apart { first + len ≤ second }
+    requires within { second + len ≤ length words.old * R.BITS }
+    requires ends { second + len < 2 ^ 64 }
+    ensures swapped { Swaps (read_by R.BitRegister O.position) words.old words.new first second len }
+{
     exchange::exchange::<R, O>(direction_for::<R, O>(), words, first, second, len);
 }

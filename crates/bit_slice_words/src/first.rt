@@ -6,17 +6,17 @@ ghost use Rattle.bit_addressing_memory.specs.Straight.{Goes};
 ghost use Rattle.bit_slice_words.specs.Found.{is_bit};
 ghost use Rattle.bit_slice_words.specs.Stretch.{bit_found, IsFirst, Nowhere};
 
-use crate::by_chunks::first_by_chunks;
 use crate::edges::edges_of;
 use crate::lacking::lacks;
+use crate::parts::first_in_part;
 use bit_addressing_memory::mem::bits_of;
 use bit_addressing_memory::{BitIdx, BitOrder, BitRegister, Direction, direction_of, read_bit};
 
 /// The index of the first of the `len` bits from a place on that is `bit`, counted from that place; `None` where
 /// none is.
 ///
-/// A whole word that has no such bit is passed over by one comparison; where the order goes straight, up to 64 bits are
-/// looked at in one step. It answers as `first_one` of a slice in bitvec 1.1.1, and for false as `first_zero`.
+/// A whole word that has no such bit is passed over by one comparison; where the order goes straight, a part of a word is
+/// looked at as one number. It answers as `first_one` of a slice in bitvec 1.1.1, and for false as `first_zero`.
 pub fn first_in<R: BitRegister, O: BitOrder<R>>(
     words: &[R],
     place: usize,
@@ -33,34 +33,8 @@ pub fn first_in<R: BitRegister, O: BitOrder<R>>(
     }
 }
 
-// How many bits of a word are looked at one by one, before a chunk of it: most are found there.
-pub(crate) const NEAR: u8 = 4;
-
-// From how many bits on many narrow words are looked at by chunks.
-pub(crate) const MANY: usize = 256;
-
-// The place of the first of some bits that is `bit`.
-#[inline(always)]
+// The place of the first of some bits that is `bit`: in the first word, in the words between or in the last word.
 fn first_place<R: BitRegister, O: BitOrder<R>>(
-    words: &[R],
-    place: usize,
-    len: usize,
-    bit: bool,
-) -> Option<usize>
-    requires within { place + len ≤ length words.now * R.BITS }
-    requires ends { place + len < 2 ^ 64 }
-    ensures { IsFirst (bit_found (read_by R.BitRegister O.position) words.now bit) place (place + len) result }
-{
-    if R::BITS < 64 && MANY <= len {
-        if let Some(direction) = direction_of::<R, O>() {
-            return first_by_chunks::<R, O>(direction, words, place, len, bit);
-        }
-    }
-    first_by_words::<R, O>(words, place, len, bit)
-}
-
-// `first_place` by words: in the first word, in the words between or in the last word.
-fn first_by_words<R: BitRegister, O: BitOrder<R>>(
     words: &[R],
     place: usize,
     len: usize,
@@ -110,6 +84,7 @@ fn next_word<R: BitRegister, O: BitOrder<R>>(
 }
 
 // The place of the first bit that is `bit` in a part of a word.
+#[inline(always)]
 fn first_at<R: BitRegister, O: BitOrder<R>>(
     words: &[R],
     word: usize,
@@ -124,22 +99,15 @@ fn first_at<R: BitRegister, O: BitOrder<R>>(
     ensures { IsFirst (bit_found (read_by R.BitRegister O.position) words.now bit)
         (word * R.BITS + from) (word * R.BITS + upto) result }
 {
-    if lacks::<R, O>(words[word], bit) {
-        return None;
-    }
-    let near = upto.min(from + NEAR);
-    if let Some(at) = first_singly::<R, O>(words, word, from, near, bit) {
-        return Some(at);
-    }
     match direction_of::<R, O>() {
-        Some(direction) => first_rest::<R, O>(direction, words, word, near, upto, bit),
-        None => first_singly::<R, O>(words, word, near, upto, bit),
+        Some(direction) => first_straight::<R, O>(direction, words, word, from, upto, bit),
+        None => first_singly::<R, O>(words, word, from, upto, bit),
     }
 }
 
-// The same, by chunks. Out of line, since most are near.
-#[inline(never)]
-fn first_rest<R: BitRegister, O: BitOrder<R>>(
+// The same where the positions go straight: 64 bits at most are one number.
+#[inline(always)]
+fn first_straight<R: BitRegister, O: BitOrder<R>>(
     direction: Direction,
     words: &[R],
     word: usize,
@@ -155,11 +123,26 @@ fn first_rest<R: BitRegister, O: BitOrder<R>>(
     ensures { IsFirst (bit_found (read_by R.BitRegister O.position) words.now bit)
         (word * R.BITS + from) (word * R.BITS + upto) result }
 {
-    let place = word * bits_of::<R>() + from as usize;
-    first_by_chunks::<R, O>(direction, words, place, (upto - from) as usize, bit)
+    if from == upto {
+        return None;
+    }
+    if lacks::<R, O>(words[word], bit) {
+        return None;
+    }
+    if R::BITS <= 64 {
+        return first_in_part::<R, O>(direction, words, word, from, upto, bit);
+    }
+    let middle = upto.min(from + 64);
+    if let Some(at) = first_in_part::<R, O>(direction, words, word, from, middle, bit) {
+        return Some(at);
+    }
+    if middle == upto {
+        return None;
+    }
+    first_in_part::<R, O>(direction, words, word, middle, upto, bit)
 }
 
-// The same, bit by bit.
+// The same bit by bit.
 fn first_singly<R: BitRegister, O: BitOrder<R>>(
     words: &[R],
     word: usize,
@@ -184,6 +167,9 @@ fn first_index<R: BitRegister, O: BitOrder<R>>(word: R, from: u8, upto: u8, bit:
     requires { upto ≤ R.BITS }
     ensures { IsFirst (λ i. is_bit bit (indexed R.number O.position word i)) from upto result }
 {
+    if lacks::<R, O>(word, bit) {
+        return None;
+    }
     for i in from..upto {
         if read_bit::<R, O>(word, BitIdx::new_unchecked(i)) == bit {
             return Some(i);

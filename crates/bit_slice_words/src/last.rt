@@ -6,18 +6,18 @@ ghost use Rattle.bit_addressing_memory.specs.Straight.{Goes};
 ghost use Rattle.bit_slice_words.specs.Found.{is_bit, last_position};
 ghost use Rattle.bit_slice_words.specs.Stretch.{bit_found, IsLast, Nowhere};
 
-use crate::by_chunks::last_by_chunks;
 use crate::edges::edges_of;
-use crate::first::{MANY, NEAR};
 use crate::lacking::lacks;
+use crate::parts::last_in_part;
 use bit_addressing_memory::mem::bits_of;
 use bit_addressing_memory::{BitIdx, BitOrder, BitRegister, Direction, direction_of, read_bit};
 
 /// The index of the last of the `len` bits from a place on that is `bit`, counted from that place; `None` where
 /// none is.
 ///
-/// A whole word that has no such bit is passed over by one comparison; where the order goes straight, up to 64 bits are
-/// looked at in one step. It answers as `last_one` of a slice in bitvec 1.1.1, and for false as `last_zero`.
+/// A whole word that has no such bit is passed over by one comparison; where the order goes straight, a part of a word is
+/// looked at as one number. It answers as `last_one` of a slice in bitvec
+/// 1.1.1, and for false as `last_zero`.
 pub fn last_in<R: BitRegister, O: BitOrder<R>>(
     words: &[R],
     place: usize,
@@ -35,28 +35,8 @@ pub fn last_in<R: BitRegister, O: BitOrder<R>>(
     }
 }
 
-// The place of the last of some bits that is `bit`.
-#[inline(always)]
+// The place of the last of some bits that is `bit`: in the last word, in the words between or in the first word.
 fn last_place<R: BitRegister, O: BitOrder<R>>(
-    words: &[R],
-    place: usize,
-    len: usize,
-    bit: bool,
-) -> Option<usize>
-    requires within { place + len ≤ length words.now * R.BITS }
-    requires ends { place + len < 2 ^ 64 }
-    ensures { IsLast (bit_found (read_by R.BitRegister O.position) words.now bit) place (place + len) result }
-{
-    if R::BITS < 64 && MANY <= len {
-        if let Some(direction) = direction_of::<R, O>() {
-            return last_by_chunks::<R, O>(direction, words, place, len, bit);
-        }
-    }
-    last_by_words::<R, O>(words, place, len, bit)
-}
-
-// `last_place` by words: in the last word, in the words between or in the first word.
-fn last_by_words<R: BitRegister, O: BitOrder<R>>(
     words: &[R],
     place: usize,
     len: usize,
@@ -108,6 +88,7 @@ fn word_before<R: BitRegister, O: BitOrder<R>>(
 }
 
 // The place of the last bit that is `bit` in a part of a word.
+#[inline(always)]
 fn last_at<R: BitRegister, O: BitOrder<R>>(
     words: &[R],
     word: usize,
@@ -122,22 +103,15 @@ fn last_at<R: BitRegister, O: BitOrder<R>>(
     ensures { IsLast (bit_found (read_by R.BitRegister O.position) words.now bit)
         (word * R.BITS + from) (word * R.BITS + upto) result }
 {
-    if lacks::<R, O>(words[word], bit) {
-        return None;
-    }
-    let near = from.max(upto.saturating_sub(NEAR));
-    if let Some(at) = last_singly::<R, O>(words, word, near, upto, bit) {
-        return Some(at);
-    }
     match direction_of::<R, O>() {
-        Some(direction) => last_rest::<R, O>(direction, words, word, from, near, bit),
-        None => last_singly::<R, O>(words, word, from, near, bit),
+        Some(direction) => last_straight::<R, O>(direction, words, word, from, upto, bit),
+        None => last_singly::<R, O>(words, word, from, upto, bit),
     }
 }
 
-// The same, by chunks. Out of line, since most are near.
-#[inline(never)]
-fn last_rest<R: BitRegister, O: BitOrder<R>>(
+// The same where the positions go straight: 64 bits at most are one number.
+#[inline(always)]
+fn last_straight<R: BitRegister, O: BitOrder<R>>(
     direction: Direction,
     words: &[R],
     word: usize,
@@ -153,11 +127,26 @@ fn last_rest<R: BitRegister, O: BitOrder<R>>(
     ensures { IsLast (bit_found (read_by R.BitRegister O.position) words.now bit)
         (word * R.BITS + from) (word * R.BITS + upto) result }
 {
-    let place = word * bits_of::<R>() + from as usize;
-    last_by_chunks::<R, O>(direction, words, place, (upto - from) as usize, bit)
+    if from == upto {
+        return None;
+    }
+    if lacks::<R, O>(words[word], bit) {
+        return None;
+    }
+    if R::BITS <= 64 {
+        return last_in_part::<R, O>(direction, words, word, from, upto, bit);
+    }
+    let middle = from.max(upto.saturating_sub(64));
+    if let Some(at) = last_in_part::<R, O>(direction, words, word, middle, upto, bit) {
+        return Some(at);
+    }
+    if from == middle {
+        return None;
+    }
+    last_in_part::<R, O>(direction, words, word, from, middle, bit)
 }
 
-// The same, bit by bit.
+// The same bit by bit.
 fn last_singly<R: BitRegister, O: BitOrder<R>>(
     words: &[R],
     word: usize,
@@ -182,6 +171,9 @@ fn last_index<R: BitRegister, O: BitOrder<R>>(word: R, from: u8, upto: u8, bit: 
     requires { upto ≤ R.BITS }
     ensures { IsLast (λ i. is_bit bit (indexed R.number O.position word i)) from upto result }
 {
+    if lacks::<R, O>(word, bit) {
+        return None;
+    }
     let mut k = upto;
     while from < k {
         k -= 1;

@@ -3,7 +3,6 @@
 
 mod agree;
 pub mod by_bits;
-mod by_chunks;
 mod change;
 mod combine;
 mod compare;
@@ -13,13 +12,13 @@ mod count;
 mod edges;
 mod equal;
 mod exchange;
-mod few;
 mod fill;
 mod first;
 mod invert;
 mod lacking;
 mod last;
 mod moves;
+mod parts;
 mod paths;
 mod reverse;
 mod rotate;

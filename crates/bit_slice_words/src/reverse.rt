@@ -3,8 +3,7 @@
 ghost use Rattle.std.specs.Prelude.{◌+◌, ◌-◌, ◌*◌, ◌^◌, ◌<◌, ◌≤◌, length};
 ghost use Rattle.bit_addressing_memory.specs.Memory.{entry, read_by, Overwrites};
 
-use crate::few::few_to_turn;
-use bit_addressing_memory::{BitOrder, BitRegister, swap_entries};
+use bit_addressing_memory::{BitOrder, BitRegister, Walk, most_singly, swap_entries};
 use bit_slice_chunks::any_order::direction_for;
 use bit_slice_paths::mirror;
 
@@ -18,7 +17,7 @@ pub fn reverse_in<R: BitRegister, O: BitOrder<R>>(words: &mut [R], place: usize,
     ensures reversed { Overwrites (read_by R.BitRegister O.position) words.old words.new place len
         (λ k. entry (read_by R.BitRegister O.position) words.old (place + (len - 1 - k))) }
 {
-    if len <= few_to_turn::<R, O>() {
+    if len <= most_singly::<R, O>(Walk::Turn) {
         reverse_singly::<R, O>(words, place, len);
         return;
     }

@@ -1,6 +1,6 @@
 -- Rows whose letters change, and rows that go.
 --
--- Letters decided by letters: `lettered_decided`; told row by row: `lettered_told`, `told_on`, `length-told`; answers as
+-- Letters decided by letters: `lettered_decided`; told row by row: `lettered_told`, `told_more`, `told_on`, `length-told`; answers as
 -- digits: `one_told`, `none_told`. What is told of them: `count-lettered`, `ones-passing`, `bears-letters`, `one_found`, `none_found`, `none_among`,
 -- `none_in_zero`, `take_chunk`. Rows that do not bear a letter: `staying-lettered`, `count-staying`. Rows without
 -- letters: `blank-from`.
@@ -8,7 +8,7 @@ use Rattle.std.proofs.Common.{◌≡◌, ◌≢◌, ℕ, zero, suc, ◌+◌, ◌
 use Rattle.std.proofs.Common.{List, [], ◌∷◌, ◌++◌, length, map, bit_or}
 use Rattle.std.proofs.Common.{cond, get_or, min, take, inl, inr, refl, sym, ap, ap₂, ◌∙◌, arith, if◌then◌else◌}
 use Rattle.std.specs.Int.{bit_at, w64}
-use Rattle.std.specs.Prelude.{count_by, replicate}
+use Rattle.std.specs.Prelude.{count_by, replicate, slice_index_or, slice_set}
 use Rattle.std.specs.List.{filter}
 use Rattle.std.specs.FinSet as set
 use Rattle.std.proofs.lemmas.Bool.{cases_Bool, cases_eq, cases_lt}
@@ -53,6 +53,20 @@ pub length-told : (x : ℕ) (flags : List Bool) (marks : List LetterSet) → len
 length-told x [] marks = refl
 length-told x (flag ∷ flags) [] = refl
 length-told x (flag ∷ flags) (letters ∷ marks) = ap suc (length-told x flags marks)
+
+-- one flag more
+pub told_more : (x : ℕ) (flags : List Bool) (i : ℕ) (d : Bool) (marks : List LetterSet) → i < length flags
+    → length flags ≤ length marks
+    → told x (take (i + 1) flags) marks
+    ≡ slice_set (told x (take i flags) marks) i
+    (with_letter x (get_or flags i d) (slice_index_or (told x (take i flags) marks) i set.empty))
+told_more x [] i d marks low enough = absurd (omega (arith, low))
+told_more x (flag ∷ flags) i d [] low enough = absurd (omega (arith, enough))
+told_more x (flag ∷ flags) zero d (letters ∷ marks) low enough = refl
+told_more x (flag ∷ flags) (suc i) d (letters ∷ marks) low enough =
+    let count : suc i + 1 ≡ suc (i + 1) = omega arith in
+    ap (λ m. told x (take m (flag ∷ flags)) (letters ∷ marks)) count
+    ∙ ap (λ ls. with_letter x flag letters ∷ ls) (told_more x flags i d marks (omega (arith, low)) (omega (arith, enough)))
 
 -- a row that has a flag, and one that has none
 told_at : (x : ℕ) (flags : List Bool) (marks : List LetterSet) (k : ℕ) → k < length flags → k < length marks

@@ -13,13 +13,13 @@ ghost use Rattle.bit_table_commands.specs.Marks.{number_in_field, passes};
 ghost use Rattle.bit_table_fields.specs.Windows.{number_held};
 ghost use Rattle.bit_table.specs.Told.{ones_from, told, AreDigits, HasChunk};
 
-use bit_addressing_memory::{BitOrder, BitRegister, Direction};
+use bit_addressing_memory::{BitOrder, BitRegister, Direction, Walk, most_singly};
 use bit_containers_vector::BitVec;
 use bit_slice_chunks::any_order::{direction_for, read_bits, read_chunk};
 use bit_slice_views::{BitSlice, BitStore, Bits};
 use bit_slice_words::{Steps, WordPaths};
 use bit_table_commands::Test;
-use bit_table_fields::{Digits, bits_before};
+use bit_table_fields::{Digits, bits_before, load_number};
 use bit_table_layout::{Layout, Rule};
 use bit_table_rows::Letters;
 use std::alloc::{AllocError, Global};
@@ -40,6 +40,65 @@ struct Column {
 
 // Makes exactly those rows bear a letter whose number of a field passes a test.
 pub(crate) fn mark_rows<T: BitStore, O: WordPaths<T> + Digits<T>>(
+    letters: &mut Letters<T, O>,
+    layout: &Layout,
+    bits: &BitVec<T, O>,
+    letter: usize,
+    field: usize,
+    test: Test,
+    value: i128,
+)
+    requires letter { letter < letter_count }
+    requires field { field < length layout.now.fields }
+    requires bits { length (vec_bits (read_by T.BitRegister O.position) bits.now)
+        ≡ length letters.old * row_width layout.now.fields }
+    ensures { letters.new ≡ told letter
+        (map (λ row. passes test (number_in_field (Some field) row) value)
+        (rows_from layout.now (length letters.old) (vec_bits (read_by T.BitRegister O.position) bits.now)))
+        letters.old }
+{
+    if letters.rows() <= most_singly::<T, O>(Walk::Fill) {
+        mark_singly(letters, layout, bits, letter, field, test, value);
+    } else {
+        mark_by_blocks(letters, layout, bits, letter, field, test, value);
+    }
+}
+
+// The same, row by row.
+fn mark_singly<T: BitStore, O: WordPaths<T> + Digits<T>>(
+    letters: &mut Letters<T, O>,
+    layout: &Layout,
+    bits: &BitVec<T, O>,
+    letter: usize,
+    field: usize,
+    test: Test,
+    value: i128,
+)
+    requires letter { letter < letter_count }
+    requires field { field < length layout.now.fields }
+    requires bits { length (vec_bits (read_by T.BitRegister O.position) bits.now)
+        ≡ length letters.old * row_width layout.now.fields }
+    ensures { letters.new ≡ told letter
+        (map (λ row. passes test (number_in_field (Some field) row) value)
+        (rows_from layout.now (length letters.old) (vec_bits (read_by T.BitRegister O.position) bits.now)))
+        letters.old }
+{
+    let width = layout.row_bits();
+    let rule = layout.rule();
+    let shape = &layout.fields()[field];
+    let (digits, signed) = (shape.width(), shape.signed());
+    let first = bits_before(layout, field);
+    // As many bits as a `usize` counts, and so each row's place is one.
+    let _bits = bits.len();
+    for row in 0..letters.rows() {
+        let mut steps = Steps::new();
+        let number = load_number(bits, row * width + first, rule, digits, signed, &mut steps);
+        letters.put(letter, row, test.passes(number, value));
+    }
+}
+
+// The same, 64 rows at once.
+fn mark_by_blocks<T: BitStore, O: WordPaths<T> + Digits<T>>(
     letters: &mut Letters<T, O>,
     layout: &Layout,
     bits: &BitVec<T, O>,
@@ -136,7 +195,7 @@ fn with_answer(answers: u64, index: usize, passes: bool) -> u64
     answers | (u64::from(passes) << index)
 }
 
-// The places of the ones among bits, in order. Memory for all of them is taken first.
+// The places of the ones among bits, in order.
 pub(crate) fn places_of_ones<T: BitRegister, O: BitOrder<T>>(
     alloc: Global,
     bits: BitSlice<'_, T, O>,
@@ -144,8 +203,31 @@ pub(crate) fn places_of_ones<T: BitRegister, O: BitOrder<T>>(
     ensures { IfOk result (λ places. places.items
         ≡ ones_from 0 (view_bits (read_by T.BitRegister O.position) bits.entry)) }
 {
+    if bits.len() <= most_singly::<T, O>(Walk::Look) {
+        return places_singly(alloc, bits);
+    }
+
+    // Memory for all of them is taken first.
     let mut places = Vec::with_capacity(alloc, bits.count_ones())?;
     add_by_chunks(direction_for::<T, O>(), &mut places, bits)?;
+    Ok(places)
+}
+
+// The same, bit by bit.
+fn places_singly<T: BitRegister, O: BitOrder<T>>(
+    alloc: Global,
+    bits: BitSlice<'_, T, O>,
+) -> Result<Vec<usize>, AllocError>
+    ensures { IfOk result (λ places. places.items
+        ≡ ones_from 0 (view_bits (read_by T.BitRegister O.position) bits.entry)) }
+{
+    let (_, _, len) = bits.parts();
+    let mut places = Vec::new(alloc);
+    for place in 0..len {
+        if bits.bit(place) {
+            places.push(place)?;
+        }
+    }
     Ok(places)
 }
 

@@ -119,7 +119,7 @@ pub(crate) fn number_of(digits: u64, width: u32, signed: bool) -> i128
 }
 
 // The number that a list holds, from its highest digit on.
-fn load<V: Bits>(rule: Rule, view: &V, signed: bool, steps: &mut Steps) -> i128
+pub(crate) fn load<V: Bits>(rule: Rule, view: &V, signed: bool, steps: &mut Steps) -> i128
     requires some { 1 ≤ length (V.bits view.now) }
     requires narrow { length (V.bits view.now) ≤ 64 }
     ensures value { result ≡ number_held rule signed (length (V.bits view.now)) (V.bits view.now) }
@@ -136,7 +136,8 @@ fn load<V: Bits>(rule: Rule, view: &V, signed: bool, steps: &mut Steps) -> i128
 }
 
 // Makes each of the bits from `at` on the digit that stands there.
-fn store<V: BitsMut>(
+#[inline(always)]
+pub(crate) fn store<V: BitsMut>(
     rule: Rule,
     view: &mut V,
     at: usize,

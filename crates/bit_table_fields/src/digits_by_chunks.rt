@@ -1,4 +1,5 @@
-//! Numbers in windows by chunks, for every order. A call counts one step a bit, as `digits_by_bits` does.
+//! Numbers in windows for every order: by a chunk, which counts one step a bit; a few bits, and all where the order turns no
+//! word quickly, by `digits_by_bits`.
 
 ghost use Rattle.std.specs.Prelude.{◌≡◌, ℕ, ◌+◌, ◌*◌, ◌^◌, ◌<◌, ◌≤◌, length};
 ghost use Rattle.bit_addressing_memory.specs.Bits.{digit_at};
@@ -10,9 +11,11 @@ ghost use Rattle.bit_table_fields.specs.Windows.{number_held};
 ghost use Rattle.bit_table_layout.specs.Digits.{has_digit};
 ghost use Rattle.bit_table_layout.specs.Rows.{field_bits};
 
+use crate::digits_by_bits;
 use crate::digits_by_bits::number_of;
-use bit_addressing_memory::{BitOrder, BitRegister, Direction};
+use bit_addressing_memory::{BitOrder, BitRegister, Direction, Walk, most_singly};
 use bit_slice_chunks::any_order::{read_bits, write_bits};
+use bit_slice_views::BitSlice;
 use bit_slice_views_mut::BitsMut;
 use bit_slice_words::Steps;
 use bit_table_layout::Rule;
@@ -34,6 +37,10 @@ pub(crate) fn load<R: BitRegister, O: BitOrder<R>>(
         (piece (memory (read_by R.BitRegister O.position) words.now) place width) }
     ensures steps { Takes steps.old steps.new width width }
 {
+    if width as usize <= most_singly::<R, O>(Walk::Number) {
+        let view = BitSlice::<R, O>::from_place(words, place, width as usize);
+        return digits_by_bits::load(rule, &view, signed, steps);
+    }
     let chunk = read_bits::<R, O>(way_of(rule), words, place, width as usize);
     let digits = digits_of(rule, chunk, width);
     steps.many(width as usize);
@@ -41,7 +48,33 @@ pub(crate) fn load<R: BitRegister, O: BitOrder<R>>(
 }
 
 /// `Digits::store_low_at` or `Digits::store_high_at`, as the rule says.
+#[inline(always)]
 pub(crate) fn store<V: BitsMut>(
+    rule: Rule,
+    view: &mut V,
+    at: usize,
+    width: u32,
+    value: i128,
+    steps: &mut Steps,
+)
+    requires some { 1 ≤ width }
+    requires narrow { width ≤ 64 }
+    requires within { at + width ≤ length (V.bits view.old) }
+    ensures bits { V.bits view.new ≡ with_piece (V.bits view.old) at (field_bits rule width value) }
+    ensures len { length (V.bits view.new) ≡ length (V.bits view.old) }
+    ensures frame { V.frame view.new ≡ V.frame view.old }
+    ensures steps { Takes steps.old steps.new width width }
+{
+    if width as usize <= most_singly::<V::Store, V::Order>(Walk::Number) {
+        digits_by_bits::store(rule, view, at, width, value, steps);
+        return;
+    }
+    store_chunk(rule, view, at, width, value, steps);
+}
+
+// The same by a chunk. Out of line, so that a few bits are stored by a short function.
+#[inline(never)]
+fn store_chunk<V: BitsMut>(
     rule: Rule,
     view: &mut V,
     at: usize,

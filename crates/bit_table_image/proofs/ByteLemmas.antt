@@ -101,12 +101,12 @@ first_of_bytes rule at bytes n reads small enough =
 -- ---- bytes of bits
 
 -- the place, among eight, of the bit that weighs 2 ^ (7 - j)
-abbrev weighed_place : Rule → ℕ → ℕ
+abbrev pub weighed_place : Rule → ℕ → ℕ
 weighed_place Low j = 7 - j
 weighed_place High j = j
 
 -- the bit that weighs 2 ^ (7 - j), false past the end
-abbrev weighed : Rule → ℕ → List Bool → ℕ → Bool
+abbrev pub weighed : Rule → ℕ → List Bool → ℕ → Bool
 weighed rule first bits j = get_or bits (first + weighed_place rule j) false
 
 get_or-zeros : (n k : ℕ) → get_or (replicate n false) k false ≡ false
@@ -143,7 +143,7 @@ padded first bits =
     ∙ get_or-drop first bits k false)
 
 -- the eight bits by their weights, the first of them at the top
-byte_all : (rule : Rule) (first : ℕ) (bits : List Bool)
+pub byte_all : (rule : Rule) (first : ℕ) (bits : List Bool)
     → binary (reverse (map (weighed rule first bits) (range_with_len 0 8))) ≡ byte_of rule (take 8 (drop first bits))
 byte_all Low first bits =
     let eight = take 8 (drop first bits) in

@@ -19,6 +19,7 @@ pub fn number_up_to(word: &[u8], most: u128) -> u128
 {
     if word.len() <= SHORT {
         let number = number_up_to_64_bits(word);
+        // It always is, of so few digits; the proof is told it by the test.
         if number < u64::MAX {
             return most.min(u128::from(number));
         }

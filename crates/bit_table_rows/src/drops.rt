@@ -1,8 +1,10 @@
 //! Bits taken out of lists where one of the lists has a one.
 
-ghost use Rattle.std.specs.Prelude.{◌≡◌, ◌≢◌, ◌<◌, ◌≤◌, false, count_by, length, not, replicate};
+ghost use Rattle.std.specs.Prelude.{◌≡◌, ◌≢◌, ◌<◌, ◌≤◌, true, false, count_by, length, not, replicate};
+ghost use Rattle.std.specs.List.{list_any};
 ghost use Rattle.std.specs.Prelude.{slice_index, slice_index_or};
 ghost use Rattle.bit_addressing_memory.specs.Memory.{read_by, touched};
+ghost use Rattle.bit_slice_views.specs.View.{view_bits};
 ghost use Rattle.bit_containers_vector.specs.Vector.{vec_bits, vec_head};
 ghost use Rattle.bit_table_rows.specs.Lists.{HasBits, IsColumn};
 ghost use Rattle.bit_table_rows.specs.Walk.{Becomes, ChangesAt, EachHas};
@@ -10,10 +12,12 @@ ghost use Rattle.bit_table_rows.specs.RowsKept.{left_of};
 
 use crate::vectors::keep_rows_of;
 use crate::windows::clear_window;
-use bit_addressing_memory::BitOrder;
+use bit_addressing_memory::mem::bits_of;
+use bit_addressing_memory::{BitOrder, BitRegister};
 use bit_containers_vector::BitVec;
-use bit_slice_views::{BitStore, Bits};
+use bit_slice_views::{BitSlice, BitStore, Bits};
 use bit_slice_views_mut::BitsMut;
+use bit_slice_words::lacks;
 
 // Takes the bits out of each list of `n` bits where the list of a letter has a one, and tells how many words the move
 // of each wrote. That list comes last: what stays of it is zeros, and no move writes them. It answers how many bits
@@ -98,11 +102,29 @@ fn drop_flagged<T: BitStore, O: BitOrder<T>>(
     ensures writes { result
         ≤ touched T.BITS 0 (count_by not (vec_bits (read_by T.BitRegister O.position) flags.now)) }
 {
-    if list.not_any() {
+    if words_are_zero(list.as_bitslice()) {
         return leave_zeros(list, left);
     }
     let (_left, writes) = keep_rows_of(list, n, 1, flags.as_bitslice());
     writes
+}
+
+// Whether each word of a list is zero, and so each of its bits: a comparison a word tells it. Where a bit beside the list
+// is 1 it is not so.
+fn words_are_zero<T: BitRegister, O: BitOrder<T>>(list: BitSlice<'_, T, O>) -> bool
+    ensures { result ≡ true → list_any (λ b. b) (view_bits (read_by T.BitRegister O.position) list.entry) ≡ false }
+{
+    let (words, head, len) = list.parts();
+    let end = head as usize + len;
+    if end == 0 {
+        return true;
+    }
+    for k in 0..(end - 1) / bits_of::<T>() + 1 {
+        if !lacks::<T, O>(words[k], true) {
+            return false;
+        }
+    }
+    true
 }
 
 // Makes a list so many zeros, no more than it has bits, and answers how many words it wrote: each that they touch once,

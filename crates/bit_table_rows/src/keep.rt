@@ -1,14 +1,13 @@
 //! Rows kept by one sweep, the others left out.
 //!
 //! The kept rows' bits are gathered into words one after another, and each word is put once, when it is full or when
-//! all rows are there. As many bits at a time are moved as fit into the word at hand: by shifts where the positions of
-//! a word go straight with its indices, else by limbs.
+//! all rows are there. Rows that stay one behind the other move as one, as many bits at a time as fit into the word at
+//! hand; a few bits go one by one.
 
 ghost use Rattle.std.specs.Prelude.{◌≡◌, ℕ, ◌+◌, ◌-◌, ◌*◌, ◌/◌, ◌%◌, ◌^◌, ◌<◌, ◌≤◌, Bool, true, false, List, length};
 ghost use Rattle.std.specs.Prelude.{Some, count_by, not, slice_index_or};
 ghost use Rattle.bit_addressing_memory.specs.Memory.{Overwrites, entry, memory, piece, read_by, touched};
 ghost use Rattle.bit_addressing_memory.specs.Moves.{changed};
-ghost use Rattle.bit_addressing_memory.specs.Partial.{IsStored};
 ghost use Rattle.bit_addressing_memory.specs.Straight.{Goes};
 ghost use Rattle.bit_addressing_memory.specs.declared.direction.Direction.{Direction};
 ghost use Rattle.bit_addressing_memory.specs.Sweep.{IsFresh, SameButReads, edge_of, sweep_lender, sweep_words, way_of};
@@ -20,12 +19,9 @@ ghost use Rattle.bit_table_rows.specs.RowsKept.{KeepsRows, rows_kept};
 
 use bit_addressing_memory::mem::bits_of;
 use bit_addressing_memory::{
-    BitIdx, BitOrder, BitRegister, Direction, Sweep, direction_of, read_bit, taken, write_bit,
+    BitIdx, BitOrder, BitRegister, Direction, Sweep, Walk, direction_of, most_singly, taken,
 };
 use bit_slice_views::{BitSlice, Bits};
-
-// How many bits are moved one by one.
-const FEW: usize = 2;
 
 /// Keeps those of the `n` rows whose entry in `off` is false: they come to lie in their order from bit `head` of the
 /// sweep's first word on, and it answers how many they are. The rows have `w` bits each and lie end to end from that bit
@@ -68,6 +64,7 @@ pub fn keep_rows<T: BitRegister, O: BitOrder<T>>(
     let first = head.into_inner() as usize;
     // Told once: looked for anew at each row it would cost more than the row where it is not known beforehand.
     let direction = direction_of::<T, O>();
+    let few = most_singly::<T, O>(Walk::Keep);
     let mut word = T::ZERO;
     let mut kept: usize = 0;
     let mut k: usize = 0;
@@ -78,7 +75,8 @@ pub fn keep_rows<T: BitRegister, O: BitOrder<T>>(
             // Rows that stay one behind the other move as one.
             let upto = stay_upto::<T, O>(off, k + 1, n);
             let (to, from) = (first + kept * w, first + k * w);
-            word = keep_run::<T, O>(sweep, direction, word, first, to, from, (upto - k) * w);
+            let len = (upto - k) * w;
+            word = keep_run::<T, O>(sweep, direction, few, word, first, to, from, len);
             kept += upto - k;
             k = upto;
             if k < n {
@@ -111,11 +109,13 @@ fn stay_upto<T: BitRegister, O: BitOrder<T>>(off: BitSlice<'_, T, O>, k: usize, 
 }
 
 // Puts the bits of rows, which stand from the place `from` on, to the place `to` on. `word` is at hand for the word of
-// `to`, and the word for the place behind them is answered. The positions go in `direction`, where there is one.
+// `to`, and the word for the place behind them is answered. The positions go in `direction`, where there is one; up to
+// `few` bits go one by one.
 #[inline(always)]
 fn keep_run<T: BitRegister, O: BitOrder<T>>(
     sweep: &mut Sweep<'_, T>,
     direction: Option<Direction>,
+    few: usize,
     word: T,
     first: usize,
     to: usize,
@@ -131,14 +131,34 @@ fn keep_run<T: BitRegister, O: BitOrder<T>>(
     ensures { Fills (read_by T.BitRegister O.position) sweep.old sweep.new word result first to
         (piece (memory (read_by T.BitRegister O.position) (sweep_words sweep.old)) from len) }
 {
-    if len == 1 {
-        return keep_part::<T, O>(sweep, direction, word, first, to, from, 1);
-    }
-    if len == 2 {
-        let next = keep_part::<T, O>(sweep, direction, word, first, to, from, 1);
-        return keep_part::<T, O>(sweep, direction, next, first, to + 1, from + 1, 1);
+    if len <= few {
+        return keep_bits::<T, O>(sweep, word, first, to, from, len);
     }
     keep_many::<T, O>(sweep, direction, word, first, to, from, len)
+}
+
+// The same, bit by bit.
+fn keep_bits<T: BitRegister, O: BitOrder<T>>(
+    sweep: &mut Sweep<'_, T>,
+    word: T,
+    first: usize,
+    to: usize,
+    from: usize,
+    len: usize,
+) -> T
+    requires way { way_of sweep.old ≡ Up }
+    requires edge { edge_of sweep.old ≤ to / T.BITS }
+    requires order { to ≤ from }
+    requires within { from + len ≤ length (sweep_words sweep.old) * T.BITS }
+    requires ends { from + len < 2 ^ 64 }
+    ensures { Fills (read_by T.BitRegister O.position) sweep.old sweep.new word result first to
+        (piece (memory (read_by T.BitRegister O.position) (sweep_words sweep.old)) from len) }
+{
+    let mut next = word;
+    'bits: for i in 0..len {
+        next = keep_part::<T, O>(sweep, None, next, first, to + i, from + i, 1);
+    }
+    next
 }
 
 // The same, as many at a time as come to lie in one word.
@@ -198,7 +218,7 @@ fn keep_part<T: BitRegister, O: BitOrder<T>>(
     let bits = bits_of::<T>();
     let index = to % bits;
     let own = begun::<T, O>(sweep, word, first, to);
-    let next = taken_from::<T, O>(
+    let next = taken::<T, O>(
         sweep,
         direction,
         from,
@@ -210,70 +230,6 @@ fn keep_part<T: BitRegister, O: BitOrder<T>>(
         sweep.put(to / bits, next);
     }
     next
-}
-
-// The word `own` with the bits that stand from a place on at its indices from one up to before another.
-#[inline(always)]
-fn taken_from<T: BitRegister, O: BitOrder<T>>(
-    sweep: &mut Sweep<'_, T>,
-    direction: Option<Direction>,
-    place: usize,
-    own: T,
-    from: u8,
-    upto: u8,
-) -> T
-    requires goes { (d : Direction) → direction ≡ Some d → Goes T.BITS O.position d }
-    requires order { from < upto }
-    requires index { upto ≤ T.BITS }
-    requires within { place + (upto - from) ≤ length (sweep_words sweep.old) * T.BITS }
-    requires ends { place + (upto - from) < 2 ^ 64 }
-    ensures stored { IsStored (read_by T.BitRegister O.position) own result from upto
-        (λ i. entry (read_by T.BitRegister O.position) (sweep_words sweep.old) (place + (i - from))) }
-    ensures same { SameButReads sweep.old sweep.new }
-    ensures lender { sweep_lender sweep.new ≡ sweep_lender sweep.old }
-{
-    if (upto - from) as usize <= FEW {
-        return taken_singly::<T, O>(sweep, place, own, from, upto);
-    }
-    taken::<T, O>(sweep, direction, place, own, from, upto)
-}
-
-// The same, bit by bit.
-#[inline(always)]
-fn taken_singly<T: BitRegister, O: BitOrder<T>>(
-    sweep: &mut Sweep<'_, T>,
-    place: usize,
-    own: T,
-    from: u8,
-    upto: u8,
-) -> T
-    requires order { from ≤ upto }
-    requires index { upto ≤ T.BITS }
-    requires within { place + (upto - from) ≤ length (sweep_words sweep.old) * T.BITS }
-    requires ends { place + (upto - from) < 2 ^ 64 }
-    ensures stored { IsStored (read_by T.BitRegister O.position) own result from upto
-        (λ i. entry (read_by T.BitRegister O.position) (sweep_words sweep.old) (place + (i - from))) }
-    ensures same { SameButReads sweep.old sweep.new }
-    ensures lender { sweep_lender sweep.new ≡ sweep_lender sweep.old }
-{
-    let mut made = own;
-    for i in from..upto {
-        let bit = bit_at_place::<T, O>(sweep, place + (i - from) as usize);
-        made = write_bit::<T, O>(made, BitIdx::new_unchecked(i), bit);
-    }
-    made
-}
-
-// The bit of the words at a place.
-fn bit_at_place<T: BitRegister, O: BitOrder<T>>(sweep: &mut Sweep<'_, T>, place: usize) -> bool
-    requires { place < length (sweep_words sweep.old) * T.BITS }
-    ensures value { result ≡ entry (read_by T.BitRegister O.position) (sweep_words sweep.old) place }
-    ensures same { SameButReads sweep.old sweep.new }
-    ensures lender { sweep_lender sweep.new ≡ sweep_lender sweep.old }
-{
-    let bits = bits_of::<T>();
-    let index = BitIdx::new_unchecked((place % bits) as u8);
-    read_bit::<T, O>(sweep.read(place / bits), index)
 }
 
 // The word of the place `to`: that at hand, or the memory's own where none is begun.

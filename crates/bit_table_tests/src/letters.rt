@@ -1,10 +1,10 @@
-//! The letters of many rows told at once, beside a plain list of flags.
+//! The letters of many rows told at once, and row by row, beside a plain list of flags.
 
 use bit_addressing_memory::{Lsb0, Msb0};
 use bit_slice_views::{BitStore, Bits};
 use bit_slice_words::WordPaths;
 use bit_table_fields::HiLo;
-use bit_table_rows::Letters;
+use bit_table_rows::{LETTERS, Letters};
 use std::alloc::{AllocError, Global};
 
 const ROWS: usize = 150;
@@ -31,16 +31,42 @@ fn told_as_the_list<T: BitStore, O: WordPaths<T>>(alloc: Global) -> Result<bool,
             flags[first + k] = (digits >> k) % 2 == 1;
         }
     }
-    let list = letters.list(3);
-    if list.len() != ROWS {
-        return Ok(false);
+    put_each(&mut letters, &flags);
+    Ok(
+        is_list(&letters, 3, &flags)
+            && is_list(&letters, 5, &flags)
+            && letters.count(2) == 0
+            && letters.count(4) == 0,
+    )
+}
+
+// Tells each row by itself that it bears another letter, or not.
+fn put_each<T: BitStore, O: WordPaths<T>>(letters: &mut Letters<T, O>, flags: &[bool]) {
+    for row in 0..letters.rows().min(flags.len()) {
+        letters.put(5, row, !flags[row]);
+        letters.put(5, row, flags[row]);
     }
-    for row in 0..ROWS {
+}
+
+// Whether the rows bear a letter as a list of flags says.
+fn is_list<T: BitStore, O: WordPaths<T>>(
+    letters: &Letters<T, O>,
+    letter: usize,
+    flags: &[bool],
+) -> bool {
+    if letter >= LETTERS {
+        return false;
+    }
+    let list = letters.list(letter);
+    if list.len() != flags.len() {
+        return false;
+    }
+    for row in 0..flags.len() {
         if list.bit(row) != flags[row] {
-            return Ok(false);
+            return false;
         }
     }
-    Ok(letters.count(2) == 0 && letters.count(4) == 0)
+    true
 }
 
 #[test]

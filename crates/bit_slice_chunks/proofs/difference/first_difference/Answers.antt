@@ -1,6 +1,7 @@
-use Rattle.std.proofs.Common.{refl, ap, arith}
+use Rattle.std.proofs.Common.{ap, refl, arith}
+use Rattle.std.proofs.lemmas.Nat.{xor_lt}
 use Rattle.bit_slice_chunks.specs.Chunk.{chunk_bit}
-use Rattle.bit_slice_chunks.proofs.TurnLemmas.{agree_all, agree_until}
+use Rattle.bit_slice_chunks.proofs.TurnLemmas.{agree_up, agree_down}
 use Rattle.bit_slice_chunks.proofs.difference.first_difference.Goals as goal
 
 pub returns-then-chunk-other : goal.returns-then-chunk-other
@@ -10,12 +11,14 @@ returns-then-chunk-other c = record {
   differ = λ low. absurd (omega arith);
 }
 
-pub returns-then-differ-eq0 : goal.returns-then-differ-eq0
-returns-then-differ-eq0 c =
-    agree_all c.args.direction c.args.chunk c.args.other c.faced-differ.result c.faced-differ.ensures
-    c.if-differ-eq0.true
+pub returns-in-Ascending : goal.returns-in-Ascending
+returns-in-Ascending c = rw c.in-Ascending.is (
+    agree_up c.args.chunk c.args.other _ c.if-chunk-other.false
+    (xor_lt 64 c.args.chunk c.args.other (omega (arith, c.ranges.chunk)) (omega (arith, c.ranges.other))) refl
+    )
 
-pub returns : goal.returns
-returns c =
-    agree_until c.args.direction c.args.chunk c.args.other c.faced-differ.result _ c.faced-differ.ensures
-    (omega (arith, c.if-differ-eq0.false)) c.faced-differ.type_inv refl
+pub returns-in-Descending : goal.returns-in-Descending
+returns-in-Descending c = rw c.in-Descending.is (
+    agree_down c.args.chunk c.args.other _ c.if-chunk-other.false
+    (xor_lt 64 c.args.chunk c.args.other (omega (arith, c.ranges.chunk)) (omega (arith, c.ranges.other))) refl
+    )

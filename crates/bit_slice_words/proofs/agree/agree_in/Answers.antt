@@ -15,4 +15,4 @@ returns g c =
     let all : c.loop-k.k ≡ few = omega (arith, c.loop-k.auto.k-end) in
     agrees_more (read_by g.R.BitRegister g.O.Positions.position) (read_by g.Q.BitRegister g.P.Positions.position)
     c.args.words.now c.args.others.now c.args.place c.args.other_place few (c.args.len - few) c.args.len
-    c.agree_by_chunks-same.result (omega arith) (λ low. omega arith) (rw all at c.loop-k.invariant) c.agree_by_chunks-same.ensures
+    c.agree_rest-same.result (omega arith) (λ low. omega arith) (rw all at c.loop-k.invariant) c.agree_rest-same.ensures

@@ -1,52 +1,12 @@
-use Rattle.std.proofs.Common.{◌≡◌, ◌+◌, ◌*◌, min, sym, ap, ◌∙◌, arith}
-use Rattle.std.proofs.lemmas.Bool.{false≢true}
-use Rattle.bit_addressing_memory.specs.Memory.{entry, read_by}
-use Rattle.bit_slice_paths.proofs.StepLemmas.{takes_join}
-use Rattle.bit_slice_paths.proofs.WalkLemmas.{equal_more}
-use Rattle.bit_slice_words.proofs.PathLemmas.{takes_some}
+use Rattle.std.proofs.Common.{◌≡◌, ◌-◌, arith}
+use Rattle.bit_addressing_memory.specs.Memory.{read_by}
+use Rattle.bit_slice_words.proofs.PathLemmas.{equal_behind}
 use Rattle.bit_slice_words.proofs.by_bits.equal.Goals as goal
 
-pub returns-then-same-count-clause-value : goal.returns-then-same-count-clause-value
-returns-then-same-count-clause-value g c =
-    let reading = read_by g.R.BitRegister g.O.Positions.position in
-    let done = 64 * c.loop-k.k in
-    let at = c.agree_in-same.result in
-    let here : c.args.place + done + at ≡ c.args.place + (done + at) = omega arith in
-    let there : c.args.other_place + done + at ≡ c.args.other_place + (done + at) = omega arith in (
-      λ no. absurd (false≢true no),
-      λ same. absurd (c.agree_in-same.ensures.differ c.if-same-count.true (
-          ap (entry reading c.args.words.now) here
-          ∙ same (done + at) (omega (arith, c.min-count.ensures, c.if-same-count.true))
-          ∙ sym (ap (entry reading c.args.others.now) there))),
-    )
-
-pub returns-then-same-count-clause-other : goal.returns-then-same-count-clause-other
-returns-then-same-count-clause-other g c _ =
-    let done = 64 * c.loop-k.k in
-    let at = c.agree_in-same.result in
-    let all = c.args.len in
-    let low : min (64 * c.loop-k.k) all ≡ done = omega (arith, c.div_ceil-k-end.ensures) in
-    takes_some c.args.steps.now c.many.new.self all (done + (at + 1)) (omega arith)
-    (omega (arith, c.min-count.ensures, c.if-same-count.true))
-    (takes_join c.args.steps.now c.loop-k.steps c.many.new.self done (at + 1) (done + (at + 1)) (omega arith)
-    (rw low at c.loop-k.invariant.steps) c.many.ensures)
-
-pub loop-k-preserved : goal.loop-k-preserved
-loop-k-preserved g c =
-    let reading = read_by g.R.BitRegister g.O.Positions.position in
-    let done = 64 * c.loop-k.k in
-    let count = c.min-count.result in
-    let all = c.args.len in
-    let low : min (64 * c.loop-k.k) all ≡ done = omega (arith, c.div_ceil-k-end.ensures) in
-    let sum : min (64 * (c.loop-k.k + 1)) all ≡ done + count =
-    omega (arith, c.min-count.ensures, c.div_ceil-k-end.ensures) in
-    let whole : c.agree_in-same.result ≡ count = omega (arith, c.agree_in-same.ensures.most, c.if-same-count.false) in
-    record {
-      same =
-          equal_more reading reading c.args.words.now c.args.others.now c.args.place c.args.other_place done count
-          (min (64 * (c.loop-k.k + 1)) all) sum (rw low at c.loop-k.invariant.same)
-          (λ i small. c.agree_in-same.ensures.same i (omega (arith, whole)));
-      steps =
-          takes_join c.args.steps.now c.loop-k.steps c.many-in-loop-k.new.self done count (min (64 * (c.loop-k.k + 1)) all)
-          sum (rw low at c.loop-k.invariant.steps) c.many-in-loop-k.ensures;
-    }
+pub returns-clause-value : goal.returns-clause-value
+returns-clause-value g c =
+    let few = c.few_to_compare-few.result in
+    let all : c.loop-k.k ≡ few = omega (arith, c.loop-k.auto.k-end) in
+    equal_behind (read_by g.R.BitRegister g.O.Positions.position) c.args.words.now c.args.others.now c.args.place
+    c.args.other_place few (c.args.len - few) c.args.len c.equal_by_chunks.result
+    (omega (arith, c.few_to_compare-few.ensures)) (rw all at c.loop-k.invariant.same) c.equal_by_chunks.ensures.value

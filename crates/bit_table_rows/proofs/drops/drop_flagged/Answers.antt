@@ -9,10 +9,6 @@ use Rattle.bit_table_rows.proofs.KeptRowLemmas.{rows_that_stay}
 use Rattle.bit_table_rows.proofs.RowListLemmas.{bits_as_rows}
 use Rattle.bit_table_rows.proofs.drops.drop_flagged.Goals as goal
 
-not_true : (b : Bool) → not b ≡ true → b ≡ false
-not_true false is = refl
-not_true true is = absurd (cc)
-
 pub leave_zeros-requires : goal.leave_zeros-requires
 leave_zeros-requires g c =
     let off = vec_bits (read_by g.T.BitRegister g.O.Positions.position) c.args.flags.now in
@@ -20,13 +16,13 @@ leave_zeros-requires g c =
     omega (arith, c.requires.left, c.requires.flags, c.requires.column.len)
 
 -- zeros stay
-pub returns-then-not_any-clause-bits : goal.returns-then-not_any-clause-bits
-returns-then-not_any-clause-bits g c =
+pub returns-then-words_are_zero-clause-bits : goal.returns-then-words_are_zero-clause-bits
+returns-then-words_are_zero-clause-bits g c =
     let reading = read_by g.T.BitRegister g.O.Positions.position in
     let off = vec_bits reading c.args.flags.now in
     let xs = vec_bits reading c.args.list.now in
     let none : list_any (λ b. b) xs ≡ false =
-    not_true (list_any (λ b. b) xs) (sym c.not_any.ensures ∙ c.if-not_any.true) in
+    ap (list_any (λ b. b)) (sym c.as_bitslice.ensures.bits) ∙ c.words_are_zero.ensures c.if-words_are_zero.true in
     record {
       bits =
           (c.leave_zeros.ensures.bits).bits
@@ -45,7 +41,7 @@ returns-clause-bits g c =
     record {
       bits =
           c.keep_rows_of-left.ensures.bits
-          ∙ ap (λ flags. kept 1 flags xs) c.as_bitslice.ensures.bits
+          ∙ ap (λ flags. kept 1 flags xs) c.as_bitslice-2.ensures.bits
           ∙ rows_that_stay 1 (λ n bits. bits) bits_as_rows c.args.n off xs c.requires.flags all;
       head = c.keep_rows_of-left.ensures.head;
     }

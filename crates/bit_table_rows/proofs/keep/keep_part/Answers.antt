@@ -21,24 +21,24 @@ returns-then-index-count g c =
     let more = piece (memory reading words) c.args.from c.args.count in
     let count : length more ≡ c.args.count = length-window reading words c.args.from c.args.count c.requires.within in
     let same =
-    reads_again c.args.sweep.now c.begun-own.new.sweep c.taken_from-next.new.sweep c.begun-own.ensures.same
-    c.taken_from-next.ensures.same in
+    reads_again c.args.sweep.now c.begun-own.new.sweep c.taken-next.new.sweep c.begun-own.ensures.same
+    c.taken-next.ensures.same in
     let word : c.args.to / c.bits_of-bits.result ≡ c.args.to / b = ap (λ n. c.args.to / n) size in
     let full : c.args.to % b + c.args.count ≡ b = rw size at c.if-index-count.true in
     let last : c.args.to % b + length more ≡ b = omega arith in
     let there : c.args.to < length words * b = omega arith in
-    let low : c.args.to / b < length (sweep_words c.taken_from-next.new.sweep) =
+    let low : c.args.to / b < length (sweep_words c.taken-next.new.sweep) =
     rw same.words (div_below c.args.to b (length words) some there) in
-    let up : way_of c.taken_from-next.new.sweep ≡ Up = same.way ∙ c.requires.way in
-    let stored = rw c.begun-own.ensures.same.words at c.taken_from-next.ensures.stored in
-    fills_put reading c.args.sweep.now c.taken_from-next.new.sweep c.args.word c.taken_from-next.result c.args.first
-    c.args.to more some same (c.taken_from-next.ensures.lender ∙ c.begun-own.ensures.lender)
+    let up : way_of c.taken-next.new.sweep ≡ Up = same.way ∙ c.requires.way in
+    let stored = rw c.begun-own.ensures.same.words at c.taken-next.ensures.stored in
+    fills_put reading c.args.sweep.now c.taken-next.new.sweep c.args.word c.taken-next.result c.args.first
+    c.args.to more some same (c.taken-next.ensures.lender ∙ c.begun-own.ensures.lender)
     (λ before bits had.
     word_moved reading before words c.args.first c.args.to c.args.from c.args.count index bits c.args.word
-    c.begun-own.result c.taken_from-next.result some at c.requires.within stored had
+    c.begun-own.result c.taken-next.result some at c.requires.within stored had
     (c.begun-own.ensures.filled before bits had))
     c.put.new.self last low
-    (c.put.ensures.words ∙ ap (λ k. set (sweep_words c.taken_from-next.new.sweep) k c.taken_from-next.result) word)
+    (c.put.ensures.words ∙ ap (λ k. set (sweep_words c.taken-next.new.sweep) k c.taken-next.result) word)
     (c.put.ensures.edge ∙ ap (λ w. edge_after w (c.args.to / c.bits_of-bits.result)) up ∙ ap (λ k. k + 1) word)
     c.put.ensures.writes c.put.ensures.way c.put.ensures.lender
 
@@ -54,15 +54,15 @@ returns-else-index-count g c =
     let more = piece (memory reading words) c.args.from c.args.count in
     let count : length more ≡ c.args.count = length-window reading words c.args.from c.args.count c.requires.within in
     let same =
-    reads_again c.args.sweep.now c.begun-own.new.sweep c.taken_from-next.new.sweep c.begun-own.ensures.same
-    c.taken_from-next.ensures.same in
+    reads_again c.args.sweep.now c.begun-own.new.sweep c.taken-next.new.sweep c.begun-own.ensures.same
+    c.taken-next.ensures.same in
     let other : c.args.to % b + c.args.count ≢ b = rw size at c.if-index-count.false in
     let low : c.args.to % b + length more < b = omega arith in
-    let stored = rw c.begun-own.ensures.same.words at c.taken_from-next.ensures.stored in
-    fills_within reading c.args.sweep.now c.taken_from-next.new.sweep c.args.word c.taken_from-next.result c.args.first
-    c.args.to more some same (c.taken_from-next.ensures.lender ∙ c.begun-own.ensures.lender)
+    let stored = rw c.begun-own.ensures.same.words at c.taken-next.ensures.stored in
+    fills_within reading c.args.sweep.now c.taken-next.new.sweep c.args.word c.taken-next.result c.args.first
+    c.args.to more some same (c.taken-next.ensures.lender ∙ c.begun-own.ensures.lender)
     (λ before bits had.
     word_moved reading before words c.args.first c.args.to c.args.from c.args.count index bits c.args.word
-    c.begun-own.result c.taken_from-next.result some at c.requires.within stored had
+    c.begun-own.result c.taken-next.result some at c.requires.within stored had
     (c.begun-own.ensures.filled before bits had))
     low

@@ -1,8 +1,0 @@
-use Rattle.std.proofs.Common.{◌*◌}
-use Rattle.bit_addressing_memory.specs.Memory.{read_by}
-use Rattle.bit_slice_words.specs.Stretch.{bit_found, Nowhere}
-use Rattle.bit_slice_words.proofs.by_chunks.first_behind.Given as goal
-
-abbrev pub invariant-loop-k : goal.invariant-loop-k
-invariant-loop-k g l =
-    Nowhere (bit_found (read_by g.R.BitRegister g.O.Positions.position) l.words l.bit) (64 * l.from) (64 * l.k)

@@ -160,6 +160,16 @@ impl<'a, T: BitRegister, O: BitOrder<T>, B: Sought> Indices<'a, T, O, B> {
             && self.view.len() > most_singly::<T, O>(Walk::Look)
     }
 
+    // Holds the next bits ahead where that is cheaper.
+    #[inline(always)]
+    fn make_ready(&mut self)
+        ensures { self.new ≡ self.old }
+    {
+        if self.looks_ahead() {
+            self.look_ahead();
+        }
+    }
+
     // Holds the next bits ahead, where none are.
     #[inline(never)]
     fn look_ahead(&mut self)
@@ -263,9 +273,7 @@ impl<'a, T: BitRegister, O: BitOrder<T>, B: Sought> Iterator for Indices<'a, T, 
 
     #[inline(always)]
     fn next(&mut self) -> Option<usize> {
-        if self.looks_ahead() {
-            self.look_ahead();
-        }
+        self.make_ready();
         if self.ahead != 0 {
             let at = self.base + self.ahead.trailing_zeros() as usize;
             self.ahead = self.ahead & (self.ahead - 1);

@@ -11,11 +11,11 @@ returns-in-Low g c =
     let bits = view_bits (read_by g.T.BitRegister g.O.Positions.position) c.args.bits in
     if_ok c.bytes_in.result
     (λ bytes holds. are_bytes_of Low (λ i. i) bytes.items bits (λ i low. refl) holds
-    ∙ ap (λ rule. bytes_of rule bits) (sym c.in-Low.is ∙ c.rule.ensures)) c.bytes_in.ensures
+    ∙ ap (λ rule. bytes_of rule bits) (sym c.in-Low.is ∙ c.rule-rule.ensures)) c.bytes_in.ensures
 
 pub returns-in-High : goal.returns-in-High
 returns-in-High g c =
     let bits = view_bits (read_by g.T.BitRegister g.O.Positions.position) c.args.bits in
     if_ok c.bytes_in-in-High.result
     (λ bytes holds. are_bytes_of High (λ i. 8 - 1 - i) bytes.items bits (λ i low. refl) holds
-    ∙ ap (λ rule. bytes_of rule bits) (sym c.in-High.is ∙ c.rule.ensures)) c.bytes_in-in-High.ensures
+    ∙ ap (λ rule. bytes_of rule bits) (sym c.in-High.is ∙ c.rule-rule.ensures)) c.bytes_in-in-High.ensures

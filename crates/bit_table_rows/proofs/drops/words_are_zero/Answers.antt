@@ -1,13 +1,11 @@
-use Rattle.std.proofs.Common.{◌≡◌, ◌+◌, ◌*◌, ◌<◌, ◌≤◌, true, list_any, length, refl, ap, ◌∙◌, arith}
+use Rattle.std.proofs.Common.{◌≡◌, ◌+◌, ◌*◌, ◌<◌, ◌≤◌, true, length, refl, ap, ◌∙◌, arith}
+use Rattle.std.specs.List.{list_any}
 use Rattle.bit_addressing_memory.specs.Memory.{read_by}
 use Rattle.bit_addressing_memory.proofs.PlaceLemmas.{ends_behind}
 use Rattle.bit_slice_chunks.proofs.TransferLemmas.{word_in}
 use Rattle.bit_slice_words.proofs.StretchLemmas.{nowhere_join, nowhere_none, nowhere_word}
 use Rattle.bit_table_rows.proofs.DropLemmas.{words_of_zeros}
 use Rattle.bit_table_rows.proofs.drops.words_are_zero.Goals as goal
-
-pub index-words-k-requires : goal.index-words-k-requires
-index-words-k-requires g c = ?
 
 pub loop-k-preserved : goal.loop-k-preserved
 loop-k-preserved g c =
@@ -28,7 +26,7 @@ returns-then-end-eq0 g c _ =
     let some : 0 < reading.bits = omega (arith, g.met.T.BitRegister.least_bits) in
     ap (list_any (λ b. b)) c.parts-head.ensures.bits
     ∙ words_of_zeros reading words c.parts-head.result.1 c.parts-head.result.2 0 some c.parts-head.ensures.fits
-    (omega (arith, c.if-end-eq0.true)) (nowhere_none _ 0 0 (omega arith))
+    (omega (arith, c.if-end-eq0.true)) (nowhere_none _ 0 (0 * reading.bits) (omega arith))
 
 pub returns : goal.returns
 returns g c _ =

@@ -14,7 +14,7 @@ returns-then-self-ne0-clause-steps g c =
     let bits = view_bits (read_by g.T.BitRegister g.O.Positions.position) s.view in
     let some : 0 < s.ahead = omega (arith, c.if-self-ne0.true) in
     let fits : s.ahead < 2 ^ 64 = omega arith in
-    sym c.look_ahead.ensures
+    sym c.make_ready.ensures
     ∙ sym c.self.view_is
     ∙ ap (λ l. l ++ indices (is_bit g.B.Sought.bit) s.from bits) (held_first s.base s.ahead some fits)
 
@@ -30,11 +30,11 @@ returns-in_default-clause-steps g c =
     let s = c.self.inside in
     let test = is_bit g.B.Sought.bit in
     let bits = view_bits (read_by g.T.BitRegister g.O.Positions.position) s.view in
-    let none : c.look_ahead.new.self ≡ [] =
+    let none : c.make_ready.new.self ≡ [] =
     sym c.self.view_is
     ∙ held_nothing (indices test s.from bits) s.base s.ahead c.if-self-ne0.false
     (indices-none test s.from bits (sym c.first.ensures ∙ c.in_default.is)) in
-    (sym c.look_ahead.ensures ∙ none, none)
+    (sym c.make_ready.ensures ∙ none, none)
 
 -- none is held, and one is found
 pub returns-clause-steps : goal.returns-clause-steps
@@ -47,7 +47,7 @@ returns-clause-steps g c =
     let at : ℕ = s.from + i in
     let rest = view_bits reading c.part-self-inside.result in
     let none : held s.base s.ahead ≡ [] = ap (held s.base) c.if-self-ne0.false ∙ held_none s.base in
-    sym c.look_ahead.ensures
+    sym c.make_ready.ensures
     ∙ sym c.self.view_is
     ∙ ap (λ l. l ++ indices test s.from bits) none
     ∙ indices-first test s.from i at (at + 1) (i + 1) (length bits - (i + 1)) bits

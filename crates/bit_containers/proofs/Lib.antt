@@ -1,6 +1,4 @@
 pub mod CallerLemmas
-pub mod ChunkLemmas
-pub mod GatherLemmas
 pub mod KnownRows
 pub mod RepeatedLemmas
 pub mod RetainLemmas

@@ -1,7 +1,7 @@
 -- How a list loses the bits that a predicate does not choose.
 --
 -- One more index asked: `answered`, `chosen_more`, `chosen_same`. One more bit moved to the front: `moved_front`,
--- `moved_rest`. What was not moved: `not_yet_moved`. The vector afterwards: `leaves_first`.
+-- `moved_rest`, `not_yet_moved`. The vector afterwards: `leaves_first`.
 use Rattle.std.proofs.Common.{◌≡◌, ℕ, zero, suc, ◌+◌, ◌-◌, ◌*◌, ◌<◌, ◌≤◌, Bool, true, false}
 use Rattle.std.proofs.Common.{List, [], ◌∷◌, ◌++◌, length, take, drop}
 use Rattle.std.proofs.Common.{get_or, set, arith, refl, ap, ap₂, sym, ◌∙◌, subst}
@@ -71,8 +71,6 @@ pub moved_rest : (ys xs : List Bool) (k : ℕ) (b : Bool) → drop k ys ≡ drop
 moved_rest ys xs k b same =
     let next : k + 1 ≡ suc k = omega arith in
     rw next (rest_kept ys k b ∙ one_less ys k ∙ ap (drop 1) same ∙ sym (one_less xs k))
-
--- ---- what was not moved
 
 -- a bit behind those that were moved is the one that was there
 pub not_yet_moved : (ys xs : List Bool) (k i : ℕ) → k ≤ i → drop k ys ≡ drop k xs

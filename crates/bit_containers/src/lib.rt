@@ -1,7 +1,6 @@
 //! Bits that are owned, whole: arrays, boxes and vectors of bits, and the windows and words that their calls take.
 #![tactic(auto)]
 
-mod chunks;
 mod retain;
 mod to_bits;
 

@@ -5,8 +5,7 @@ ghost use Rattle.bit_addressing_memory.specs.Memory.{read_by};
 ghost use Rattle.bit_containers.specs.Retained.{Keeps, LeavesFirst};
 ghost use Rattle.bit_containers_vector.specs.Vector.{vec_bits};
 
-use crate::chunks::{CHUNK, chunk_has, chunk_of, put_chunk, with_bit};
-use bit_addressing_memory::{BitOrder, BitRegister, Walk, most_singly};
+use bit_addressing_memory::{BitOrder, BitRegister};
 use bit_containers_vector::BitVec;
 use bit_slice_views::{BitStore, Bits};
 use bit_slice_views_mut::BitsMut;
@@ -34,24 +33,7 @@ impl<T: BitStore, O: BitOrder<T>> Retain for BitVec<T, O> {
 }
 
 // Moves the bits at which the predicate answers true to the front, and answers how many they are.
-fn gather<V: BitsMut, F: FnMut(usize, &bool) -> bool>(bits: &mut V, keep: F) -> usize
-    requires { F.IsAlwaysCallable keep }
-    ensures kept { Keeps F.FnMut keep (V.bits bits.old) (take result (V.bits bits.new)) }
-    ensures most { result ≤ length (V.bits bits.old) }
-    ensures rest { drop result (V.bits bits.new) ≡ drop result (V.bits bits.old) }
-    ensures len { length (V.bits bits.new) ≡ length (V.bits bits.old) }
-    ensures frame { V.frame bits.new ≡ V.frame bits.old }
-{
-    if bits.len() <= most_singly::<V::Store, V::Order>(Walk::Retain) {
-        gather_singly(bits, keep)
-    } else {
-        gather_by_chunks(bits, keep)
-    }
-}
-
-// The same, bit by bit.
-#[inline(always)]
-fn gather_singly<V: BitsMut, F: FnMut(usize, &bool) -> bool>(bits: &mut V, mut keep: F) -> usize
+fn gather<V: BitsMut, F: FnMut(usize, &bool) -> bool>(bits: &mut V, mut keep: F) -> usize
     requires { F.IsAlwaysCallable keep }
     ensures kept { Keeps F.FnMut keep (V.bits bits.old) (take result (V.bits bits.new)) }
     ensures most { result ≤ length (V.bits bits.old) }
@@ -66,35 +48,6 @@ fn gather_singly<V: BitsMut, F: FnMut(usize, &bool) -> bool>(bits: &mut V, mut k
             bits.set(kept, bit);
             kept += 1;
         }
-    }
-    kept
-}
-
-// The same, by chunks: the bits that are kept among 64 are gathered, and put behind those before them.
-fn gather_by_chunks<V: BitsMut, F: FnMut(usize, &bool) -> bool>(bits: &mut V, mut keep: F) -> usize
-    requires { F.IsAlwaysCallable keep }
-    ensures kept { Keeps F.FnMut keep (V.bits bits.old) (take result (V.bits bits.new)) }
-    ensures most { result ≤ length (V.bits bits.old) }
-    ensures rest { drop result (V.bits bits.new) ≡ drop result (V.bits bits.old) }
-    ensures len { length (V.bits bits.new) ≡ length (V.bits bits.old) }
-    ensures frame { V.frame bits.new ≡ V.frame bits.old }
-{
-    let len = bits.len();
-    let mut kept = 0;
-    for k in 0..len.div_ceil(CHUNK) {
-        let at = CHUNK * k;
-        let count = CHUNK.min(len - at);
-        let chunk = chunk_of::<V>(bits, at, count);
-        let mut chosen = 0;
-        let mut more = 0;
-        for j in 0..count {
-            let bit = chunk_has(chunk, j);
-            let taken = keep(at + j, &bit);
-            chosen = with_bit(chosen, more, bit, taken);
-            more += usize::from(taken);
-        }
-        put_chunk::<V>(bits, kept, more, chosen);
-        kept += more;
     }
     kept
 }

@@ -203,7 +203,7 @@ pub(crate) fn places_of_ones<T: BitRegister, O: BitOrder<T>>(
     ensures { IfOk result (λ places. places.items
         ≡ ones_from 0 (view_bits (read_by T.BitRegister O.position) bits.entry)) }
 {
-    if bits.len() <= most_singly::<T, O>(Walk::Look) {
+    if bits.len() <= most_singly::<T, O>(Walk::List) {
         return places_singly(alloc, bits);
     }
 

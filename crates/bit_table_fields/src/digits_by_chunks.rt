@@ -21,6 +21,7 @@ use bit_slice_words::Steps;
 use bit_table_layout::Rule;
 
 /// `Digits::load_low_at` or `Digits::load_high_at`, as the rule says.
+#[inline(always)]
 pub(crate) fn load<R: BitRegister, O: BitOrder<R>>(
     rule: Rule,
     words: &[R],
@@ -41,6 +42,27 @@ pub(crate) fn load<R: BitRegister, O: BitOrder<R>>(
         let view = BitSlice::<R, O>::from_place(words, place, width as usize);
         return digits_by_bits::load(rule, &view, signed, steps);
     }
+    load_chunk::<R, O>(rule, words, place, width, signed, steps)
+}
+
+// The same by a chunk. Out of line, so that a few bits are loaded by a short function.
+#[inline(never)]
+fn load_chunk<R: BitRegister, O: BitOrder<R>>(
+    rule: Rule,
+    words: &[R],
+    place: usize,
+    width: u32,
+    signed: bool,
+    steps: &mut Steps,
+) -> i128
+    requires some { 1 ≤ width }
+    requires narrow { width ≤ 64 }
+    requires within { place + width ≤ length words.now * R.BITS }
+    requires ends { place + width < 2 ^ 64 }
+    ensures value { result ≡ number_held rule signed width
+        (piece (memory (read_by R.BitRegister O.position) words.now) place width) }
+    ensures steps { Takes steps.old steps.new width width }
+{
     let chunk = read_bits::<R, O>(way_of(rule), words, place, width as usize);
     let digits = digits_of(rule, chunk, width);
     steps.many(width as usize);

@@ -5,7 +5,7 @@ use Rattle.bit_addressing_memory.specs.Memory.{read_by}
 use Rattle.bit_slice_chunks.specs.Chunk.{IsChunk}
 use Rattle.bit_table_layout.specs.Readings.{number_from_digits}
 use Rattle.bit_table_fields.proofs.ChunkLemmas.{held_digits}
-use Rattle.bit_table_fields.proofs.digits_by_chunks.load.Goals as goal
+use Rattle.bit_table_fields.proofs.digits_by_chunks.load_chunk.Goals as goal
 
 pub returns-clause-value : goal.returns-clause-value
 returns-clause-value g c =

@@ -6,8 +6,8 @@ use Rattle.std.proofs.iter.Next.{called}
 use Rattle.bit_slice_splits.specs.Ways.{Asked}
 use Rattle.bit_containers.proofs.RetainLemmas.{answered, chosen_more, chosen_same, moved_front}
 use Rattle.bit_containers.proofs.RetainLemmas.{moved_rest, not_yet_moved}
-use Rattle.bit_containers.proofs.retain.gather_singly.Goals.{then-keep, else-keep}
-use Rattle.bit_containers.proofs.retain.gather_singly.Goals as goal
+use Rattle.bit_containers.proofs.retain.gather.Goals.{then-keep, else-keep}
+use Rattle.bit_containers.proofs.retain.gather.Goals as goal
 
 pub loop-i-preserved : goal.loop-i-preserved
 loop-i-preserved g c =

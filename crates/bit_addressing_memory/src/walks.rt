@@ -19,7 +19,9 @@ pub enum Walk {
     Look,
     /// Those bits are listed that are 1.
     List,
-    /// A number of so many bits is read or written.
+    /// A number of so many bits is read.
+    Load,
+    /// A number of so many bits is written.
     Number,
     /// Two windows are exchanged.
     Exchange,
@@ -31,7 +33,12 @@ pub enum Walk {
     Keep,
     /// Bytes are made of bits.
     Bytes,
+    /// Rows are marked by their numbers.
+    Mark,
 }
+
+// A row is marked alone by 75 instructions and more, 64 at once by some 500 and 40 a row.
+const FEW_ROWS: usize = 3;
 
 /// Up to how many bits a walk goes one by one: all, where the positions do not go straight with the indices and a word is
 /// not turned quickly.
@@ -39,7 +46,10 @@ pub enum Walk {
 /// It is for speed alone: no answer depends on it.
 #[inline(always)]
 pub fn most_singly<R: BitRegister, O: BitOrder<R>>(walk: Walk) -> usize {
-    if direction_of::<R, O>().is_some() {
+    if walk == Walk::Mark {
+        // In any order: the answers of many rows are put at once, and their numbers are loaded alike.
+        FEW_ROWS
+    } else if direction_of::<R, O>().is_some() {
         straight::<R>(walk)
     } else if O::turns_quickly() {
         turned(walk)
@@ -64,14 +74,15 @@ pub fn most_singly_of_two<R: BitRegister, O: BitOrder<R>, Q: BitRegister, P: Bit
 #[inline(always)]
 fn straight<R: BitRegister>(walk: Walk) -> usize {
     match walk {
-        Walk::Number => 4,
+        Walk::Load => if R::BITS < 16 { 2 } else { 0 },
+        Walk::Number => 5,
         Walk::Copy | Walk::Keep => 8,
         Walk::Turn => 12,
         Walk::List | Walk::Bytes => 16,
         Walk::Look => if R::BITS < 64 { 63 } else { 16 },
         Walk::Exchange | Walk::Seek | Walk::Fill => 32,
         Walk::Compare => 48,
-        Walk::Each => 64,
+        Walk::Each | Walk::Mark => 64,
     }
 }
 
@@ -81,11 +92,11 @@ fn straight<R: BitRegister>(walk: Walk) -> usize {
 #[inline(always)]
 fn turned(walk: Walk) -> usize {
     match walk {
-        Walk::Number | Walk::Keep => 16,
+        Walk::Load | Walk::Number | Walk::Keep => 16,
         Walk::Copy | Walk::Bytes => 24,
         Walk::Seek | Walk::Look => 32,
         Walk::Exchange => 48,
-        Walk::Compare | Walk::Each | Walk::List => 64,
+        Walk::Compare | Walk::Each | Walk::List | Walk::Mark => 64,
         Walk::Turn => 80,
         Walk::Fill => usize::MAX,
     }

@@ -57,7 +57,7 @@ pub(crate) fn mark_rows<T: BitStore, O: WordPaths<T> + Digits<T>>(
         (rows_from layout.now (length letters.old) (vec_bits (read_by T.BitRegister O.position) bits.now)))
         letters.old }
 {
-    if letters.rows() <= most_singly::<T, O>(Walk::Fill) {
+    if letters.rows() <= most_singly::<T, O>(Walk::Mark) {
         mark_singly(letters, layout, bits, letter, field, test, value);
     } else {
         mark_by_blocks(letters, layout, bits, letter, field, test, value);

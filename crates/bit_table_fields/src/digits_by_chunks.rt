@@ -21,7 +21,6 @@ use bit_slice_words::Steps;
 use bit_table_layout::Rule;
 
 /// `Digits::load_low_at` or `Digits::load_high_at`, as the rule says.
-#[inline(always)]
 pub(crate) fn load<R: BitRegister, O: BitOrder<R>>(
     rule: Rule,
     words: &[R],
@@ -38,15 +37,15 @@ pub(crate) fn load<R: BitRegister, O: BitOrder<R>>(
         (piece (memory (read_by R.BitRegister O.position) words.now) place width) }
     ensures steps { Takes steps.old steps.new width width }
 {
-    if width as usize <= most_singly::<R, O>(Walk::Number) {
+    if width as usize <= most_singly::<R, O>(Walk::Load) {
         let view = BitSlice::<R, O>::from_place(words, place, width as usize);
         return digits_by_bits::load(rule, &view, signed, steps);
     }
     load_chunk::<R, O>(rule, words, place, width, signed, steps)
 }
 
-// The same by a chunk. Out of line, so that a few bits are loaded by a short function.
-#[inline(never)]
+// The same by a chunk.
+#[inline(always)]
 fn load_chunk<R: BitRegister, O: BitOrder<R>>(
     rule: Rule,
     words: &[R],

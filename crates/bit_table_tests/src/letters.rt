@@ -31,6 +31,7 @@ fn told_as_the_list<T: BitStore, O: WordPaths<T>>(alloc: Global) -> Result<bool,
             flags[first + k] = (digits >> k) % 2 == 1;
         }
     }
+    put_each(&mut letters, &[true; ROWS]);
     put_each(&mut letters, &flags);
     Ok(
         is_list(&letters, 3, &flags)
@@ -40,11 +41,12 @@ fn told_as_the_list<T: BitStore, O: WordPaths<T>>(alloc: Global) -> Result<bool,
     )
 }
 
-// Tells each row by itself that it bears another letter, or not.
+// Tells each row by itself whether it bears another letter.
 fn put_each<T: BitStore, O: WordPaths<T>>(letters: &mut Letters<T, O>, flags: &[bool]) {
-    for row in 0..letters.rows().min(flags.len()) {
-        letters.put(5, row, !flags[row]);
-        letters.put(5, row, flags[row]);
+    for row in 0..flags.len() {
+        if row < letters.rows() {
+            letters.put(5, row, flags[row]);
+        }
     }
 }
 

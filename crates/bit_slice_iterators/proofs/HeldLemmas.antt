@@ -3,7 +3,8 @@
 -- How they come to be held: `held_ahead`; the digits: `whole_digits`, `last_digits`, `faced_digits`, `flipped_digit`.
 --
 -- What an iterator has left: `held_more`, `held_last_of_all`, `held_nothing`.
-use Rattle.std.proofs.Common.{◌≡◌, ◌≢◌, ℕ, zero, suc, ◌+◌, ◌-◌, ◌*◌, ◌/◌, ◌%◌, ◌^◌, ◌<◌, ◌≤◌, ◌==◌, Bool, true, false}
+use Rattle.std.proofs.Common.{◌≡◌, ◌≢◌, ℕ, ◌+◌, ◌-◌, ◌*◌, ◌/◌, ◌%◌, ◌^◌, ◌<◌, ◌≤◌, ◌==◌}
+use Rattle.std.proofs.Common.{zero, suc, Bool, true, false}
 use Rattle.std.proofs.Common.{cond, not, List, [], ◌∷◌, ◌++◌, Some, None, length}
 use Rattle.std.proofs.Common.{get_or, position, count_by, min, bit_and}
 use Rattle.std.proofs.Common.{refl, sym, ap, ◌∙◌, inl, inr, arith, pow_pos, div-lt_iff_lt-mul, le-div_iff_mul-le}

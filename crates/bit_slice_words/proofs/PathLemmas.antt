@@ -1,5 +1,6 @@
 -- Word paths bit by bit: their steps, and bits that are equal so far.
-use Rattle.std.proofs.Common.{◌≡◌, ◌≢◌, ℕ, ◌+◌, ◌-◌, ◌<◌, ◌≤◌, ◌↔◌, IsTrue, Bool, true, false, not, List, refl, sym, ap, ◌∙◌}
+use Rattle.std.proofs.Common.{◌≡◌, ◌≢◌, ℕ, ◌+◌, ◌-◌, ◌<◌, ◌≤◌, ◌↔◌, ◌∙◌}
+use Rattle.std.proofs.Common.{IsTrue, Bool, true, false, not, List, refl, sym, ap}
 use Rattle.std.proofs.Common.{inl, inr, arith, min}
 use Rattle.std.proofs.lemmas.Bool.{cases_lt}
 use mathlib.Core.Bool.{beq}

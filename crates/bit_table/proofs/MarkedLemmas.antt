@@ -4,7 +4,8 @@
 -- digits: `one_told`, `none_told`. What is told of them: `count-lettered`, `ones-passing`, `bears-letters`, `one_found`, `none_found`, `none_among`,
 -- `none_in_zero`, `take_chunk`. Rows that do not bear a letter: `staying-lettered`, `count-staying`. Rows without
 -- letters: `blank-from`.
-use Rattle.std.proofs.Common.{◌≡◌, ◌≢◌, ℕ, zero, suc, ◌+◌, ◌-◌, ◌*◌, ◌%◌, ◌^◌, ◌<◌, ◌≤◌, ◌==◌, Bool, true, false, not}
+use Rattle.std.proofs.Common.{◌≡◌, ◌≢◌, ℕ, ◌+◌, ◌-◌, ◌*◌, ◌%◌, ◌^◌, ◌<◌, ◌≤◌, ◌==◌}
+use Rattle.std.proofs.Common.{zero, suc, Bool, true, false, not}
 use Rattle.std.proofs.Common.{List, [], ◌∷◌, ◌++◌, length, map, bit_or}
 use Rattle.std.proofs.Common.{cond, get_or, min, take, inl, inr, refl, sym, ap, ap₂, ◌∙◌, arith, if◌then◌else◌}
 use Rattle.std.specs.Int.{bit_at, w64}

@@ -9,6 +9,8 @@ FEW_LENS = [2, 5, 7, 13, 24, 128]
 FEW_AT = ["u8m", "u64f"]
 OTHERS = ["u64m", "u32l", "u8l", "u128h", "u32h", "u16h", "u8h", "u128f", "u16f", "u64n", "u64r"]
 OTHER_LENS = [13, 32, 200]
+NARROW = ["u8h", "u16h", "u32h"]
+NARROW_LENS = [5, 8, 16, 24, 25, 33, 49, 65, 81, 100]
 OWN_LENS = [5, 20, 25, 1000]
 STARTS = [0, 4, 8, 16, 32]
 TIMES = 8
@@ -54,6 +56,7 @@ class Grid:
         self.each(calls, MORE_AT, MORE_LENS, **more)
         self.each(calls, FEW_AT, FEW_LENS, **more)
         self.each(calls, OTHERS, OTHER_LENS, **more)
+        self.each(calls, NARROW, NARROW_LENS, **more)
         self.each(calls, ["u64n", "u64r"], OWN_LENS, **more)
 
 
@@ -77,7 +80,8 @@ def scans(grid):
 def compares(grid):
     grid.product(COMPARES)
     grid.each(COMPARES, BASE, [64, 200], [("at", k) for k in STARTS] + [("back", 0)])
-    grid.each(COMPARES, ["u64r", "u64n", "u128h", "u16f"], [200], [("at", k) for k in STARTS])
+    grid.each(COMPARES, ["u64r", "u64n", "u128h", "u16f"] + NARROW, [200], [("at", k) for k in STARTS])
+    grid.each(COMPARES, BASE, [80, 100, 200], [("at", 16), ("at", 17)])
     for call, width in (("contains", 5), ("starts_with", 5), ("ends_with", 5), ("starts_with", 33), ("ends_with", 33)):
         grid.product([call], width=width)
     for width in (5, 33):
@@ -118,6 +122,8 @@ def tables(grid):
     zero = {"places": (0, 0)}
     for width in (1, 3, 17):
         grid.each(TABLES, BASE + ["u128h"], [1, 8, 33, 128], width=width, **zero)
+    for width in (1, 3):
+        grid.each(TABLES, NARROW, [8, 33, 128], width=width, **zero)
     for width in (2, 4, 7, 33, 64):
         grid.each(TABLES, ["u64l", "u64h", "u64f", "u8f"], [16], width=width, **zero)
     grid.each(TABLES, ["u64l", "u64h", "u64f", "u128h"], [2, 3, 5, 7, 16, 64, 200], width=1, **zero)

@@ -184,7 +184,7 @@ fn taken_turned<R: BitRegister, O: BitOrder<R>>(
     ensures lender { sweep_lender sweep.new ≡ sweep_lender sweep.old }
 {
     let count = (upto - from) as usize;
-    if count <= most_singly::<R, O>(Walk::Copy) {
+    if count <= most_singly::<R, O>(Walk::Move) {
         return taken_singly::<R, O>(sweep, place, own, from as usize, upto as usize);
     }
     taken_by_limbs::<R, O>(sweep, place, own, from, upto)

@@ -7,12 +7,16 @@ use bit_addressing_order::{BitOrder, BitRegister};
 /// What is done to bits, each kind with a cost of its own.
 #[derive(Clone, Copy, PartialEq, Eq, Debug)]
 pub enum Walk {
-    /// Bits are copied, combined or moved.
+    /// Bits are copied or combined.
     Copy,
+    /// Bits of one word are moved there.
+    Move,
     /// Bits are turned round.
     Turn,
     /// Bits of two memories are compared, which mostly differ early.
     Compare,
+    /// The same where 64 bits at least are left behind the first ones.
+    CompareLong,
     /// Bits are sought at one place after the other.
     Seek,
     /// Those bits are looked for one behind the other that are of a kind.
@@ -38,7 +42,7 @@ pub enum Walk {
 }
 
 // A row is marked alone by 75 instructions and more, 64 at once by some 500 and 40 a row.
-const FEW_ROWS: usize = 3;
+const FEW_ROWS: usize = 8;
 
 /// Up to how many bits a walk goes one by one: all, where the positions do not go straight with the indices and a word is
 /// not turned quickly.
@@ -52,7 +56,7 @@ pub fn most_singly<R: BitRegister, O: BitOrder<R>>(walk: Walk) -> usize {
     } else if direction_of::<R, O>().is_some() {
         straight::<R>(walk)
     } else if O::turns_quickly() {
-        turned(walk)
+        turned::<R>(walk)
     } else {
         usize::MAX
     }
@@ -74,11 +78,11 @@ pub fn most_singly_of_two<R: BitRegister, O: BitOrder<R>, Q: BitRegister, P: Bit
 #[inline(always)]
 fn straight<R: BitRegister>(walk: Walk) -> usize {
     match walk {
-        Walk::Load => if R::BITS < 16 { 2 } else { 0 },
+        Walk::Load => 0,
         Walk::Number => 5,
-        Walk::Copy | Walk::Keep => 8,
+        Walk::Copy | Walk::Move | Walk::Keep => 8,
         Walk::Turn => 12,
-        Walk::List | Walk::Bytes => 16,
+        Walk::List | Walk::Bytes | Walk::CompareLong => 16,
         Walk::Look => if R::BITS < 64 { 63 } else { 16 },
         Walk::Exchange | Walk::Seek | Walk::Fill => 32,
         Walk::Compare => 48,
@@ -88,15 +92,20 @@ fn straight<R: BitRegister>(walk: Walk) -> usize {
 
 // Where words are turned. Of `u64` under `HiLo`: a copy 40 + 33 n and 650 to 850, a reversal 30 + 17 n and up to 740, lists
 // compared 35 + 27 n and 1,200, a number stored 23 + 22 n and 500, an exchange 30 + 59 n and 1,800. A closure's answers
-// gain nothing.
+// gain nothing. Of narrower words a few bits are turned at once, so that a move, which takes those of one word, gains
+// early, and bits that are looked for gain nothing.
 #[inline(always)]
-fn turned(walk: Walk) -> usize {
+fn turned<R: BitRegister>(walk: Walk) -> usize {
+    let narrow = R::BITS < 64;
     match walk {
+        Walk::Move => if narrow { 4 } else { 24 },
         Walk::Load | Walk::Number | Walk::Keep => 16,
         Walk::Copy | Walk::Bytes => 24,
-        Walk::Seek | Walk::Look => 32,
+        Walk::Look => if narrow { usize::MAX } else { 32 },
+        Walk::Seek => 32,
         Walk::Exchange => 48,
-        Walk::Compare | Walk::Each | Walk::List | Walk::Mark => 64,
+        Walk::Each => if narrow { usize::MAX } else { 64 },
+        Walk::Compare | Walk::CompareLong | Walk::List | Walk::Mark => 64,
         Walk::Turn => 80,
         Walk::Fill => usize::MAX,
     }

@@ -5,14 +5,13 @@
 -- What an iterator has left: `held_more`, `held_last_of_all`, `held_nothing`.
 use Rattle.std.proofs.Common.{◌≡◌, ◌≢◌, ℕ, ◌+◌, ◌-◌, ◌*◌, ◌/◌, ◌%◌, ◌^◌, ◌<◌, ◌≤◌, ◌==◌}
 use Rattle.std.proofs.Common.{zero, suc, Bool, true, false}
-use Rattle.std.proofs.Common.{cond, not, List, [], ◌∷◌, ◌++◌, Some, None, length}
-use Rattle.std.proofs.Common.{get_or, position, count_by, min, bit_and}
-use Rattle.std.proofs.Common.{refl, sym, ap, ◌∙◌, inl, inr, arith, pow_pos, div-lt_iff_lt-mul, le-div_iff_mul-le}
+use Rattle.std.proofs.Common.{cond, not, List, [], ◌∷◌, ◌++◌, length}
+use Rattle.std.proofs.Common.{get_or, count_by, min, bit_and}
+use Rattle.std.proofs.Common.{refl, sym, ap, ◌∙◌, inl, inr, arith}
 use Rattle.std.specs.Int.{bit_at, bit_not, trailing_zeros, w64}
 use Rattle.std.specs.Int.RustNames.{count_ones}
 use Rattle.std.proofs.Math.Nat.{two-pow-succ}
 use Rattle.std.proofs.lemmas.List.{append-nil, ext_get_or}
-use Rattle.std.proofs.lemmas.List.Quantifiers.{position-Some}
 use Rattle.std.proofs.lemmas.List.Sums.{sum_by-cons}
 use Rattle.std.proofs.lemmas.Nat.{and_shr}
 use Rattle.std.proofs.lemmas.Nat.Bits.{bit_at-suc, bit_at-zero, bit_at-lt, bit_at_lowest, bit_at_and, bit_at_not}
@@ -24,17 +23,13 @@ use Rattle.bit_addressing_memory.specs.declared.direction.Direction.{Direction}
 use Rattle.bit_addressing_memory.specs.declared.direction.Direction.TheVariants.{Ascending, Descending}
 use Rattle.bit_addressing_memory.specs.Straight.{straight}
 use Rattle.bit_addressing_memory.proofs.MemoryLemmas.{length-piece, get_or-piece, piece_all, piece_join}
-use Rattle.bit_addressing_memory.proofs.MemoryLemmas.{piece_piece}
 use Rattle.bit_addressing_memory.proofs.WindowLemmas.{window_bit}
-use Rattle.bit_addressing_span.specs.declared.span.TheConstants.{MAX_BITS}
 use Rattle.bit_slice_chunks.specs.Chunk.{chunk_bit, IsChunk, IsCut, IsFaced}
 use Rattle.bit_slice_chunks.proofs.TurnLemmas.{top_digit}
-use Rattle.bit_slice_words.specs.Found.{is_bit, last_position}
-use Rattle.bit_slice_words.proofs.FoundLemmas.{last_position_found, last_position-Some, last_position-None}
+use Rattle.bit_slice_words.specs.Found.{is_bit}
 use Rattle.bit_slice_iterators.specs.Indices.{indices, low_digits, held, AreDigits}
-use Rattle.bit_slice_iterators.proofs.BitLemmas.{piece_one}
-use Rattle.bit_slice_iterators.proofs.IndexLemmas.{cases_bool, indices-append, indices-no, indices-none}
-use Rattle.bit_slice_iterators.proofs.IndexLemmas.{indices-last, length-indices}
+use Rattle.bit_slice_iterators.proofs.IndexLemmas.{cases_bool, indices-append, indices-no}
+use Rattle.bit_slice_iterators.proofs.IndexLemmas.{length-indices}
 
 -- ---- the digits of a number
 

@@ -1,11 +1,9 @@
 -- Where bits stand in a list: `indices`.
 --
 -- What an iterator over them holds, which no public clause cites: `low_digits`, `held`; a step of it: `AreDigits`.
-use Rattle.std.specs.Prelude.{ℕ, zero, suc, ◌≡◌, ◌+◌, ◌-◌, ◌<◌, ◌≤◌, ◌/◌, ◌%◌, ◌==◌, min, Bool, true, false}
-use Rattle.std.specs.Prelude.{List, [], ◌∷◌, ◌++◌, length, get_or}
+use Rattle.std.specs.Prelude.{ℕ, zero, suc, ◌≡◌, ◌+◌, ◌<◌, ◌≤◌, ◌/◌, ◌%◌, ◌==◌, Bool, true, false}
+use Rattle.std.specs.Prelude.{List, [], ◌∷◌, length, get_or}
 use Rattle.std.proofs.Common.{cond}
-use Rattle.bit_addressing_memory.specs.Memory.{piece}
-use Rattle.bit_addressing_span.specs.declared.span.TheConstants.{MAX_BITS}
 use Rattle.bit_addressing_memory.specs.declared.direction.Direction.{Direction}
 use Rattle.bit_slice_chunks.specs.Chunk.{chunk_bit}
 use Rattle.bit_slice_words.specs.Found.{is_bit}

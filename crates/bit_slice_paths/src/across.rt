@@ -1,54 +1,19 @@
-//! Walks between two memories by chunks of 64 bits, each in any lawful order. A memory has chunks of a direction of its
-//! own: a chunk of the other one is turned to the direction of the first.
+//! Walks between two memories by chunks of 64 bits, each in any lawful order. Chunks of both are read in one direction,
+//! that of the first: those of the other one are turned to it where their own is another.
 
 ghost use Rattle.std.specs.Prelude.{◌≡◌, ℕ, ◌+◌, ◌*◌, ◌^◌, ◌<◌, ◌≤◌, length};
 ghost use Rattle.bit_addressing_memory.specs.Memory.{read_by};
-ghost use Rattle.bit_slice_chunks.specs.Chunk.{IsChunk};
 ghost use Rattle.bit_slice_chunks.specs.Combined.{combined_bit, Combines};
 ghost use Rattle.bit_slice_paths.specs.Agrees.{Agrees};
 
 use bit_addressing_memory::{BitOrder, BitRegister, Direction};
 use bit_slice_chunks::any_order::{combine_bits, combine_chunk, read_bits, read_chunk};
-use bit_slice_chunks::{Combination, faced, first_difference};
-
-// The 64 bits of a memory from a place on, as a chunk of another direction.
-#[inline(always)]
-fn whole_facing<R: BitRegister, O: BitOrder<R>>(
-    from: Direction,
-    to: Direction,
-    words: &[R],
-    place: usize,
-) -> u64
-    requires within { place + 64 ≤ length words.now * R.BITS }
-    requires ends { place + 64 < 2 ^ 64 }
-    ensures { IsChunk (read_by R.BitRegister O.position) words.now place 64 to result }
-{
-    faced(from, to, read_chunk::<R, O>(from, words, place))
-}
-
-// Up to 64 bits of a memory from a place on, as a chunk of another direction.
-#[inline(always)]
-pub(crate) fn rest_facing<R: BitRegister, O: BitOrder<R>>(
-    from: Direction,
-    to: Direction,
-    words: &[R],
-    place: usize,
-    count: usize,
-) -> u64
-    requires some { 0 < count }
-    requires few { count ≤ 64 }
-    requires within { place + count ≤ length words.now * R.BITS }
-    requires ends { place + count < 2 ^ 64 }
-    ensures { IsChunk (read_by R.BitRegister O.position) words.now place count to result }
-{
-    faced(from, to, read_bits::<R, O>(from, words, place, count))
-}
+use bit_slice_chunks::{Combination, first_difference};
 
 // Combines 64 bits.
 #[inline(always)]
 fn combine_whole<R: BitRegister, O: BitOrder<R>, Q: BitRegister, P: BitOrder<Q>>(
     direction: Direction,
-    other_direction: Direction,
     how: Combination,
     words: &mut [R],
     place: usize,
@@ -62,7 +27,7 @@ fn combine_whole<R: BitRegister, O: BitOrder<R>, Q: BitRegister, P: BitOrder<Q>>
     ensures { Combines (read_by R.BitRegister O.position) words.old words.new place 64
         (combined_bit how) (read_by Q.BitRegister P.position) others.now other_place }
 {
-    let other = whole_facing::<Q, P>(other_direction, direction, others, other_place);
+    let other = read_chunk::<Q, P>(direction, others, other_place);
     combine_chunk::<R, O>(direction, how, words, place, other);
 }
 
@@ -70,7 +35,6 @@ fn combine_whole<R: BitRegister, O: BitOrder<R>, Q: BitRegister, P: BitOrder<Q>>
 #[inline(never)]
 fn combine_rest<R: BitRegister, O: BitOrder<R>, Q: BitRegister, P: BitOrder<Q>>(
     direction: Direction,
-    other_direction: Direction,
     how: Combination,
     words: &mut [R],
     place: usize,
@@ -87,7 +51,7 @@ fn combine_rest<R: BitRegister, O: BitOrder<R>, Q: BitRegister, P: BitOrder<Q>>(
     ensures { Combines (read_by R.BitRegister O.position) words.old words.new place count
         (combined_bit how) (read_by Q.BitRegister P.position) others.now other_place }
 {
-    let other = rest_facing::<Q, P>(other_direction, direction, others, other_place, count);
+    let other = read_bits::<Q, P>(direction, others, other_place, count);
     combine_bits::<R, O>(direction, how, words, place, count, other);
 }
 
@@ -95,7 +59,6 @@ fn combine_rest<R: BitRegister, O: BitOrder<R>, Q: BitRegister, P: BitOrder<Q>>(
 #[inline(always)]
 pub fn combine<R: BitRegister, O: BitOrder<R>, Q: BitRegister, P: BitOrder<Q>>(
     direction: Direction,
-    other_direction: Direction,
     how: Combination,
     words: &mut [R],
     place: usize,
@@ -116,7 +79,6 @@ pub fn combine<R: BitRegister, O: BitOrder<R>, Q: BitRegister, P: BitOrder<Q>>(
         let done = 64 * k;
         combine_whole::<R, O, Q, P>(
             direction,
-            other_direction,
             how,
             words,
             place + done,
@@ -128,7 +90,6 @@ pub fn combine<R: BitRegister, O: BitOrder<R>, Q: BitRegister, P: BitOrder<Q>>(
         let done = 64 * whole;
         combine_rest::<R, O, Q, P>(
             direction,
-            other_direction,
             how,
             words,
             place + done,
@@ -143,7 +104,6 @@ pub fn combine<R: BitRegister, O: BitOrder<R>, Q: BitRegister, P: BitOrder<Q>>(
 #[inline(always)]
 fn difference_of_whole<R: BitRegister, O: BitOrder<R>, Q: BitRegister, P: BitOrder<Q>>(
     direction: Direction,
-    other_direction: Direction,
     words: &[R],
     place: usize,
     others: &[Q],
@@ -157,7 +117,7 @@ fn difference_of_whole<R: BitRegister, O: BitOrder<R>, Q: BitRegister, P: BitOrd
         (read_by Q.BitRegister P.position) others.now other_place 64 result }
 {
     let chunk = read_chunk::<R, O>(direction, words, place);
-    let other = whole_facing::<Q, P>(other_direction, direction, others, other_place);
+    let other = read_chunk::<Q, P>(direction, others, other_place);
     first_difference(direction, chunk, other)
 }
 
@@ -165,7 +125,6 @@ fn difference_of_whole<R: BitRegister, O: BitOrder<R>, Q: BitRegister, P: BitOrd
 #[inline(always)]
 fn difference_of_rest<R: BitRegister, O: BitOrder<R>, Q: BitRegister, P: BitOrder<Q>>(
     direction: Direction,
-    other_direction: Direction,
     words: &[R],
     place: usize,
     others: &[Q],
@@ -182,7 +141,7 @@ fn difference_of_rest<R: BitRegister, O: BitOrder<R>, Q: BitRegister, P: BitOrde
         (read_by Q.BitRegister P.position) others.now other_place count result }
 {
     let chunk = read_bits::<R, O>(direction, words, place, count);
-    let other = rest_facing::<Q, P>(other_direction, direction, others, other_place, count);
+    let other = read_bits::<Q, P>(direction, others, other_place, count);
     first_difference(direction, chunk, other).min(count)
 }
 
@@ -190,7 +149,6 @@ fn difference_of_rest<R: BitRegister, O: BitOrder<R>, Q: BitRegister, P: BitOrde
 #[inline(always)]
 pub fn difference<R: BitRegister, O: BitOrder<R>, Q: BitRegister, P: BitOrder<Q>>(
     direction: Direction,
-    other_direction: Direction,
     words: &[R],
     place: usize,
     others: &[Q],
@@ -210,7 +168,6 @@ pub fn difference<R: BitRegister, O: BitOrder<R>, Q: BitRegister, P: BitOrder<Q>
         let done = 64 * k;
         let same = difference_of_whole::<R, O, Q, P>(
             direction,
-            other_direction,
             words,
             place + done,
             others,
@@ -226,7 +183,6 @@ pub fn difference<R: BitRegister, O: BitOrder<R>, Q: BitRegister, P: BitOrder<Q>
     let done = 64 * whole;
     let same = difference_of_rest::<R, O, Q, P>(
         direction,
-        other_direction,
         words,
         place + done,
         others,

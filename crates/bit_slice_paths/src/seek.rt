@@ -6,7 +6,7 @@ ghost use Rattle.bit_addressing_memory.specs.Memory.{entry, read_by};
 ghost use Rattle.bit_slice_chunks.specs.Chunk.{chunk_bit, IsChunk};
 ghost use Rattle.bit_slice_paths.specs.Stands.{Stands, StandsFirst};
 
-use crate::across::{difference, rest_facing};
+use crate::across::difference;
 use bit_addressing_memory::{BitOrder, BitRegister, Direction};
 use bit_slice_chunks::any_order::read_bits;
 use bit_slice_chunks::{first_bits, lowered};
@@ -15,7 +15,6 @@ use bit_slice_chunks::{first_bits, lowered};
 #[inline(never)]
 fn same<R: BitRegister, O: BitOrder<R>, Q: BitRegister, P: BitOrder<Q>>(
     direction: Direction,
-    other_direction: Direction,
     words: &[R],
     place: usize,
     others: &[Q],
@@ -31,15 +30,7 @@ fn same<R: BitRegister, O: BitOrder<R>, Q: BitRegister, P: BitOrder<Q>>(
     ensures no { result ≡ false → Stands (read_by R.BitRegister O.position) words.now place
         (read_by Q.BitRegister P.position) others.now other_place len → ⊥ }
 {
-    difference::<R, O, Q, P>(
-        direction,
-        other_direction,
-        words,
-        place,
-        others,
-        other_place,
-        len,
-    ) == len
+    difference::<R, O, Q, P>(direction, words, place, others, other_place, len) == len
 }
 
 // Whether bits of another memory stand at a place of which a chunk has the first ones, from bit `from` on. `sought` has
@@ -47,7 +38,6 @@ fn same<R: BitRegister, O: BitOrder<R>, Q: BitRegister, P: BitOrder<Q>>(
 #[inline(always)]
 fn shows<R: BitRegister, O: BitOrder<R>, Q: BitRegister, P: BitOrder<Q>>(
     direction: Direction,
-    other_direction: Direction,
     words: &[R],
     place: usize,
     others: &[Q],
@@ -78,22 +68,13 @@ fn shows<R: BitRegister, O: BitOrder<R>, Q: BitRegister, P: BitOrder<Q>>(
     if len <= 32 {
         return true;
     }
-    same::<R, O, Q, P>(
-        direction,
-        other_direction,
-        words,
-        place + from,
-        others,
-        other_place,
-        len,
-    )
+    same::<R, O, Q, P>(direction, words, place + from, others, other_place, len)
 }
 
 // The first of up to 33 places at which bits of another memory stand, the first of which are `sought`.
 #[inline(always)]
 fn start_near<R: BitRegister, O: BitOrder<R>, Q: BitRegister, P: BitOrder<Q>>(
     direction: Direction,
-    other_direction: Direction,
     words: &[R],
     place: usize,
     others: &[Q],
@@ -118,7 +99,6 @@ fn start_near<R: BitRegister, O: BitOrder<R>, Q: BitRegister, P: BitOrder<Q>>(
     for i in 0..starts {
         if shows::<R, O, Q, P>(
             direction,
-            other_direction,
             words,
             place,
             others,
@@ -139,7 +119,6 @@ fn start_near<R: BitRegister, O: BitOrder<R>, Q: BitRegister, P: BitOrder<Q>>(
 #[inline(always)]
 pub fn start<R: BitRegister, O: BitOrder<R>, Q: BitRegister, P: BitOrder<Q>>(
     direction: Direction,
-    other_direction: Direction,
     words: &[R],
     place: usize,
     others: &[Q],
@@ -156,13 +135,12 @@ pub fn start<R: BitRegister, O: BitOrder<R>, Q: BitRegister, P: BitOrder<Q>>(
     ensures { StandsFirst (read_by R.BitRegister O.position) words.now place
         (read_by Q.BitRegister P.position) others.now other_place len starts result }
 {
-    let sought = rest_facing::<Q, P>(other_direction, direction, others, other_place, len.min(32));
+    let sought = read_bits::<Q, P>(direction, others, other_place, len.min(32));
     for k in 0..(starts - 1) / 33 + 1 {
         let done = 33 * k;
         let near = (starts - done).min(33);
         let at = start_near::<R, O, Q, P>(
             direction,
-            other_direction,
             words,
             place + done,
             others,

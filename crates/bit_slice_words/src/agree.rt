@@ -8,13 +8,17 @@ use bit_addressing_memory::{BitOrder, BitRegister, Walk, most_singly_of_two, rea
 use bit_slice_chunks::any_order::direction_for;
 use bit_slice_paths::across;
 
-// How many of `len` bits are compared one by one first.
+// How many of `len` bits are compared one by one first: fewer where a whole chunk is left behind them.
 #[inline(always)]
 pub(crate) fn few_to_compare<R: BitRegister, O: BitOrder<R>, Q: BitRegister, P: BitOrder<Q>>(
     len: usize,
 ) -> usize
     ensures { result ≤ len }
 {
+    let before_whole = most_singly_of_two::<R, O, Q, P>(Walk::CompareLong);
+    if len.saturating_sub(64) >= before_whole {
+        return before_whole;
+    }
     len.min(most_singly_of_two::<R, O, Q, P>(Walk::Compare))
 }
 
@@ -84,7 +88,6 @@ pub(crate) fn agree_by_chunks<R: BitRegister, O: BitOrder<R>, Q: BitRegister, P:
 {
     across::difference::<R, O, Q, P>(
         direction_for::<R, O>(),
-        direction_for::<Q, P>(),
         words,
         place,
         others,

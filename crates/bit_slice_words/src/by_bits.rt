@@ -350,7 +350,6 @@ fn combine_by_chunks<R: BitRegister, O: BitOrder<R>>(
         let count = CHUNK.min(len - done);
         across::combine::<R, O, R, O>(
             way,
-            way,
             how,
             words,
             place + done,

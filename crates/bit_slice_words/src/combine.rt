@@ -66,7 +66,6 @@ fn combine_by_chunks<R: BitRegister, O: BitOrder<R>, Q: BitRegister, P: BitOrder
 {
     across::combine::<R, O, Q, P>(
         direction_for::<R, O>(),
-        direction_for::<Q, P>(),
         how,
         words,
         place,

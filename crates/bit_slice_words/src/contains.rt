@@ -75,7 +75,6 @@ fn contains_rest<R: BitRegister, O: BitOrder<R>, Q: BitRegister, P: BitOrder<Q>>
     let starts = len - other_len + 1 - from;
     seek::start::<R, O, Q, P>(
         direction_for::<R, O>(),
-        direction_for::<Q, P>(),
         words,
         place + from,
         others,

@@ -52,7 +52,6 @@ fn copy_by_chunks<Q: BitRegister, P: BitOrder<Q>, R: BitRegister, O: BitOrder<R>
 {
     across::combine::<R, O, Q, P>(
         direction_for::<R, O>(),
-        direction_for::<Q, P>(),
         Combination::Take,
         words,
         target,

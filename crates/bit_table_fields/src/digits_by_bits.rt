@@ -119,6 +119,7 @@ pub(crate) fn number_of(digits: u64, width: u32, signed: bool) -> i128
 }
 
 // The number that a list holds, from its highest digit on.
+#[inline(always)]
 pub(crate) fn load<V: Bits>(rule: Rule, view: &V, signed: bool, steps: &mut Steps) -> i128
     requires some { 1 ≤ length (V.bits view.now) }
     requires narrow { length (V.bits view.now) ≤ 64 }

@@ -1,5 +1,5 @@
-//! Numbers in windows for every order: by a chunk, which counts one step a bit; a few bits, and all where the order turns no
-//! word quickly, by `digits_by_bits`.
+//! Numbers in windows for every order: by a chunk, which counts one step a bit. By `digits_by_bits` go a few bits, but
+//! those that are read where the order goes straight, and all where it turns no word quickly.
 
 ghost use Rattle.std.specs.Prelude.{◌≡◌, ℕ, ◌+◌, ◌*◌, ◌^◌, ◌<◌, ◌≤◌, length};
 ghost use Rattle.bit_addressing_memory.specs.Bits.{digit_at};
@@ -21,6 +21,7 @@ use bit_slice_words::Steps;
 use bit_table_layout::Rule;
 
 /// `Digits::load_low_at` or `Digits::load_high_at`, as the rule says.
+#[inline(always)]
 pub(crate) fn load<R: BitRegister, O: BitOrder<R>>(
     rule: Rule,
     words: &[R],
@@ -37,7 +38,9 @@ pub(crate) fn load<R: BitRegister, O: BitOrder<R>>(
         (piece (memory (read_by R.BitRegister O.position) words.now) place width) }
     ensures steps { Takes steps.old steps.new width width }
 {
-    if width as usize <= most_singly::<R, O>(Walk::Load) {
+    // Where none are read one by one, nothing is asked.
+    let few = most_singly::<R, O>(Walk::Load);
+    if few > 0 && width as usize <= few {
         let view = BitSlice::<R, O>::from_place(words, place, width as usize);
         return digits_by_bits::load(rule, &view, signed, steps);
     }

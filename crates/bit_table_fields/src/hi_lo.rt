@@ -42,10 +42,10 @@ impl<R: BitRegister> BitOrder<R> for HiLo {
     ghost use Rattle.bit_addressing_memory.specs.OrderLaws.{lawful_from_at};
     ghost use Rattle.bit_table_fields.specs.HiLoLaws.{flip_within, flip_apart};
 
-    // A compiler joins four digits that go together; of a narrow word there are too few of these.
+    // A compiler joins four digits that go together.
     #[inline(always)]
     fn turns_quickly() -> bool {
-        R::BITS >= 64
+        true
     }
 
     ghost lawful = { lawful_from_at R.BITS (λ i. bit_xor i 4) (λ i small. flip_within R.BITS i R.size small)

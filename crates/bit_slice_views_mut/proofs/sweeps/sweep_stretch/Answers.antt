@@ -1,5 +1,5 @@
-use Rattle.std.proofs.Common.{◌≡◌, ◌/◌, List, ap, ◌∙◌}
-use Rattle.bit_addressing_memory.specs.Memory.{piece, touched, with_piece}
+use Rattle.std.proofs.Common.{◌/◌, ap, ◌∙◌}
+use Rattle.bit_addressing_memory.specs.Memory.{piece, with_piece}
 use Rattle.bit_addressing_memory.specs.Sweep.{sweep_words}
 use Rattle.bit_slice_views_mut.proofs.sweeps.sweep_stretch.Goals as goal
 

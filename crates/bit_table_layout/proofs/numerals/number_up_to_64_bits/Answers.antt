@@ -1,4 +1,4 @@
-use Rattle.std.proofs.Common.{◌≤◌, ◌-◌, ◌^◌, arith}
+use Rattle.std.proofs.Common.{◌-◌, ◌^◌, arith}
 use Rattle.bit_table_layout.proofs.NumeralLemmas.{number-more}
 use Rattle.bit_table_layout.proofs.numerals.number_up_to_64_bits.Goals as goal
 

@@ -401,6 +401,26 @@ def marked_rows():
         run(script, answer, some_storages(5))
 
 
+def rows_of_each_width():
+    """Rows of each width in each storage: whatever moves rows, and the image behind it."""
+    rng = random.Random(17)
+    for width, storage in itertools.product(thrown.WIDTHS, STORAGES):
+        thrower = thrown.Thrower(rng, width)
+        fields = thrower.table.layout.fields
+
+        def insert(place):
+            thrower.throw("insert", place, *[rng.randint(field.least(), field.greatest()) for field in fields])
+
+        for rows in range(6):
+            insert(rng.randint(0, rows))
+        for edit in ("insert", "rotate 1 5 3", "copy 0 3 2", "delete 2 4", "rotate 0 5 1", "copy 2 5 0", "delete 0 1"):
+            insert(rng.randint(1, 5)) if edit == "insert" else thrower.throw(edit)
+            thrower.throw("image")
+        script = b"\n".join(thrower.lines)
+        assert b"refused" not in lines(script).encode(), script
+        run(script, lines(script), [storage])
+
+
 def main():
     scripts()
     thrown_scripts()
@@ -417,6 +437,7 @@ def main():
     kept_rows()
     long_rows()
     marked_rows()
+    rows_of_each_width()
     pathlib.Path("stdin").write_text("".join(f"{line}\n" for line in given))
     pathlib.Path("stdout").write_text("".join(f"{line}\n" for line in wanted))
 

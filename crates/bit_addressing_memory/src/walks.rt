@@ -13,10 +13,10 @@ pub enum Walk {
     Move,
     /// Bits are turned round.
     Turn,
-    /// Bits of two memories are compared, which mostly differ early.
+    /// The first bits of two memories are compared, which mostly differ early.
     Compare,
-    /// The same where 64 bits at least are left behind the first ones.
-    CompareLong,
+    /// The same behind these, where fewer than 64 bits are left.
+    CompareRest,
     /// Bits are sought at one place after the other.
     Seek,
     /// Those bits are looked for one behind the other that are of a kind.
@@ -41,21 +41,16 @@ pub enum Walk {
     Mark,
 }
 
-// A row is marked alone by 75 instructions and more, 64 at once by some 500 and 40 a row.
-const FEW_ROWS: usize = 8;
-
 /// Up to how many bits a walk goes one by one: all, where the positions do not go straight with the indices and a word is
 /// not turned quickly.
 ///
 /// It is for speed alone: no answer depends on it.
 #[inline(always)]
 pub fn most_singly<R: BitRegister, O: BitOrder<R>>(walk: Walk) -> usize {
-    if walk == Walk::Mark {
-        // In any order: the answers of many rows are put at once, and their numbers are loaded alike.
-        FEW_ROWS
-    } else if direction_of::<R, O>().is_some() {
+    if direction_of::<R, O>().is_some() {
         straight::<R>(walk)
-    } else if O::turns_quickly() {
+    } else if O::turns_quickly() || walk == Walk::Mark {
+        // In any order the answers of many rows are put at once.
         turned::<R>(walk)
     } else {
         usize::MAX
@@ -73,39 +68,45 @@ pub fn most_singly_of_two<R: BitRegister, O: BitOrder<R>, Q: BitRegister, P: Bit
 // Where the positions go straight: a chunk is words and shifts. In instructions, of `u64` under `Lsb0`, n bits one by one
 // and up to 64 at once: a copy 40 + 30 n and 190, a reversal 24 + 13 n and 180, lists compared 30 + 21 n and 230, a number
 // stored 25 + 20 n and 80, an exchange 30 + 51 n and 600, a closure's answers 15 + 21 n and 1,100, the same of what shows
-// the bit 18 + 37 n and 2,400. Of words of 8 bits the second is up to twice that. Of lists that differ at a place behind
-// the first ones both ways are paid.
+// the bit 18 + 37 n and 2,400, rows marked 75 n and more, and 500 + 40 n. Of words of 8 bits the second is up to twice that.
+// Of lists that differ at a place behind the first ones both ways are paid: a chunk less than 64 bits long costs twice one
+// of 64, so more are compared one by one where no whole one is left.
 #[inline(always)]
 fn straight<R: BitRegister>(walk: Walk) -> usize {
     match walk {
-        Walk::Load => 0,
+        Walk::Load => if R::BITS < 16 { 2 } else { 0 },
+        Walk::Mark => 3,
         Walk::Number => 5,
         Walk::Copy | Walk::Move | Walk::Keep => 8,
         Walk::Turn => 12,
-        Walk::List | Walk::Bytes | Walk::CompareLong => 16,
+        Walk::List | Walk::Bytes => 16,
+        Walk::Compare | Walk::CompareRest => 24,
         Walk::Look => if R::BITS < 64 { 63 } else { 16 },
         Walk::Exchange | Walk::Seek | Walk::Fill => 32,
-        Walk::Compare => 48,
-        Walk::Each | Walk::Mark => 64,
+        Walk::Each => 64,
     }
 }
 
 // Where words are turned. Of `u64` under `HiLo`: a copy 40 + 33 n and 650 to 850, a reversal 30 + 17 n and up to 740, lists
 // compared 35 + 27 n and 1,200, a number stored 23 + 22 n and 500, an exchange 30 + 59 n and 1,800. A closure's answers
 // gain nothing. Of narrower words a few bits are turned at once, so that a move, which takes those of one word, gains
-// early, and bits that are looked for gain nothing.
+// early, and bits that are looked for gain nothing; of 32 bits a chunk costs the most.
 #[inline(always)]
 fn turned<R: BitRegister>(walk: Walk) -> usize {
-    let narrow = R::BITS < 64;
+    let (narrow, half) = (R::BITS < 64, R::BITS == 32);
     match walk {
-        Walk::Move => if narrow { 4 } else { 24 },
+        Walk::CompareRest => 0,
+        Walk::Mark => 8,
         Walk::Load | Walk::Number | Walk::Keep => 16,
-        Walk::Copy | Walk::Bytes => 24,
+        Walk::Move => if R::BITS < 32 { 4 } else { 24 },
+        Walk::Bytes => 24,
+        Walk::Copy => if half { 40 } else { 24 },
         Walk::Look => if narrow { usize::MAX } else { 32 },
         Walk::Seek => 32,
         Walk::Exchange => 48,
+        Walk::Compare => if half { 80 } else { 64 },
         Walk::Each => if narrow { usize::MAX } else { 64 },
-        Walk::Compare | Walk::CompareLong | Walk::List | Walk::Mark => 64,
+        Walk::List => 64,
         Walk::Turn => 80,
         Walk::Fill => usize::MAX,
     }

@@ -8,18 +8,26 @@ use bit_addressing_memory::{BitOrder, BitRegister, Walk, most_singly_of_two, rea
 use bit_slice_chunks::any_order::direction_for;
 use bit_slice_paths::across;
 
-// How many of `len` bits are compared one by one first: fewer where a whole chunk is left behind them.
+// How many of `len` bits are compared one by one first.
 #[inline(always)]
 pub(crate) fn few_to_compare<R: BitRegister, O: BitOrder<R>, Q: BitRegister, P: BitOrder<Q>>(
     len: usize,
 ) -> usize
     ensures { result ≤ len }
 {
-    let before_whole = most_singly_of_two::<R, O, Q, P>(Walk::CompareLong);
-    if len.saturating_sub(64) >= before_whole {
-        return before_whole;
-    }
     len.min(most_singly_of_two::<R, O, Q, P>(Walk::Compare))
+}
+
+// How many of `len` bits behind these: some where no whole chunk is left.
+#[inline(always)]
+fn few_behind<R: BitRegister, O: BitOrder<R>, Q: BitRegister, P: BitOrder<Q>>(len: usize) -> usize
+    ensures { result ≤ len }
+{
+    if len < 64 {
+        len.min(most_singly_of_two::<R, O, Q, P>(Walk::CompareRest))
+    } else {
+        0
+    }
 }
 
 // How many of `len` bits of two memories are the same, from the first on. Lists that differ mostly do so early.
@@ -51,7 +59,7 @@ pub(crate) fn agree_in<R: BitRegister, O: BitOrder<R>, Q: BitRegister, P: BitOrd
     few + same
 }
 
-// The same, by chunks. Out of line, so that lists that differ early are compared by a short function.
+// The same of bits behind the first ones. Out of line, so that lists that differ early are compared by a short function.
 #[inline(never)]
 fn agree_rest<R: BitRegister, O: BitOrder<R>, Q: BitRegister, P: BitOrder<Q>>(
     words: &[R],
@@ -67,10 +75,45 @@ fn agree_rest<R: BitRegister, O: BitOrder<R>, Q: BitRegister, P: BitOrder<Q>>(
     ensures { Agrees (read_by R.BitRegister O.position) words.now place
         (read_by Q.BitRegister P.position) others.now other_place len result }
 {
-    agree_by_chunks::<R, O, Q, P>(words, place, others, other_place, len)
+    agree_behind::<R, O, Q, P>(words, place, others, other_place, len)
 }
 
 // The same, where it stands.
+#[inline(always)]
+pub(crate) fn agree_behind<R: BitRegister, O: BitOrder<R>, Q: BitRegister, P: BitOrder<Q>>(
+    words: &[R],
+    place: usize,
+    others: &[Q],
+    other_place: usize,
+    len: usize,
+) -> usize
+    requires within { place + len ≤ length words.now * R.BITS }
+    requires ends { place + len < 2 ^ 64 }
+    requires other_within { other_place + len ≤ length others.now * Q.BITS }
+    requires other_ends { other_place + len < 2 ^ 64 }
+    ensures { Agrees (read_by R.BitRegister O.position) words.now place
+        (read_by Q.BitRegister P.position) others.now other_place len result }
+{
+    let few = few_behind::<R, O, Q, P>(len);
+    for k in 0..few {
+        if read_entry::<R, O>(words, place + k) != read_entry::<Q, P>(others, other_place + k) {
+            return k;
+        }
+    }
+    if few == len {
+        return len;
+    }
+    let same = agree_by_chunks::<R, O, Q, P>(
+        words,
+        place + few,
+        others,
+        other_place + few,
+        len - few,
+    );
+    few + same
+}
+
+// The same, by chunks.
 #[inline(always)]
 pub(crate) fn agree_by_chunks<R: BitRegister, O: BitOrder<R>, Q: BitRegister, P: BitOrder<Q>>(
     words: &[R],

@@ -5,7 +5,7 @@ ghost use Rattle.std.specs.Cmp.Lexicographic.{slice_cmp};
 ghost use Rattle.std.specs.Ordering.{bool_cmp};
 ghost use Rattle.bit_addressing_memory.specs.Memory.{entry, memory, piece, read_by};
 
-use crate::agree::{agree_by_chunks, few_to_compare};
+use crate::agree::{agree_behind, few_to_compare};
 use bit_addressing_memory::{BitOrder, BitRegister, read_entry};
 use std::cmp::Ordering;
 
@@ -45,7 +45,7 @@ pub fn compare_in<R: BitRegister, O: BitOrder<R>, Q: BitRegister, P: BitOrder<Q>
     compare_rest::<R, O, Q, P>(words, place, len, others, other_place, other_len, few)
 }
 
-// The same where the first bits are the same, by chunks behind them.
+// The same where the first bits are the same.
 #[inline(never)]
 fn compare_rest<R: BitRegister, O: BitOrder<R>, Q: BitRegister, P: BitOrder<Q>>(
     words: &[R],
@@ -69,7 +69,7 @@ fn compare_rest<R: BitRegister, O: BitOrder<R>, Q: BitRegister, P: BitOrder<Q>>(
 {
     let shorter = len.min(other_len);
     let rest = shorter - from;
-    let same = agree_by_chunks::<R, O, Q, P>(words, place + from, others, other_place + from, rest);
+    let same = agree_behind::<R, O, Q, P>(words, place + from, others, other_place + from, rest);
     if same < rest {
         let bit = read_entry::<R, O>(words, place + (from + same));
         let other = read_entry::<Q, P>(others, other_place + (from + same));

@@ -128,11 +128,14 @@ pub(crate) fn load<V: Bits>(rule: Rule, view: &V, signed: bool, steps: &mut Step
 {
     let width = view.len() as u32;
     let mut digits = 0u128;
+    // The count goes through the loop as a value, so that it stays in a register.
+    let mut taken = 0usize;
     for k in 0..width {
         let index = place_of(rule, width, width - 1 - k);
         digits = 2 * digits + u128::from(view.bit(index as usize));
-        steps.step();
+        taken += 1;
     }
+    steps.many(taken);
     number_of(digits as u64, width, signed)
 }
 

@@ -1,7 +1,6 @@
-use Rattle.std.proofs.Common.{◌≡◌, cond, get_or, false, sym, ap, ap₂, ◌∙◌, arith}
+use Rattle.std.proofs.Common.{◌≡◌, cond, get_or, length, false, refl, sym, ap, ap₂, ◌∙◌, arith}
 use mir.Syntax.{w128}
 use Rattle.std.proofs.lemmas.Int.{to_z-of_z}
-use Rattle.bit_slice_words.proofs.StepLemmas.{takes_none, takes_more}
 use Rattle.bit_table_layout.specs.Readings.{number_from_digits}
 use Rattle.bit_table_fields.proofs.WindowLemmas.{so_far_none, so_far_more, so_far_all, so_far_small, bit_small}
 use Rattle.bit_table_fields.proofs.WindowLemmas.{byte_is}
@@ -10,8 +9,11 @@ use Rattle.bit_table_fields.proofs.digits_by_bits.load.Goals as goal
 pub loop-k-init : goal.loop-k-init
 loop-k-init g c = record {
   digits = sym (so_far_none c.args.rule c.len-width.result (g.V.Bits.bits c.args.view.now) (sym c.len-width.ensures));
-  steps = takes_none c.args.steps.now;
+  steps = refl;
 }
+
+pub overflow_add-taken : goal.overflow_add-taken
+overflow_add-taken g c = omega (arith, c.loop-k.invariant.steps)
 
 -- 64 digits are below 2 ^ 64
 pub overflow_mul-digits : goal.overflow_mul-digits
@@ -43,7 +45,7 @@ loop-k-preserved g c =
     let before = c.loop-k.invariant.digits in
     record {
       digits = omega arith;
-      steps = takes_more _ _ _ c.loop-k.k c.step.ensures c.loop-k.invariant.steps;
+      steps = omega (arith, c.loop-k.invariant.steps);
     }
 
 pub overflow_cast-digits : goal.overflow_cast-digits
@@ -62,3 +64,10 @@ returns-clause-value g c =
     ∙ c.number_of.ensures
     ∙ ap₂ (number_from_digits c.args.signed) c.len-width.ensures
     (c.loop-k.invariant.digits ∙ so_far_all c.args.rule c.len-width.result held c.loop-k.k (sym c.len-width.ensures) all)
+
+pub returns-clause-steps : goal.returns-clause-steps
+returns-clause-steps g c =
+    let held = g.V.Bits.bits c.args.view.now in
+    let all : c.loop-k.taken ≡ length held =
+    omega (arith, c.loop-k.auto.k-end, c.loop-k.invariant.steps, c.len-width.ensures) in
+    rw all at c.many.ensures

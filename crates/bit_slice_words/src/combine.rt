@@ -64,15 +64,46 @@ fn combine_by_chunks<R: BitRegister, O: BitOrder<R>, Q: BitRegister, P: BitOrder
     ensures { Combines (read_by R.BitRegister O.position) words.old words.new place len
         (combined_bit how) (read_by Q.BitRegister P.position) others.now other_place }
 {
-    across::combine::<R, O, Q, P>(
-        direction_for::<R, O>(),
-        how,
-        words,
-        place,
-        others,
-        other_place,
-        len,
-    );
+    let way = direction_for::<R, O>();
+    // Each has a loop of its own, in which nothing asks which it is.
+    match how {
+        Combination::Take => across::combine::<R, O, Q, P>(
+            way,
+            Combination::Take,
+            words,
+            place,
+            others,
+            other_place,
+            len,
+        ),
+        Combination::And => across::combine::<R, O, Q, P>(
+            way,
+            Combination::And,
+            words,
+            place,
+            others,
+            other_place,
+            len,
+        ),
+        Combination::Or => across::combine::<R, O, Q, P>(
+            way,
+            Combination::Or,
+            words,
+            place,
+            others,
+            other_place,
+            len,
+        ),
+        Combination::Xor => across::combine::<R, O, Q, P>(
+            way,
+            Combination::Xor,
+            words,
+            place,
+            others,
+            other_place,
+            len,
+        ),
+    }
 }
 
 // The same, bit by bit.

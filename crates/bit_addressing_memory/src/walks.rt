@@ -74,7 +74,7 @@ pub fn most_singly_of_two<R: BitRegister, O: BitOrder<R>, Q: BitRegister, P: Bit
 #[inline(always)]
 fn straight<R: BitRegister>(walk: Walk) -> usize {
     match walk {
-        Walk::Load => if R::BITS < 16 { 2 } else { 0 },
+        Walk::Load => 0,
         Walk::Mark => 3,
         Walk::Number => 5,
         Walk::Copy | Walk::Move | Walk::Keep => 8,
@@ -99,7 +99,7 @@ fn turned<R: BitRegister>(walk: Walk) -> usize {
         Walk::Mark => 8,
         Walk::Load | Walk::Number | Walk::Keep => 16,
         Walk::Move => if R::BITS < 32 { 4 } else { 24 },
-        Walk::Bytes => 24,
+        Walk::Bytes => if half { 64 } else { 24 },
         Walk::Copy => if half { 40 } else { 24 },
         Walk::Look => if narrow { usize::MAX } else { 32 },
         Walk::Seek => 32,

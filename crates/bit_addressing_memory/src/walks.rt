@@ -93,18 +93,18 @@ fn straight<R: BitRegister>(walk: Walk) -> usize {
 // early, and bits that are looked for gain nothing; of 32 bits a chunk costs the most.
 #[inline(always)]
 fn turned<R: BitRegister>(walk: Walk) -> usize {
-    let (narrow, half) = (R::BITS < 64, R::BITS == 32);
+    let (narrow, of_32) = (R::BITS < 64, R::BITS == 32);
     match walk {
         Walk::CompareRest => 0,
         Walk::Mark => 8,
         Walk::Load | Walk::Number | Walk::Keep => 16,
         Walk::Move => if R::BITS < 32 { 4 } else { 24 },
-        Walk::Bytes => if half { 64 } else { 24 },
-        Walk::Copy => if half { 40 } else { 24 },
+        Walk::Bytes => if of_32 { 64 } else { 24 },
+        Walk::Copy => if of_32 { 40 } else { 24 },
         Walk::Look => if narrow { usize::MAX } else { 32 },
         Walk::Seek => 32,
         Walk::Exchange => 48,
-        Walk::Compare => if half { 80 } else { 64 },
+        Walk::Compare => if of_32 { 80 } else { 64 },
         Walk::Each => if narrow { usize::MAX } else { 64 },
         Walk::List => 64,
         Walk::Turn => 80,

@@ -2,7 +2,6 @@
 use Rattle.std.proofs.Common.{◌≡◌, ◌++◌, Bool, List, [], ◌∷◌, refl, ap}
 use Rattle.bit_slice.specs.Commands.{list_after, lists_after, replies_to, reply_to}
 use Rattle.bit_slice.specs.declared.command.WindowCommand.{WindowCommand}
-use Rattle.bit_slice.specs.declared.command.WindowReply.{WindowReply}
 
 -- the list after one command more
 pub lists_more : {W : Type 0} (bits_of : W → List Bool) (commands : List (WindowCommand W))

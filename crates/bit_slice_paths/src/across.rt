@@ -6,6 +6,7 @@ ghost use Rattle.bit_addressing_memory.specs.Memory.{read_by};
 ghost use Rattle.bit_slice_chunks.specs.Combined.{combined_bit, Combines};
 ghost use Rattle.bit_slice_paths.specs.Agrees.{Agrees};
 
+use bit_addressing_memory::mem::bits_of;
 use bit_addressing_memory::{BitOrder, BitRegister, Direction};
 use bit_slice_chunks::any_order::{combine_bits, combine_chunk, read_bits, read_chunk};
 use bit_slice_chunks::{Combination, first_difference};
@@ -55,9 +56,59 @@ fn combine_rest<R: BitRegister, O: BitOrder<R>, Q: BitRegister, P: BitOrder<Q>>(
     combine_bits::<R, O>(direction, how, words, place, count, other);
 }
 
+// From how many bits on a walk begins with those before the next word.
+const MANY: usize = 256;
+
+// How many bits go before whole chunks: of many those before the next word, or half of one of 128 bits, so that each chunk
+// that is written lies in as few words as it can.
+#[inline(always)]
+fn before_chunks<R: BitRegister>(place: usize, len: usize) -> usize
+    ensures few { result ≤ 64 }
+    ensures within { result ≤ len }
+{
+    if len < MANY {
+        return 0;
+    }
+    let bits = bits_of::<R>().min(64);
+    (bits - place % bits) % bits
+}
+
 /// Combines each of `len` bits with one of another memory; by `Combination::Take` it is a copy.
 #[inline(always)]
 pub fn combine<R: BitRegister, O: BitOrder<R>, Q: BitRegister, P: BitOrder<Q>>(
+    direction: Direction,
+    how: Combination,
+    words: &mut [R],
+    place: usize,
+    others: &[Q],
+    other_place: usize,
+    len: usize,
+)
+    requires within { place + len ≤ length words.old * R.BITS }
+    requires ends { place + len < 2 ^ 64 }
+    requires other_within { other_place + len ≤ length others.now * Q.BITS }
+    requires other_ends { other_place + len < 2 ^ 64 }
+    ensures { Combines (read_by R.BitRegister O.position) words.old words.new place len
+        (combined_bit how) (read_by Q.BitRegister P.position) others.now other_place }
+{
+    let first = before_chunks::<R>(place, len);
+    if first > 0 {
+        combine_rest::<R, O, Q, P>(direction, how, words, place, others, other_place, first);
+    }
+    combine_chunks::<R, O, Q, P>(
+        direction,
+        how,
+        words,
+        place + first,
+        others,
+        other_place + first,
+        len - first,
+    );
+}
+
+// The same, whole chunks and the rest.
+#[inline(always)]
+fn combine_chunks<R: BitRegister, O: BitOrder<R>, Q: BitRegister, P: BitOrder<Q>>(
     direction: Direction,
     how: Combination,
     words: &mut [R],

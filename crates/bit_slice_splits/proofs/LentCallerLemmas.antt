@@ -2,7 +2,7 @@
 --
 -- What the writes of a part that `next_mut` lent make of the whole window: `next_written`; that the parts still lie in it:
 -- `next_lies`; that they come to their end: `next_fewer`.
-use Rattle.std.proofs.Common.{◌≡◌, ℕ, ◌+◌, ◌*◌, ◌<◌, ◌≤◌, Bool, true, false, cond, true≢false, List, inl, inr, length}
+use Rattle.std.proofs.Common.{◌≡◌, ℕ, ◌+◌, ◌<◌, ◌≤◌, Bool, true, false, cond, true≢false, List, inl, inr, length}
 use Rattle.std.proofs.Common.{sym, ap, ◌∙◌, arith, Bor}
 use Rattle.std.proofs.lemmas.Bool.{cases_lt}
 use Rattle.std.specs.Fn.{Mut}

@@ -1,5 +1,5 @@
 -- Tests and answers: `differ_tested`, `answers_yes`, `answers_no`. Bits of two memories: `windows_equal`,
--- `windows_differ`, `windows_agree`. One list in another: `holds_empty`, `holds_here`, `holds_none`, `holds_short`;
+-- `windows_differ`, `windows_agree`, `windows_part`. One list in another: `holds_empty`, `holds_here`, `holds_none`, `holds_short`, `none_more`;
 -- told by the first place: `holds_first`, `holds_behind`.
 use Rattle.std.proofs.Common.{◌≡◌, ◌≢◌, ℕ, ◌+◌, ◌-◌, ◌*◌, ◌<◌, ◌≤◌, ◌↔◌, ◌==◌, nat_lt, IsTrue}
 use Rattle.std.proofs.Common.{Bool, true, false, not, List, [], ◌∷◌, length, get_or, refl, sym, ap, ◌∙◌, inl, inr, arith}
@@ -73,6 +73,16 @@ windows_agree reading words its others place other_place len at some its_some fi
   ],
 )
 
+-- they are not equal where fewer of them do not agree throughout
+pub windows_part : {R Q : Type 0} (reading : Reading R) (words : List R) (its : Reading Q) (others : List Q)
+    (place other_place n len at : ℕ) → 0 < reading.bits → 0 < its.bits → n ≤ len → at ≢ n
+    → Agrees reading words place its others other_place n at
+    → piece (memory reading words) place len ≢ piece (memory its others) other_place len
+windows_part reading words its others place other_place n len at some its_some inside less agree =
+    let low : at < n = omega (arith, agree.most, less) in
+    windows_differ reading words its others place other_place len at (entry reading words (place + at))
+    (entry its others (other_place + at)) some its_some (omega arith) refl refl (agree.differ low)
+
 -- ---- one list in another
 
 -- a list of no elements stands in every list
@@ -94,6 +104,22 @@ holds_here reading words place len i n ys fits inside size here =
     let xs = piece (memory reading words) place len in
     let count : length xs ≡ len = length-window reading words place len fits in
     (i, omega arith, ap (piece xs i) size ∙ piece_piece (memory reading words) place len i n inside ∙ here)
+
+-- none of the pieces before a place is the list, nor the one there, of which the first bits do not agree
+pub none_more : {R Q : Type 0} (reading : Reading R) (words : List R) (its : Reading Q) (others : List Q)
+    (place other_place n len at from : ℕ) → 0 < reading.bits → 0 < its.bits → n ≤ len → at ≢ n
+    → ((k : ℕ) → k < from
+    → piece (memory reading words) (place + k) len ≢ piece (memory its others) other_place len)
+    → Agrees reading words (place + from) its others other_place n at → (k : ℕ) → k < from + 1
+    → piece (memory reading words) (place + k) len ≢ piece (memory its others) other_place len
+none_more reading words its others place other_place n len at from some its_some inside less none agree k low =
+    elim (cases_lt k from) [
+      | inl before ↦ none k before
+      | inr past ↦
+          let here : place + from ≡ place + k = omega arith in
+          windows_part reading words its others (place + k) other_place n len at some its_some inside less
+          (rw here at agree)
+    ]
 
 -- and it does not where it is none of them
 pub holds_none : {R : Type 0} (reading : Reading R) (words : List R) (place len n : ℕ) (ys : List Bool)

@@ -1,7 +1,7 @@
 //! How far bits of two memories are the same.
 
-ghost use Rattle.std.specs.Prelude.{◌+◌, ◌*◌, ◌^◌, ◌<◌, ◌≤◌, length};
-ghost use Rattle.bit_addressing_memory.specs.Memory.{read_by};
+ghost use Rattle.std.specs.Prelude.{◌≡◌, ℕ, ◌+◌, ◌*◌, ◌^◌, ◌<◌, ◌≤◌, length};
+ghost use Rattle.bit_addressing_memory.specs.Memory.{entry, read_by};
 ghost use Rattle.bit_slice_paths.specs.Agrees.{Agrees};
 
 use bit_addressing_memory::{BitOrder, BitRegister, Walk, most_singly_of_two, read_entry};
@@ -30,6 +30,30 @@ fn few_behind<R: BitRegister, O: BitOrder<R>, Q: BitRegister, P: BitOrder<Q>>(le
     }
 }
 
+// How many of `len` bits of two memories are the same, from the first on, bit by bit.
+#[inline(always)]
+pub(crate) fn agree_singly<R: BitRegister, O: BitOrder<R>, Q: BitRegister, P: BitOrder<Q>>(
+    words: &[R],
+    place: usize,
+    others: &[Q],
+    other_place: usize,
+    len: usize,
+) -> usize
+    requires within { place + len ≤ length words.now * R.BITS }
+    requires ends { place + len < 2 ^ 64 }
+    requires other_within { other_place + len ≤ length others.now * Q.BITS }
+    requires other_ends { other_place + len < 2 ^ 64 }
+    ensures { Agrees (read_by R.BitRegister O.position) words.now place
+        (read_by Q.BitRegister P.position) others.now other_place len result }
+{
+    for k in 0..len {
+        if read_entry::<R, O>(words, place + k) != read_entry::<Q, P>(others, other_place + k) {
+            return k;
+        }
+    }
+    len
+}
+
 // How many of `len` bits of two memories are the same, from the first on. Lists that differ mostly do so early.
 #[inline(always)]
 pub(crate) fn agree_in<R: BitRegister, O: BitOrder<R>, Q: BitRegister, P: BitOrder<Q>>(
@@ -47,38 +71,39 @@ pub(crate) fn agree_in<R: BitRegister, O: BitOrder<R>, Q: BitRegister, P: BitOrd
         (read_by Q.BitRegister P.position) others.now other_place len result }
 {
     let few = few_to_compare::<R, O, Q, P>(len);
-    for k in 0..few {
-        if read_entry::<R, O>(words, place + k) != read_entry::<Q, P>(others, other_place + k) {
-            return k;
-        }
+    let same = agree_singly::<R, O, Q, P>(words, place, others, other_place, few);
+    if same < few || few == len {
+        return same;
     }
-    if few == len {
-        return len;
-    }
-    let same = agree_rest::<R, O, Q, P>(words, place + few, others, other_place + few, len - few);
-    few + same
+    agree_rest::<R, O, Q, P>(words, place, others, other_place, len, few)
 }
 
-// The same of bits behind the first ones. Out of line, so that lists that differ early are compared by a short function.
+// The same where the first `few` are the same. Out of line, so that lists that differ early are compared by a short
+// function.
 #[inline(never)]
-fn agree_rest<R: BitRegister, O: BitOrder<R>, Q: BitRegister, P: BitOrder<Q>>(
+pub(crate) fn agree_rest<R: BitRegister, O: BitOrder<R>, Q: BitRegister, P: BitOrder<Q>>(
     words: &[R],
     place: usize,
     others: &[Q],
     other_place: usize,
     len: usize,
+    few: usize,
 ) -> usize
+    requires few { few ≤ len }
     requires within { place + len ≤ length words.now * R.BITS }
     requires ends { place + len < 2 ^ 64 }
     requires other_within { other_place + len ≤ length others.now * Q.BITS }
     requires other_ends { other_place + len < 2 ^ 64 }
+    requires same { (k : ℕ) → k < few → entry (read_by R.BitRegister O.position) words.now (place + k)
+        ≡ entry (read_by Q.BitRegister P.position) others.now (other_place + k) }
     ensures { Agrees (read_by R.BitRegister O.position) words.now place
         (read_by Q.BitRegister P.position) others.now other_place len result }
 {
-    agree_behind::<R, O, Q, P>(words, place, others, other_place, len)
+    let rest = agree_behind::<R, O, Q, P>(words, place + few, others, other_place + few, len - few);
+    few + rest
 }
 
-// The same, where it stands.
+// How many of `len` bits behind the first ones are the same.
 #[inline(always)]
 pub(crate) fn agree_behind<R: BitRegister, O: BitOrder<R>, Q: BitRegister, P: BitOrder<Q>>(
     words: &[R],
@@ -95,22 +120,18 @@ pub(crate) fn agree_behind<R: BitRegister, O: BitOrder<R>, Q: BitRegister, P: Bi
         (read_by Q.BitRegister P.position) others.now other_place len result }
 {
     let few = few_behind::<R, O, Q, P>(len);
-    for k in 0..few {
-        if read_entry::<R, O>(words, place + k) != read_entry::<Q, P>(others, other_place + k) {
-            return k;
-        }
+    let same = agree_singly::<R, O, Q, P>(words, place, others, other_place, few);
+    if same < few || few == len {
+        return same;
     }
-    if few == len {
-        return len;
-    }
-    let same = agree_by_chunks::<R, O, Q, P>(
+    let rest = agree_by_chunks::<R, O, Q, P>(
         words,
         place + few,
         others,
         other_place + few,
         len - few,
     );
-    few + same
+    few + rest
 }
 
 // The same, by chunks.

@@ -1,10 +1,10 @@
 //! Bits of one memory that stand in those of another.
 
-ghost use Rattle.std.specs.Prelude.{◌≢◌, ℕ, ◌+◌, ◌*◌, ◌^◌, ◌<◌, ◌≤◌, ◌↔◌, length, IsTrue};
-ghost use Rattle.bit_addressing_memory.specs.Memory.{memory, piece, read_by};
+ghost use Rattle.std.specs.Prelude.{◌≡◌, ◌≢◌, ℕ, ◌+◌, ◌*◌, ◌^◌, ◌<◌, ◌≤◌, ◌↔◌, length, IsTrue};
+ghost use Rattle.bit_addressing_memory.specs.Memory.{entry, memory, piece, read_by};
 ghost use Rattle.bit_slice_words.specs.Holds.{Holds};
 
-use crate::equal::equal_in;
+use crate::agree::{agree_rest, agree_singly, few_to_compare};
 use bit_addressing_memory::{BitOrder, BitRegister, Walk, most_singly_of_two};
 use bit_slice_chunks::any_order::direction_for;
 use bit_slice_paths::seek;
@@ -36,17 +36,67 @@ pub fn contains_in<R: BitRegister, O: BitOrder<R>, Q: BitRegister, P: BitOrder<Q
         return false;
     }
     let starts = len - other_len + 1;
-    // Most are found or passed over by their first bits.
-    let few = starts.min(most_singly_of_two::<R, O, Q, P>(Walk::Seek));
-    for i in 0..few {
-        if equal_in::<R, O, Q, P>(words, place + i, others, other_place, other_len) {
-            return true;
+    let places = starts.min(most_singly_of_two::<R, O, Q, P>(Walk::Seek));
+    let few = few_to_compare::<R, O, Q, P>(other_len);
+    // Most are passed over by their first bits. What follows the loop is out of line, so that it is a short one.
+    for i in 0..places {
+        if agree_singly::<R, O, Q, P>(words, place + i, others, other_place, few) == few {
+            if few == other_len {
+                return true;
+            }
+            return contains_from::<R, O, Q, P>(
+                words,
+                place,
+                len,
+                others,
+                other_place,
+                other_len,
+                i,
+                few,
+            );
         }
     }
-    if few == starts {
+    if places == starts {
         return false;
     }
-    contains_rest::<R, O, Q, P>(words, place, len, others, other_place, other_len, few)
+    contains_rest::<R, O, Q, P>(words, place, len, others, other_place, other_len, places)
+}
+
+// The same where the bits stand at no place before one, and their first `few` do there.
+#[inline(never)]
+fn contains_from<R: BitRegister, O: BitOrder<R>, Q: BitRegister, P: BitOrder<Q>>(
+    words: &[R],
+    place: usize,
+    len: usize,
+    others: &[Q],
+    other_place: usize,
+    other_len: usize,
+    from: usize,
+    few: usize,
+) -> bool
+    requires some { 0 < other_len }
+    requires order { from + other_len ≤ len }
+    requires few { few ≤ other_len }
+    requires within { place + len ≤ length words.now * R.BITS }
+    requires ends { place + len < 2 ^ 64 }
+    requires other_within { other_place + other_len ≤ length others.now * Q.BITS }
+    requires other_ends { other_place + other_len < 2 ^ 64 }
+    requires none { (k : ℕ) → k < from
+        → piece (memory (read_by R.BitRegister O.position) words.now) (place + k) other_len
+        ≢ piece (memory (read_by Q.BitRegister P.position) others.now) other_place other_len }
+    requires same { (k : ℕ) → k < few → entry (read_by R.BitRegister O.position) words.now (place + from + k)
+        ≡ entry (read_by Q.BitRegister P.position) others.now (other_place + k) }
+    ensures { IsTrue result ↔ Holds (piece (memory (read_by R.BitRegister O.position) words.now) place len)
+        (piece (memory (read_by Q.BitRegister P.position) others.now) other_place other_len) }
+{
+    let here = place + from;
+    if agree_rest::<R, O, Q, P>(words, here, others, other_place, other_len, few) == other_len {
+        return true;
+    }
+    if len - other_len == from {
+        return false;
+    }
+    contains_rest::<R, O, Q, P>(words, place, len, others, other_place, other_len, from + 1)
 }
 
 // The same where the bits stand at none of the first places, by chunks behind them.

@@ -2,7 +2,7 @@
 
 ghost use Rattle.std.specs.Prelude.{◌≡◌, ℕ, ◌+◌, ◌*◌, ◌^◌, ◌<◌, ◌≤◌, Bool, List, [], length, map, take, IfOk, OnOk};
 ghost use Rattle.std.specs.Prelude.{Some};
-ghost use Rattle.bit_addressing_memory.specs.Memory.{memory, piece, read_by};
+ghost use Rattle.bit_addressing_memory.specs.Memory.{piece, read_by};
 ghost use Rattle.bit_containers_vector.specs.Vector.{vec_bits};
 ghost use Rattle.bit_slice_chunks.specs.Chunk.{chunk_bit, IsChunk};
 ghost use Rattle.bit_slice_views.specs.View.{view_bits};
@@ -19,7 +19,7 @@ use bit_slice_chunks::any_order::{direction_for, read_bits, read_chunk};
 use bit_slice_views::{BitSlice, BitStore, Bits};
 use bit_slice_words::{Steps, WordPaths};
 use bit_table_commands::Test;
-use bit_table_fields::{Digits, bits_before, load_number};
+use bit_table_fields::{Digits, bits_before};
 use bit_table_layout::{Layout, Rule};
 use bit_table_rows::Letters;
 use std::alloc::{AllocError, Global};
@@ -83,16 +83,19 @@ fn mark_singly<T: BitStore, O: WordPaths<T> + Digits<T>>(
         (rows_from layout.now (length letters.old) (vec_bits (read_by T.BitRegister O.position) bits.now)))
         letters.old }
 {
-    let width = layout.row_bits();
-    let rule = layout.rule();
     let shape = &layout.fields()[field];
-    let (digits, signed) = (shape.width(), shape.signed());
+    let column = Column {
+        rule: layout.rule(),
+        digits: shape.width(),
+        signed: shape.signed(),
+        stride: layout.row_bits(),
+    };
     let first = bits_before(layout, field);
     // As many bits as a `usize` counts, and so each row's place is one.
     let _bits = bits.len();
+    let view = bits.as_bitslice();
     for row in 0..letters.rows() {
-        let mut steps = Steps::new();
-        let number = load_number(bits, row * width + first, rule, digits, signed, &mut steps);
+        let number = number_in::<T, O>(view, row * column.stride + first, column);
         letters.put(letter, row, test.passes(number, value));
     }
 }
@@ -157,31 +160,34 @@ fn answers_from<T: BitRegister, O: Digits<T>>(
         (piece (view_bits (read_by T.BitRegister O.position) bits.entry) (place + k * column.stride) column.digits))
         value) count result }
 {
-    let (words, head, _len) = bits.parts();
-    let first = head as usize + place;
     let mut answers = 0u64;
     for k in 0..count {
-        let number = number_from::<T, O>(words, first + k * column.stride, column);
+        let number = number_in::<T, O>(bits, place + k * column.stride, column);
         answers = with_answer(answers, k, test.passes(number, value));
     }
     answers
 }
 
-// The number of a field that stands at a place.
+// The number of a field that stands at a place among bits.
 #[inline(always)]
-fn number_from<T: BitRegister, O: Digits<T>>(words: &[T], place: usize, column: Column) -> i128
+fn number_in<T: BitRegister, O: Digits<T>>(
+    bits: BitSlice<'_, T, O>,
+    place: usize,
+    column: Column,
+) -> i128
     requires some { 1 ≤ column.digits }
     requires narrow { column.digits ≤ 64 }
-    requires within { place + column.digits ≤ length words.now * T.BITS }
-    requires ends { place + column.digits < 2 ^ 64 }
+    requires within { place + column.digits ≤ length (view_bits (read_by T.BitRegister O.position) bits) }
     ensures { result ≡ number_held column.rule column.signed column.digits
-        (piece (memory (read_by T.BitRegister O.position) words.now) place column.digits) }
+        (piece (view_bits (read_by T.BitRegister O.position) bits.entry) place column.digits) }
 {
+    let (words, head, _len) = bits.parts();
+    let first = head as usize + place;
     let (digits, signed) = (column.digits, column.signed);
     let mut steps = Steps::new();
     match column.rule {
-        Rule::Low => O::load_low_at(words, place, digits, signed, &mut steps),
-        Rule::High => O::load_high_at(words, place, digits, signed, &mut steps),
+        Rule::Low => O::load_low_at(words, first, digits, signed, &mut steps),
+        Rule::High => O::load_high_at(words, first, digits, signed, &mut steps),
     }
 }
 

@@ -1,23 +1,23 @@
-use Rattle.std.proofs.Common.{◌≡◌, ◌+◌, ◌*◌, ◌/◌, ◌%◌, arith}
+use Rattle.std.proofs.Common.{◌≡◌, ◌+◌, ◌-◌, arith}
 use Rattle.bit_addressing_memory.specs.Memory.{read_by}
 use Rattle.bit_slice_chunks.specs.Combined.{combined_bit}
 use Rattle.bit_slice_paths.proofs.WalkLemmas.{combines_more}
 use Rattle.bit_slice_paths.proofs.across.combine.Goals as goal
+use Rattle.bit_slice_paths.proofs.across.combine.Goals.{then-first-gt0, else-first-gt0}
 
-pub loop-k-preserved : goal.loop-k-preserved
-loop-k-preserved g c =
-    let reading = read_by g.R.BitRegister g.O.Positions.position in
-    let its = read_by g.Q.BitRegister g.P.Positions.position in
-    let k = c.loop-k.k in
-    combines_more reading its c.args.words.now c.loop-k.words c.combine_whole.new.words c.args.others.now
-    c.args.place c.args.other_place (64 * k) 64 (64 * (k + 1)) (combined_bit c.args.how) (omega arith)
-    c.loop-k.invariant c.combine_whole.ensures
-
-pub returns-then-rest-gt0 : goal.returns-then-rest-gt0
-returns-then-rest-gt0 g c =
-    let reading = read_by g.R.BitRegister g.O.Positions.position in
-    let its = read_by g.Q.BitRegister g.P.Positions.position in
-    let whole : c.loop-k.k ≡ c.args.len / 64 = omega arith in
-    combines_more reading its c.args.words.now c.loop-k.words c.combine_rest.new.words c.args.others.now
-    c.args.place c.args.other_place (64 * (c.args.len / 64)) (c.args.len % 64) c.args.len (combined_bit c.args.how)
-    (omega arith) (rw whole at c.loop-k.invariant) c.combine_rest.ensures
+pub returns : goal.returns
+returns g c =
+    let first = c.before_chunks-first.result in
+    elim c.if-first-gt0.branch [
+      | then-first-gt0 w ↦
+          combines_more (read_by g.R.BitRegister g.O.Positions.position)
+          (read_by g.Q.BitRegister g.P.Positions.position) c.args.words.now w.combine_rest.new.words
+          c.combine_chunks.new.words c.args.others.now c.args.place c.args.other_place first (c.args.len - first)
+          c.args.len (combined_bit c.args.how) (omega (arith, c.before_chunks-first.ensures.within))
+          w.combine_rest.ensures (rw w.words-is at c.combine_chunks.ensures)
+      | else-first-gt0 w ↦
+          let here : c.args.place + first ≡ c.args.place = omega (arith, w.if-first-gt0.false) in
+          let there : c.args.other_place + first ≡ c.args.other_place = omega (arith, w.if-first-gt0.false) in
+          let all : c.args.len - first ≡ c.args.len = omega (arith, w.if-first-gt0.false) in
+          rw (here, there, all, w.words-is) at c.combine_chunks.ensures
+    ]

@@ -1,4 +1,4 @@
-use Rattle.std.proofs.Common.{rules, ◌∙◌, ap}
+use Rattle.std.proofs.Common.{◌∙◌, ap}
 use Rattle.bit_addressing_memory.specs.Memory.{with_piece}
 use Rattle.bit_slice_views_mut.proofs.MidLemmas.{mid_piece, mid_with}
 use Rattle.bit_slice_views_mut.proofs.sweeps.sweep_some.Goals as goal

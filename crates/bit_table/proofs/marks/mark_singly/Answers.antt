@@ -21,8 +21,8 @@ use Rattle.bit_table.proofs.marks.mark_singly.Goals as goal
 pub loop-row-init : goal.loop-row-init
 loop-row-init g c = refl
 
-pub load_number-number-requires-clause-within : goal.load_number-number-requires-clause-within
-load_number-number-requires-clause-within g c =
+pub number_in-number-requires-clause-within : goal.number_in-number-requires-clause-within
+number_in-number-requires-clause-within g c =
     let l = c.args.layout.now in
     let bits = vec_bits (read_by g.T.BitRegister g.O.Positions.position) c.args.bits.now in
     let shape = c.index-fields-field.result in
@@ -31,7 +31,7 @@ load_number-number-requires-clause-within g c =
     let is : slice_get l.fields c.args.field ≡ Some shape =
     slice_get-get_or l.fields c.args.field shape c.requires.field ∙ ap Some (sym got) in
     let low : c.loop-row.row < length c.args.letters.now = omega (arith, c.loop-row-test.true, c.rows-row-end.ensures) in
-    rw (c.row_bits-width.ensures.bits, c.bits_before-first.ensures, c.width-digits.ensures.width)
+    rw (c.row_bits.ensures.bits, c.bits_before-first.ensures, c.width.ensures.width)
     (number_within l (length c.args.letters.now) bits c.requires.bits c.loop-row.row c.args.field shape low is)
 
 pub put-requires : goal.put-requires
@@ -57,14 +57,14 @@ loop-row-preserved g c =
     let count = length-rows_from l n bits in
     let size = length-map rows decide in
     let found = rw (
-      c.row_bits-width.ensures.bits,
-      c.rule-rule.ensures,
+      c.row_bits.ensures.bits,
+      c.rule.ensures,
       c.bits_before-first.ensures,
-      c.width-digits.ensures.width,
-      c.signed-signed.ensures,
-    ) at c.load_number-number.ensures.value in
+      c.width.ensures.width,
+      c.signed.ensures,
+    ) at c.number_in-number.ensures in
     let number = found ∙ number_at l n bits c.requires.bits i c.args.field shape (new_row []) low is in
-    let sized = to_z-of_z w128 c.load_number-number.result (record { sfits = c.load_number-number.type_inv }) in
+    let sized = to_z-of_z w128 c.number_in-number.result (record { sfits = c.number_in-number.type_inv }) in
     let told_so = c.passes.ensures ∙ ap (λ m. passes c.args.test m asked) (sized ∙ number) in
     let flag : c.passes.result ≡ get_or (map decide rows) i c.passes.result =
     told_so ∙ sym (get_or-map decide rows i (new_row []) c.passes.result (omega (arith, low, count))) in

@@ -1,7 +1,7 @@
 use Rattle.std.proofs.Common.{◌*◌}
 use Rattle.bit_addressing_memory.specs.Memory.{read_by}
 use Rattle.bit_slice_chunks.specs.Combined.{combined_bit, Combines}
-use Rattle.bit_slice_paths.proofs.across.combine.Given as goal
+use Rattle.bit_slice_paths.proofs.across.combine_chunks.Given as goal
 
 abbrev pub invariant-loop-k : goal.invariant-loop-k
 invariant-loop-k g l =

@@ -1,5 +1,5 @@
-//! Numbers in windows for every order: by a chunk, which counts one step a bit. By `digits_by_bits` go a few bits, but
-//! those that are read where the order goes straight, and all where it turns no word quickly.
+//! Numbers in windows for every order: by a chunk, which counts one step a bit. By `digits_by_bits` go a few bits, and all
+//! where the order turns no word quickly.
 
 ghost use Rattle.std.specs.Prelude.{◌≡◌, ℕ, ◌+◌, ◌*◌, ◌^◌, ◌<◌, ◌≤◌, length};
 ghost use Rattle.bit_addressing_memory.specs.Bits.{digit_at};

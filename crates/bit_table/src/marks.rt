@@ -161,6 +161,8 @@ fn answers_from<T: BitRegister, O: Digits<T>>(
         value) count result }
 {
     let mut answers = 0u64;
+    // As many bits as a `usize` counts, and so each number's place is one.
+    let _bits = bits.len();
     for k in 0..count {
         let number = number_in::<T, O>(bits, place + k * column.stride, column);
         answers = with_answer(answers, k, test.passes(number, value));

@@ -1,8 +1,7 @@
-use Rattle.std.proofs.Common.{◌≡◌, ℕ, ◌+◌, ◌*◌, Bool, ap, sym, ◌∙◌, arith, of_z, to_z}
+use Rattle.std.proofs.Common.{ℕ, ◌+◌, ◌*◌, Bool, ap, sym, ◌∙◌, arith, of_z, to_z}
 use mir.Syntax.{w128}
 use Rattle.std.proofs.lemmas.Int.{to_z-of_z}
-use Rattle.bit_addressing_memory.specs.Memory.{memory, piece, read_by}
-use Rattle.bit_addressing_memory.proofs.MemoryLemmas.{piece_piece}
+use Rattle.bit_addressing_memory.specs.Memory.{piece, read_by}
 use Rattle.bit_slice_views.specs.View.{view_bits}
 use Rattle.bit_table_commands.specs.Marks.{passes}
 use Rattle.bit_table_fields.specs.Windows.{number_held}
@@ -11,6 +10,16 @@ use Rattle.bit_table.proofs.marks.answers_from.Goals as goal
 
 pub loop-k-init : goal.loop-k-init
 loop-k-init g c = none_told _
+
+pub overflow_mul-k : goal.overflow_mul-k
+overflow_mul-k g c =
+    let inside = c.requires.within c.loop-k.k c.loop-k-test.true in
+    omega (arith, inside, c.len-bits.ensures, c.len-bits.type_inv)
+
+pub overflow_add-place : goal.overflow_add-place
+overflow_add-place g c =
+    let inside = c.requires.within c.loop-k.k c.loop-k-test.true in
+    omega (arith, inside, c.len-bits.ensures, c.len-bits.type_inv)
 
 pub loop-k-preserved : goal.loop-k-preserved
 loop-k-preserved g c =

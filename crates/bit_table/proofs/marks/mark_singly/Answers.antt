@@ -31,7 +31,7 @@ number_in-number-requires-clause-within g c =
     let is : slice_get l.fields c.args.field ≡ Some shape =
     slice_get-get_or l.fields c.args.field shape c.requires.field ∙ ap Some (sym got) in
     let low : c.loop-row.row < length c.args.letters.now = omega (arith, c.loop-row-test.true, c.rows-row-end.ensures) in
-    rw (c.row_bits.ensures.bits, c.bits_before-first.ensures, c.width.ensures.width)
+    rw (c.as_bitslice-view.ensures.bits, c.row_bits.ensures.bits, c.bits_before-first.ensures, c.width.ensures.width)
     (number_within l (length c.args.letters.now) bits c.requires.bits c.loop-row.row c.args.field shape low is)
 
 pub put-requires : goal.put-requires
@@ -57,6 +57,7 @@ loop-row-preserved g c =
     let count = length-rows_from l n bits in
     let size = length-map rows decide in
     let found = rw (
+      c.as_bitslice-view.ensures.bits,
       c.row_bits.ensures.bits,
       c.rule.ensures,
       c.bits_before-first.ensures,

@@ -54,33 +54,8 @@ pub(crate) fn agree_singly<R: BitRegister, O: BitOrder<R>, Q: BitRegister, P: Bi
     len
 }
 
-// How many of `len` bits of two memories are the same, from the first on. Lists that differ mostly do so early.
+// The same where the first `few` are the same.
 #[inline(always)]
-pub(crate) fn agree_in<R: BitRegister, O: BitOrder<R>, Q: BitRegister, P: BitOrder<Q>>(
-    words: &[R],
-    place: usize,
-    others: &[Q],
-    other_place: usize,
-    len: usize,
-) -> usize
-    requires within { place + len ≤ length words.now * R.BITS }
-    requires ends { place + len < 2 ^ 64 }
-    requires other_within { other_place + len ≤ length others.now * Q.BITS }
-    requires other_ends { other_place + len < 2 ^ 64 }
-    ensures { Agrees (read_by R.BitRegister O.position) words.now place
-        (read_by Q.BitRegister P.position) others.now other_place len result }
-{
-    let few = few_to_compare::<R, O, Q, P>(len);
-    let same = agree_singly::<R, O, Q, P>(words, place, others, other_place, few);
-    if same < few || few == len {
-        return same;
-    }
-    agree_rest::<R, O, Q, P>(words, place, others, other_place, len, few)
-}
-
-// The same where the first `few` are the same. Out of line, so that lists that differ early are compared by a short
-// function.
-#[inline(never)]
 pub(crate) fn agree_rest<R: BitRegister, O: BitOrder<R>, Q: BitRegister, P: BitOrder<Q>>(
     words: &[R],
     place: usize,

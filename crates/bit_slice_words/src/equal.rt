@@ -1,9 +1,9 @@
 //! Bits of two memories, equal or not.
 
-ghost use Rattle.std.specs.Prelude.{◌≡◌, ◌+◌, ◌*◌, ◌^◌, ◌<◌, ◌≤◌, ◌↔◌, length, IsTrue};
-ghost use Rattle.bit_addressing_memory.specs.Memory.{memory, piece, read_by};
+ghost use Rattle.std.specs.Prelude.{◌≡◌, ℕ, ◌+◌, ◌*◌, ◌^◌, ◌<◌, ◌≤◌, ◌↔◌, length, IsTrue};
+ghost use Rattle.bit_addressing_memory.specs.Memory.{entry, memory, piece, read_by};
 
-use crate::agree::agree_in;
+use crate::agree::{agree_rest, agree_singly, few_to_compare};
 use bit_addressing_memory::{BitOrder, BitRegister};
 
 /// Whether the `len` bits of the memory `words` from a place on are those of the memory `others` from another place
@@ -24,5 +24,37 @@ pub fn equal_in<R: BitRegister, O: BitOrder<R>, Q: BitRegister, P: BitOrder<Q>>(
     ensures { IsTrue result ↔ (piece (memory (read_by R.BitRegister O.position) words.now) place len
         ≡ piece (memory (read_by Q.BitRegister P.position) others.now) other_place len) }
 {
-    agree_in::<R, O, Q, P>(words, place, others, other_place, len) == len
+    let few = few_to_compare::<R, O, Q, P>(len);
+    // Lists that differ mostly do so early.
+    if agree_singly::<R, O, Q, P>(words, place, others, other_place, few) < few {
+        return false;
+    }
+    if few == len {
+        return true;
+    }
+    equal_rest::<R, O, Q, P>(words, place, others, other_place, len, few)
+}
+
+// The same where the first `few` bits are the same. Out of line, so that lists that differ early are compared by a short
+// function.
+#[inline(never)]
+fn equal_rest<R: BitRegister, O: BitOrder<R>, Q: BitRegister, P: BitOrder<Q>>(
+    words: &[R],
+    place: usize,
+    others: &[Q],
+    other_place: usize,
+    len: usize,
+    few: usize,
+) -> bool
+    requires few { few ≤ len }
+    requires within { place + len ≤ length words.now * R.BITS }
+    requires ends { place + len < 2 ^ 64 }
+    requires other_within { other_place + len ≤ length others.now * Q.BITS }
+    requires other_ends { other_place + len < 2 ^ 64 }
+    requires same { (k : ℕ) → k < few → entry (read_by R.BitRegister O.position) words.now (place + k)
+        ≡ entry (read_by Q.BitRegister P.position) others.now (other_place + k) }
+    ensures { IsTrue result ↔ (piece (memory (read_by R.BitRegister O.position) words.now) place len
+        ≡ piece (memory (read_by Q.BitRegister P.position) others.now) other_place len) }
+{
+    agree_rest::<R, O, Q, P>(words, place, others, other_place, len, few) == len
 }

@@ -38,12 +38,36 @@ pub(crate) fn load<R: BitRegister, O: BitOrder<R>>(
         (piece (memory (read_by R.BitRegister O.position) words.now) place width) }
     ensures steps { Takes steps.old steps.new width width }
 {
-    // Where none are read one by one, nothing is asked.
     let few = most_singly::<R, O>(Walk::Load);
-    if few > 0 && width as usize <= few {
+    // Where none are read one by one, nothing is asked.
+    if few == 0 {
+        return load_chunk::<R, O>(rule, words, place, width, signed, steps);
+    }
+    if width as usize <= few {
         let view = BitSlice::<R, O>::from_place(words, place, width as usize);
         return digits_by_bits::load(rule, &view, signed, steps);
     }
+    load_behind_few::<R, O>(rule, words, place, width, signed, steps)
+}
+
+// The same of more than a few bits. Out of line, so that a few are read by a short function.
+#[inline(never)]
+fn load_behind_few<R: BitRegister, O: BitOrder<R>>(
+    rule: Rule,
+    words: &[R],
+    place: usize,
+    width: u32,
+    signed: bool,
+    steps: &mut Steps,
+) -> i128
+    requires some { 1 ≤ width }
+    requires narrow { width ≤ 64 }
+    requires within { place + width ≤ length words.now * R.BITS }
+    requires ends { place + width < 2 ^ 64 }
+    ensures value { result ≡ number_held rule signed width
+        (piece (memory (read_by R.BitRegister O.position) words.now) place width) }
+    ensures steps { Takes steps.old steps.new width width }
+{
     load_chunk::<R, O>(rule, words, place, width, signed, steps)
 }
 

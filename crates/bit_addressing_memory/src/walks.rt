@@ -106,7 +106,7 @@ fn turned<R: BitRegister>(walk: Walk) -> usize {
         Walk::Seek => 32,
         Walk::Exchange => 48,
         Walk::Compare => if of_32 { 80 } else { 64 },
-        Walk::Each => if narrow { usize::MAX } else { 64 },
+        Walk::Each => if of_32 { usize::MAX } else { 64 },
         Walk::List => 64,
         Walk::Turn => 80,
         Walk::Fill => usize::MAX,

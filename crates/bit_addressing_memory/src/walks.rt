@@ -69,7 +69,7 @@ pub fn most_singly_of_two<R: BitRegister, O: BitOrder<R>, Q: BitRegister, P: Bit
 // and up to 64 at once: a copy 40 + 30 n and 190, a reversal 24 + 13 n and 180, lists compared 30 + 21 n and 230, a number
 // stored 25 + 20 n and 80, an exchange 30 + 51 n and 600, a closure's answers 15 + 21 n and 1,100, the same of what shows
 // the bit 18 + 37 n and 2,400, rows marked 75 n and more, and 500 + 40 n. Of words of 8 bits the second is up to twice that.
-// A number of bytes is read by 22 + 13 n, or 104. Of lists that differ at a place behind the first ones both ways are paid:
+// A number of bytes is read by 33 + 13 n, or 133. Of lists that differ at a place behind the first ones both ways are paid:
 // a chunk less than 64 bits long costs twice one of 64, so more are compared one by one where no whole one is left.
 #[inline(always)]
 fn straight<R: BitRegister>(walk: Walk) -> usize {

@@ -1,37 +1,34 @@
-use Rattle.std.proofs.Common.{◌≡◌, ℕ, ◌+◌, ◌≤◌, Bool, List, ap, sym, ◌∙◌, arith}
+use Rattle.std.proofs.Common.{◌≡◌, ℕ, ◌+◌, ◌≤◌, Bool, List, ℤ, ap, sym, ◌∙◌, arith}
 use mir.Syntax.{w128}
 use Rattle.std.proofs.lemmas.Int.{to_z-of_z}
 use Rattle.bit_addressing_memory.specs.Memory.{memory, piece, read_by}
 use Rattle.bit_addressing_memory.proofs.MemoryLemmas.{piece_piece}
 use Rattle.bit_table_fields.specs.Windows.{number_held}
+use Rattle.bit_table_layout.specs.declared.layout.Rule.{Rule}
 use Rattle.bit_table.proofs.marks.number_in.Goals as goal
 
--- a piece of bits that are themselves a piece
-there : (bits held : List Bool) (head len place n : ℕ) → held ≡ piece bits head len → place + n ≤ len
-    → piece bits (head + place) n ≡ piece held place n
-there bits held head len place n is inside =
-    sym (ap (λ xs. piece xs place n) is ∙ piece_piece bits head len place n inside)
+-- the number in a piece of bits that are a piece of others, read among these
+number_there : (own rule : Rule) (signed : Bool) (bits held : List Bool) (head len place n : ℕ) (number : ℤ)
+    → own ≡ rule → held ≡ piece bits head len → place + n ≤ len
+    → number ≡ number_held rule signed n (piece bits (head + place) n)
+    → number ≡ number_held own signed n (piece held place n)
+number_there own rule signed bits held head len place n number same is inside read =
+    read
+    ∙ ap (λ r. number_held r signed n (piece bits (head + place) n)) (sym same)
+    ∙ ap (number_held own signed n) (sym (ap (λ xs. piece xs place n) is ∙ piece_piece bits head len place n inside))
 
 pub returns-in-Low : goal.returns-in-Low
 returns-in-Low g c =
-    let column = c.args.column in
-    let bits = memory (read_by g.T.BitRegister g.O.Positions.position) c.parts-head.result.0.now in
     to_z-of_z w128 c.load_low_at.result (record { sfits = c.load_low_at.type_inv })
-    ∙ c.load_low_at.ensures.value
-    ∙ ap (λ rule. number_held rule column.signed column.digits (piece bits (c.parts-head.result.1 + c.args.place) column.digits))
-    (sym c.in-Low.is)
-    ∙ ap (number_held column.rule column.signed column.digits)
-    (there bits _ c.parts-head.result.1 c.parts-head.result.2 c.args.place column.digits c.parts-head.ensures.bits
-    (omega (arith, c.requires.within, c.parts-head.ensures.len)))
+    ∙ number_there c.args.column.rule _ c.args.column.signed
+    (memory (read_by g.T.BitRegister g.O.Positions.position) c.parts-head.result.0.now) _ c.parts-head.result.1
+    c.parts-head.result.2 c.args.place c.args.column.digits _ c.in-Low.is c.parts-head.ensures.bits
+    (omega (arith, c.requires.within, c.parts-head.ensures.len)) c.load_low_at.ensures.value
 
 pub returns-in-High : goal.returns-in-High
 returns-in-High g c =
-    let column = c.args.column in
-    let bits = memory (read_by g.T.BitRegister g.O.Positions.position) c.parts-head.result.0.now in
     to_z-of_z w128 c.load_high_at.result (record { sfits = c.load_high_at.type_inv })
-    ∙ c.load_high_at.ensures.value
-    ∙ ap (λ rule. number_held rule column.signed column.digits (piece bits (c.parts-head.result.1 + c.args.place) column.digits))
-    (sym c.in-High.is)
-    ∙ ap (number_held column.rule column.signed column.digits)
-    (there bits _ c.parts-head.result.1 c.parts-head.result.2 c.args.place column.digits c.parts-head.ensures.bits
-    (omega (arith, c.requires.within, c.parts-head.ensures.len)))
+    ∙ number_there c.args.column.rule _ c.args.column.signed
+    (memory (read_by g.T.BitRegister g.O.Positions.position) c.parts-head.result.0.now) _ c.parts-head.result.1
+    c.parts-head.result.2 c.args.place c.args.column.digits _ c.in-High.is c.parts-head.ensures.bits
+    (omega (arith, c.requires.within, c.parts-head.ensures.len)) c.load_high_at.ensures.value

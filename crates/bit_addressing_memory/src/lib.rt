@@ -17,7 +17,7 @@ mod sweep;
 mod walks;
 
 pub use bit_addressing_order::{
-    BitEnd, BitIdx, BitOrder, BitRegister, LocalBits, Lsb0, Msb0, OrderCandidate, Positions,
+    BitEnd, BitIdx, BitMask, BitOrder, BitRegister, Limits, LocalBits, Lsb0, Msb0, OrderCandidate, Positions,
     mask_from_at, mem, select_from_at,
 };
 pub use copies::{copy_between, copy_within, swap_between, swap_entries, swap_within};

@@ -9,8 +9,8 @@ use Rattle.std.proofs.lemmas.List.{get_or-map, get_or_append_left, get_or-append
 use Rattle.std.proofs.lemmas.List.{places}
 use Rattle.std.proofs.Math.Nat.{mul-le-mul_right}
 use Rattle.std.proofs.lemmas.Nat.{div-mul-add, mod-mul-add}
-use Rattle.bit_addressing_order.specs.Bits.{digit_at}
-use Rattle.bit_addressing_order.specs.BitOrder.{IsLawful}
+use Rattle.bit_addressing_memory.specs.Bits.{digit_at}
+use Rattle.bit_addressing_memory.specs.BitOrder.{IsLawful}
 use Rattle.bit_addressing_memory.specs.Memory.{Reading, entry, reading_in, touched}
 use Rattle.bit_addressing_memory.proofs.EntryLemmas.{entry_read}
 use Rattle.bit_addressing_memory.specs.Partial.{part_mask}

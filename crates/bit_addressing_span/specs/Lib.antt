@@ -10,9 +10,9 @@ pub mod PartialElementMut
 pub mod DomainMut
 pub mod Parts
 -- what public clauses cite of the crates below
-pub use Rattle.bit_addressing_order.specs.BitIdx
-pub use Rattle.bit_addressing_order.specs.BitOrder
-pub use Rattle.bit_addressing_order.specs.BitRegister
-pub use Rattle.bit_addressing_order.specs.Bits
+pub use Rattle.bit_addressing_memory.specs.BitIdx
+pub use Rattle.bit_addressing_memory.specs.BitOrder
+pub use Rattle.bit_addressing_memory.specs.BitRegister
+pub use Rattle.bit_addressing_memory.specs.Bits
 pub use Rattle.bit_addressing_memory.specs.Memory
 pub use Rattle.bit_addressing_memory.specs.Partial

@@ -4,7 +4,7 @@
 -- A read of all: `AreMasked`.
 use Rattle.std.specs.Prelude.{ℕ, ◌+◌, ◌-◌, ◌*◌, ◌<◌, List, min, slice_index}
 use Rattle.bit_addressing_memory.specs.Memory.{Reading, touched}
-use Rattle.bit_addressing_order.specs.Bits.{digit_at}
+use Rattle.bit_addressing_memory.specs.Bits.{digit_at}
 use Rattle.bit_addressing_memory.specs.Partial.{ReadsDigits}
 use Rattle.bit_addressing_span.specs.Span.{Extent}
 

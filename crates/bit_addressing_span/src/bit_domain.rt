@@ -9,7 +9,7 @@ ghost use Rattle.bit_addressing_span.specs.Domain.{IsCut, IsEnclave, IsHead, IsT
 use crate::bit_part::BitPart;
 use crate::domain::Domain;
 use crate::partial::PartialElement;
-use bit_addressing_order::{BitOrder, BitRegister};
+use bit_addressing_memory::{BitOrder, BitRegister};
 use std::alloc::AllocError;
 
 /// A domain as its parts: bits inside a word, touching neither of its edges, or whole words with bits of one word before

@@ -4,7 +4,7 @@ ghost use Rattle.std.specs.Prelude.{◌≡◌, ◌+◌, ◌-◌, ◌*◌, ◌<�
 ghost use Rattle.bit_addressing_memory.specs.Memory.{read_by};
 
 use crate::partial::PartialElement;
-use bit_addressing_order::{BitIdx, BitOrder, BitRegister};
+use bit_addressing_memory::{BitIdx, BitOrder, BitRegister};
 use std::alloc::AllocError;
 use std::marker::PhantomData;
 

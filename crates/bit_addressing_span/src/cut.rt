@@ -5,7 +5,7 @@ ghost use Rattle.std.specs.Prelude.{length, take, drop, min, slice_index, IfSome
 ghost use Rattle.bit_addressing_memory.specs.Memory.{read_by, memory, piece, touched};
 ghost use Rattle.bit_addressing_span.specs.Domain.{IsCut, IsEnclave, IsTail, domain_start, domain_bits};
 ghost use Rattle.bit_addressing_span.specs.Domain.{domain_numbers, option_bits, option_numbers};
-ghost use Rattle.bit_addressing_order.specs.Bits.{digit_at};
+ghost use Rattle.bit_addressing_memory.specs.Bits.{digit_at};
 ghost use Rattle.bit_addressing_span.specs.Parts.{AreMasked};
 ghost use Rattle.bit_addressing_memory.specs.Partial.{ReadsDigits};
 ghost use Rattle.bit_addressing_span.specs.Span.{extent, span_bits, FitsIn, LiesInside};
@@ -14,7 +14,7 @@ ghost use Rattle.bit_addressing_span.specs.PartialElement.{partial_head, partial
 use crate::domain::Domain;
 use crate::partial::PartialElement;
 use crate::span::{BitSpan, MAX_BITS};
-use bit_addressing_order::{BitEnd, BitIdx, BitOrder, BitRegister, Limits};
+use bit_addressing_memory::{BitEnd, BitIdx, BitOrder, BitRegister, Limits};
 
 impl<R: BitRegister, O: BitOrder<R>> BitSpan<R, O> {
     /// The span's bits in these words, cut at the borders of words: each bit once, in order, and no

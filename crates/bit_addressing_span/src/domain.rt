@@ -3,7 +3,7 @@
 ghost use Rattle.std.specs.Prelude.{◌≡◌, ⊤};
 
 use crate::partial::PartialElement;
-use bit_addressing_order::{BitOrder, BitRegister};
+use bit_addressing_memory::{BitOrder, BitRegister};
 use std::alloc::AllocError;
 
 /// A span cut into words: a part of one word that touches neither of its edges, or whole words with a

@@ -12,7 +12,7 @@ ghost use Rattle.bit_addressing_span.specs.Texts.{between, joined_text, numbers_
 use crate::domain::Domain;
 use crate::domain_mut::DomainMut;
 use crate::partial::PartialElement;
-use bit_addressing_order::{BitOrder, BitRegister};
+use bit_addressing_memory::{BitOrder, BitRegister};
 use std::fmt;
 
 // How a number is written.

@@ -4,8 +4,7 @@ ghost use Rattle.std.specs.Prelude.{◌≡◌, ◌∷◌, [], ◌-◌, ◌<◌, 
 ghost use Rattle.bit_addressing_memory.specs.Memory.{read_by};
 ghost use Rattle.bit_addressing_memory.specs.Partial.{part_mask, IsMasked};
 
-use bit_addressing_memory::masked;
-use bit_addressing_order::{BitEnd, BitIdx, BitMask, BitOrder, BitRegister};
+use bit_addressing_memory::{BitEnd, BitIdx, BitMask, BitOrder, BitRegister, masked};
 use std::alloc::AllocError;
 use std::marker::PhantomData;
 

@@ -5,7 +5,7 @@ ghost use Rattle.bit_addressing_memory.specs.Memory.{touched};
 ghost use Rattle.bit_addressing_span.specs.Span.{extent, end_inside, FitsIn, IsExtent, IsRefusal};
 
 use crate::span_error::BitSpanError;
-use bit_addressing_order::{BitEnd, BitIdx, BitOrder, BitRegister, Limits};
+use bit_addressing_memory::{BitEnd, BitIdx, BitOrder, BitRegister, Limits};
 use std::marker::{Model, PhantomData};
 
 /// The greatest number of bits that a span has: `usize::MAX >> 3`.

@@ -8,7 +8,7 @@ ghost use Rattle.bit_addressing_span.specs.DomainWords.{option_word};
 
 use crate::domain::Domain;
 use crate::partial::PartialElement;
-use bit_addressing_order::{BitOrder, BitRegister};
+use bit_addressing_memory::{BitOrder, BitRegister};
 use std::alloc::AllocError;
 use std::iter::FusedIterator;
 use std::marker::Model;

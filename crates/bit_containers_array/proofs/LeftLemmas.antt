@@ -7,7 +7,7 @@ use Rattle.std.proofs.lemmas.List.{places, same_lists, length-take, length-drop}
 use Rattle.bit_addressing_memory.specs.Memory.{Reading, memory, piece}
 use Rattle.bit_addressing_memory.proofs.MemoryLemmas.{piece_all, piece_piece}
 use Rattle.bit_addressing_memory.proofs.WindowLemmas.{length-window}
-use Rattle.bit_addressing_span.specs.declared.span.TheConstants.{MAX_BITS}
+use Rattle.bit_slice_views.specs.SpanLimits.{MAX_BITS}
 use Rattle.bit_slice_iterators.proofs.BitLemmas.{bits-none, bits-first, bits-last}
 use Rattle.bit_containers_array.specs.Array.{first_bits}
 use Rattle.bit_containers_array.specs.ArrayLaws.{first_fits}

@@ -3,7 +3,7 @@
 -- Its words: `array_words`. Its list: `array_bits`, the bits of its words (`first_bits`).
 use Rattle.std.specs.Prelude.{◌*◌, Bool, List, length, min}
 use Rattle.bit_addressing_memory.specs.Memory.{Reading, memory, piece}
-use Rattle.bit_addressing_span.specs.declared.span.TheConstants.{MAX_BITS}
+use Rattle.bit_slice_views.specs.SpanLimits.{MAX_BITS}
 use Rattle.bit_containers_array.specs.declared.array.BitArray.{BitArray}
 
 -- all bits of some words, or the first `MAX_BITS` where there are more

@@ -1,7 +1,7 @@
 -- The laws of the bits of some words: they are the piece of their own length, and lie in the words.
 use Rattle.std.proofs.Common.{◌≡◌, ℕ, ◌+◌, ◌*◌, ◌≤◌, List, length, min, ap, sym, ◌∙◌, arith}
 use Rattle.bit_addressing_memory.specs.Memory.{Reading, memory, piece}
-use Rattle.bit_addressing_span.specs.declared.span.TheConstants.{MAX_BITS}
+use Rattle.bit_slice_views.specs.SpanLimits.{MAX_BITS}
 use Rattle.bit_addressing_memory.proofs.WindowLemmas.{length-window}
 use Rattle.bit_slice_views_mut.specs.FrameLaws.{shown_window, shown_fits}
 use Rattle.bit_containers_array.specs.Array.{first_bits}

@@ -8,7 +8,7 @@ use Rattle.bit_addressing_memory.specs.Memory.{Reading, entry, reading_in}
 use Rattle.bit_addressing_memory.proofs.EntryLemmas.{entry_read_place}
 use Rattle.bit_addressing_memory.proofs.WindowLemmas.{length-window, window_is}
 use Rattle.bit_addressing_memory.specs.Bits.{digit_at}
-use Rattle.bit_addressing_span.specs.declared.span.TheConstants.{MAX_BITS}
+use Rattle.bit_slice_views.specs.SpanLimits.{MAX_BITS}
 use Rattle.bit_containers_array.specs.Array.{first_bits}
 use Rattle.bit_containers_array.specs.ArrayLaws.{first_fits}
 

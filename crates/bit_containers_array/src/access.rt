@@ -3,11 +3,11 @@
 ghost use Rattle.std.specs.Prelude.{◌≡◌, ◌+◌, ◌<◌, ◌↔◌, IfSome, IsSome, length};
 ghost use Rattle.std.specs.Borrow.{RestsIfNone, sem};
 ghost use Rattle.bit_addressing_memory.specs.Memory.{read_by};
-ghost use Rattle.bit_slice_access.specs.BitMut.{bit_index, bit_loan, bit_view};
+ghost use Rattle.bit_slice_iterators.specs.BitMut.{bit_index, bit_loan, bit_view};
 
 use crate::array::BitArray;
 use bit_addressing_memory::BitOrder;
-use bit_slice_access::BitMut;
+use bit_slice_iterators::BitMut;
 use bit_slice_views::BitViewSized;
 
 /// The calls of `BitsAccess`, which here say too that an array without such a bit stays as it was.

@@ -3,12 +3,11 @@
 ghost use Rattle.std.specs.Prelude.{◌≡◌, ◌*◌, ◌<◌, ◌≤◌, false, length, min, slice_index_or};
 ghost use Rattle.std.specs.Fn.{FnOnceReturnsAtMut};
 ghost use Rattle.bit_addressing_memory.specs.Memory.{memory, piece, read_by, reading_in};
-ghost use Rattle.bit_addressing_span.specs.declared.span.TheConstants.{MAX_BITS};
+ghost use Rattle.bit_slice_views.specs.SpanLimits.{MAX_BITS};
 
 use crate::owned::{BitsOwned, apply};
 use bit_addressing_memory::{BitOrder, BitRegister, mem};
-use bit_addressing_span::MAX_BITS;
-use bit_slice_views::{BitSlice, BitViewSized, Bits};
+use bit_slice_views::{BitSlice, BitViewSized, Bits, MAX_BITS};
 use bit_slice_views_mut::{BitsMut, MayWriteBeside};
 use std::marker::PhantomData;
 use std::ops::Index;

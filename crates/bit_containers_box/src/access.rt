@@ -4,11 +4,11 @@ ghost use Rattle.std.specs.Prelude.{◌≡◌, ◌+◌, ◌<◌, ◌↔◌, IfSo
 ghost use Rattle.std.specs.Borrow.{RestsIfNone, sem};
 ghost use Rattle.bit_addressing_memory.specs.Memory.{read_by};
 ghost use Rattle.bit_containers_box.specs.Box.{box_bits};
-ghost use Rattle.bit_slice_access.specs.BitMut.{bit_index, bit_loan, bit_view};
+ghost use Rattle.bit_slice_iterators.specs.BitMut.{bit_index, bit_loan, bit_view};
 
 use crate::boxed::BitBox;
 use bit_addressing_memory::BitOrder;
-use bit_slice_access::BitMut;
+use bit_slice_iterators::BitMut;
 use bit_slice_views::{BitStore, Bits};
 
 /// The calls of `BitsAccess`, which here say too that a box without such a bit stays as it was.

@@ -3,7 +3,7 @@
 ghost use Rattle.std.specs.Prelude.{◌≡◌, ◌+◌, ◌*◌, ◌<◌, ◌≤◌, length};
 ghost use Rattle.std.specs.Fn.{FnOnceReturnsAtMut};
 ghost use Rattle.bit_addressing_memory.specs.Memory.{read_by, reading_in};
-ghost use Rattle.bit_addressing_span.specs.declared.span.TheConstants.{MAX_BITS};
+ghost use Rattle.bit_slice_views.specs.SpanLimits.{MAX_BITS};
 
 use bit_addressing_memory::{BitOrder, BitRegister};
 use bit_slice_views::{BitSlice, BitStore, Bits};

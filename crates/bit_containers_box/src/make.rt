@@ -4,7 +4,7 @@ ghost use Rattle.std.specs.Prelude.{◌≡◌, ◌*◌, ◌≤◌, ◌↔◌, []
 ghost use Rattle.std.specs.Box.{boxed_slice_items};
 ghost use Rattle.std.specs.Iterator.{Drains, IsFinite, size};
 ghost use Rattle.bit_addressing_memory.specs.Memory.{memory, read_by};
-ghost use Rattle.bit_addressing_span.specs.declared.span.TheConstants.{MAX_BITS};
+ghost use Rattle.bit_slice_views.specs.SpanLimits.{MAX_BITS};
 ghost use Rattle.bit_containers_box.specs.Box.{box_bits, box_head, box_rest, box_words, IsBoxed};
 ghost use Rattle.bit_containers_box.specs.Fill.{HoldsAlone};
 ghost use Rattle.bit_containers_vector.specs.Vector.{vec_bits, vec_head, vec_words, visible};

@@ -5,7 +5,7 @@ ghost use Rattle.bit_addressing_memory.specs.Memory.{memory, piece, read_by, wit
 ghost use Rattle.bit_slice_views_mut.specs.Frame.{KeepsBeside};
 
 use bit_addressing_memory::{BitOrder, BitRegister};
-use bit_slice_words::{copy_in, exchange_in, rotate_left_in};
+use bit_slice_views_mut::{copy_in, exchange_in, rotate_left_in};
 
 // Writes bits of another memory over those of a window from `at` on.
 pub(crate) fn write_window<R: BitRegister, O: BitOrder<R>, Q: BitRegister, P: BitOrder<Q>>(

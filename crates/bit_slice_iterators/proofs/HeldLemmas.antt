@@ -26,7 +26,7 @@ use Rattle.bit_addressing_memory.proofs.MemoryLemmas.{length-piece, get_or-piece
 use Rattle.bit_addressing_memory.proofs.WindowLemmas.{window_bit}
 use Rattle.bit_slice_chunks.specs.Chunk.{chunk_bit, IsChunk, IsCut, IsFaced}
 use Rattle.bit_slice_chunks.proofs.TurnLemmas.{top_digit}
-use Rattle.bit_slice_words.specs.Found.{is_bit}
+use Rattle.bit_slice_views.specs.Found.{is_bit}
 use Rattle.bit_slice_iterators.specs.Indices.{indices, low_digits, held, AreDigits}
 use Rattle.bit_slice_iterators.proofs.IndexLemmas.{cases_bool, indices-append, indices-no}
 use Rattle.bit_slice_iterators.proofs.IndexLemmas.{length-indices}

@@ -7,8 +7,8 @@ use Rattle.std.proofs.lemmas.List.Quantifiers.{position-Some}
 use Rattle.std.proofs.lemmas.List.Recursion.{is_count_by}
 use Rattle.bit_addressing_memory.specs.Memory.{piece}
 use Rattle.bit_addressing_memory.proofs.MemoryLemmas.{length-piece, get_or-piece, piece_all, piece_join}
-use Rattle.bit_slice_words.specs.Found.{last_position}
-use Rattle.bit_slice_words.proofs.FoundLemmas.{position-None, last_position-Some, last_position-None}
+use Rattle.bit_slice_views.specs.Found.{last_position}
+use Rattle.bit_slice_views.proofs.FoundLemmas.{position-None, last_position-Some, last_position-None}
 use Rattle.bit_slice_iterators.proofs.BitLemmas.{piece_one}
 use Rattle.bit_slice_iterators.specs.Indices.{indices}
 

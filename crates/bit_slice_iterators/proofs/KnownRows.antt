@@ -1,6 +1,6 @@
 -- Known rows of the definitions, computed: a wrong rule among them does not check.
 use Rattle.std.proofs.Common.{◌≡◌, Bool, true, false, List, [], ◌∷◌, refl}
-use Rattle.bit_slice_words.specs.Found.{is_bit}
+use Rattle.bit_slice_views.specs.Found.{is_bit}
 use Rattle.bit_slice_iterators.specs.Indices.{indices}
 
 -- the bits 0 1 0 0 1

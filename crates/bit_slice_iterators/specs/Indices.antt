@@ -6,7 +6,7 @@ use Rattle.std.specs.Prelude.{List, [], ◌∷◌, length, get_or}
 use Rattle.std.proofs.Common.{cond}
 use Rattle.bit_addressing_memory.specs.declared.direction.Direction.{Direction}
 use Rattle.bit_slice_chunks.specs.Chunk.{chunk_bit}
-use Rattle.bit_slice_words.specs.Found.{is_bit}
+use Rattle.bit_slice_views.specs.Found.{is_bit}
 
 -- the indices of the bits that pass a test, ascending, the first bit's index being `from`
 abbrev pub indices : (Bool → Bool) → ℕ → List Bool → List ℕ

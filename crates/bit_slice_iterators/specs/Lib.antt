@@ -9,7 +9,8 @@ pub use Rattle.bit_addressing_memory.specs.BitOrder
 pub use Rattle.bit_addressing_memory.specs.BitRegister
 pub use Rattle.bit_addressing_memory.specs.Bits
 pub use Rattle.bit_addressing_memory.specs.Memory
-pub use Rattle.bit_slice_words.specs.Found
+pub use Rattle.bit_slice_views.specs.Found
 pub use Rattle.bit_slice_views.specs.BitRef
 pub use Rattle.bit_slice_views.specs.View
 pub use Rattle.bit_slice_views_mut.specs.Frame
+pub use Rattle.bit_slice_access.specs.BitMut

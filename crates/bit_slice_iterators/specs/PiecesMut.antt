@@ -6,7 +6,7 @@
 -- that are in none were taken: `pieces_taken`, `rest_left`. Freshly made: `CutsAll`. What their calls ask: `PiecesLie`.
 use Rattle.std.specs.Prelude.{ℕ, ◌≡◌, ◌+◌, ◌*◌, ◌<◌, ◌≤◌, ◌^◌, Bool, true, false, List, length}
 use Rattle.bit_addressing_memory.specs.Memory.{Reading, memory, piece}
-use Rattle.bit_addressing_span.specs.declared.span.TheConstants.{MAX_BITS}
+use Rattle.bit_slice_views.specs.SpanLimits.{MAX_BITS}
 use Rattle.bit_slice_iterators.specs.Cuts.{Cut}
 use Rattle.bit_slice_views_mut.specs.Frame.{Frame, frame_of}
 use Rattle.bit_slice_iterators.specs.declared.pieces_mut.PiecesMut.{PiecesMut}

@@ -1,7 +1,7 @@
 //! The bits of whatever shows bits, one after another.
 
 ghost use Rattle.std.specs.Prelude.{◌≡◌, true, false};
-ghost use Rattle.bit_slice_words.specs.Found.{is_bit};
+ghost use Rattle.bit_slice_views.specs.Found.{is_bit};
 ghost use Rattle.bit_slice_iterators.specs.Indices.{indices};
 
 use crate::indices::{IterOnes, IterZeros};

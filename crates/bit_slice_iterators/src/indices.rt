@@ -9,7 +9,7 @@ ghost use Rattle.bit_addressing_memory.specs.Bits.{digit_at};
 ghost use Rattle.bit_addressing_memory.specs.Memory.{read_by};
 ghost use Rattle.bit_addressing_memory.specs.declared.direction.Direction.TheVariants.{Ascending};
 ghost use Rattle.bit_slice_chunks.specs.Chunk.{IsFaced};
-ghost use Rattle.bit_slice_words.specs.Found.{is_bit, last_position};
+ghost use Rattle.bit_slice_views.specs.Found.{is_bit, last_position};
 ghost use Rattle.bit_slice_views.specs.View.{view_bits};
 ghost use Rattle.bit_slice_iterators.specs.Indices.{indices, AreDigits};
 
@@ -121,8 +121,8 @@ pub type IterZeros<'a, T, O> = Indices<'a, T, O, Zeros>;
 impl<'a, T: BitRegister, O: BitOrder<T>, B: Sought> Model for Indices<'a, T, O, B> {
     ghost use Rattle.std.specs.Prelude.{ℕ, List, ◌+◌, ◌++◌, ◌≤◌, length};
     ghost use Rattle.bit_addressing_memory.specs.Memory.{read_by};
-    ghost use Rattle.bit_addressing_span.specs.declared.span.TheConstants.{MAX_BITS};
-    ghost use Rattle.bit_slice_words.specs.Found.{is_bit};
+    ghost use Rattle.bit_slice_views.specs.SpanLimits.{MAX_BITS};
+    ghost use Rattle.bit_slice_views.specs.Found.{is_bit};
     ghost use Rattle.bit_slice_views.specs.View.{view_bits};
     ghost use Rattle.bit_slice_iterators.specs.Indices.{held, indices};
 

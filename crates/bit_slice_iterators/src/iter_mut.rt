@@ -3,7 +3,7 @@
 ghost use Rattle.std.specs.Prelude.{◌≡◌, ◌+◌, ◌-◌, ◌*◌, ◌<◌, ◌≤◌, ◌^◌, length};
 ghost use Rattle.std.specs.Borrow.{sem};
 ghost use Rattle.bit_addressing_memory.specs.Memory.{piece, read_by};
-ghost use Rattle.bit_addressing_span.specs.declared.span.TheConstants.{MAX_BITS};
+ghost use Rattle.bit_slice_views.specs.SpanLimits.{MAX_BITS};
 ghost use Rattle.bit_slice_access.specs.Part.{part_loan};
 ghost use Rattle.bit_slice_iterators.specs.Lending.{LendsLeft};
 ghost use Rattle.bit_slice_iterators.specs.PiecesMut.{pieces_around, pieces_back, pieces_front, pieces_len, pieces_loan};

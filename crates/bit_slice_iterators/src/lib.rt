@@ -13,6 +13,7 @@ mod pieces;
 mod pieces_mut;
 mod values;
 
+pub use bit_slice_access::BitMut;
 pub use calls::BitsIter;
 pub use cuts::{Backward, BackwardExact, Cuts, ExactCuts, Forward, ForwardExact, Single, Sliding};
 pub use indices::{Indices, IterOnes, IterZeros, Ones, Sought, Zeros};

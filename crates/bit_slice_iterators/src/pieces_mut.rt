@@ -3,7 +3,7 @@
 ghost use Rattle.std.specs.Prelude.{◌≡◌, ℕ, ◌+◌, ◌-◌, ◌*◌, ◌%◌, ◌<◌, ◌≤◌, ◌^◌, ◌↔◌, length, IsSome, IfSome};
 ghost use Rattle.std.specs.Borrow.{sem};
 ghost use Rattle.bit_addressing_memory.specs.Memory.{memory, piece, read_by};
-ghost use Rattle.bit_addressing_span.specs.declared.span.TheConstants.{MAX_BITS};
+ghost use Rattle.bit_slice_views.specs.SpanLimits.{MAX_BITS};
 ghost use Rattle.bit_slice_iterators.specs.Lending.{LendsFirst, LendsLast, LendsRest};
 ghost use Rattle.bit_slice_iterators.specs.PiecesMut.{pieces_around, pieces_back, pieces_front, pieces_len, pieces_loan};
 ghost use Rattle.bit_slice_iterators.specs.PiecesMut.{pieces_place, pieces_size, pieces_taken, pieces_view, pieces_whole};

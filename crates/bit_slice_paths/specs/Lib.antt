@@ -8,4 +8,5 @@ pub use Rattle.bit_addressing_memory.specs.BitRegister
 pub use Rattle.bit_addressing_memory.specs.Bits
 pub use Rattle.bit_addressing_memory.specs.Memory
 pub use Rattle.bit_addressing_memory.specs.Straight
+pub use Rattle.bit_slice_chunks.specs.Chunk
 pub use Rattle.bit_slice_chunks.specs.Combined

@@ -8,5 +8,6 @@ pub mod mirror;
 pub mod seek;
 mod steps;
 
-pub use bit_slice_chunks::Combination;
+pub use bit_slice_chunks::any_order::direction_for;
+pub use bit_slice_chunks::{Combination, first_difference, raised, read_part};
 pub use steps::Steps;

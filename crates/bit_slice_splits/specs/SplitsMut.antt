@@ -7,7 +7,7 @@
 use Rattle.std.specs.Prelude.{ℕ, ◌≡◌, ◌+◌, ◌*◌, ◌%◌, ◌<◌, ◌≤◌, ◌^◌, List, Bool, length, Option, Some, None}
 use Rattle.std.proofs.Common.{cond}
 use Rattle.bit_addressing_memory.specs.Memory.{Reading, memory, piece}
-use Rattle.bit_addressing_span.specs.declared.span.TheConstants.{MAX_BITS}
+use Rattle.bit_slice_views.specs.SpanLimits.{MAX_BITS}
 use Rattle.bit_slice_views_mut.specs.Frame.{Frame, frame_of}
 use Rattle.std.specs.Borrow.{Bor}
 use Rattle.std.specs.Fn.{Mut}

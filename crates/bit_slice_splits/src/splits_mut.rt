@@ -3,7 +3,7 @@
 ghost use Rattle.std.specs.Prelude.{◌≡◌, ◌+◌, ◌*◌, ◌<◌, ◌≤◌, ◌^◌, ◌↔◌, length, true, false, IsTrue, IsSome, IfSome};
 ghost use Rattle.std.specs.Borrow.{sem};
 ghost use Rattle.bit_addressing_memory.specs.Memory.{memory, piece, read_by};
-ghost use Rattle.bit_addressing_span.specs.declared.span.TheConstants.{MAX_BITS};
+ghost use Rattle.bit_slice_views.specs.SpanLimits.{MAX_BITS};
 ghost use Rattle.bit_slice_splits.specs.Lending.{LendsNext, LendsPart};
 ghost use Rattle.bit_slice_splits.specs.SplitsMut.{parts_around, parts_found_len, parts_found_start};
 ghost use Rattle.bit_slice_splits.specs.SplitsMut.{parts_callee, parts_count, parts_done, parts_found, parts_most};

@@ -13,6 +13,7 @@ mod store;
 mod text;
 mod view;
 
+pub use bit_addressing_span::{BitSpanError, MAX_BITS};
 pub use bit_domain::{BitDomain, into_bit_domain};
 pub use bits::Bits;
 pub use index::{BitRef, BitSliceIndex};

@@ -3,3 +3,5 @@ pub mod PairLemmas
 pub mod CombinedLemmas
 pub mod MidLemmas
 pub mod SweepLemmas
+-- what public clauses cite of the crates below
+pub use Rattle.bit_slice_words.proofs.ListLemmas

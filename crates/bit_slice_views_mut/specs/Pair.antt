@@ -3,7 +3,7 @@
 -- What it has: `pair_view` (the window, as its last borrower left it), `pair_loan`, `pair_place`, `pair_mid`,
 -- `pair_len`. What its calls ask: `PairLies`.
 use Rattle.std.specs.Prelude.{ℕ, ◌+◌, ◌*◌, ◌^◌, ◌<◌, ◌≤◌, List, length}
-use Rattle.bit_addressing_span.specs.declared.span.TheConstants.{MAX_BITS}
+use Rattle.bit_slice_views.specs.SpanLimits.{MAX_BITS}
 use Rattle.bit_slice_views_mut.specs.declared.pair.Pair.{Pair}
 
 -- the window whose parts these are, as it is now

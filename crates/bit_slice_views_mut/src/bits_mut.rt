@@ -7,7 +7,7 @@ ghost use Rattle.std.specs.Bool.{xor};
 ghost use Rattle.std.specs.Fn.{FnOnceReturnsAtMut};
 ghost use Rattle.bit_addressing_memory.specs.Memory.{memory, piece, read_by, touched, with_piece};
 ghost use Rattle.bit_addressing_memory.specs.Moves.{changed};
-ghost use Rattle.bit_addressing_span.specs.declared.span.TheConstants.{MAX_BITS};
+ghost use Rattle.bit_slice_views.specs.SpanLimits.{MAX_BITS};
 ghost use Rattle.bit_slice_views_mut.specs.Combined.{combined};
 ghost use Rattle.bit_slice_views_mut.specs.Frame.{Frame, frame_of, KeepsBeside};
 

@@ -4,15 +4,14 @@ ghost use Rattle.std.specs.Prelude.{◌≡◌, ◌-◌, ◌*◌, ◌≤◌, ◌�
 ghost use Rattle.std.specs.Prelude.{slice_index_or};
 ghost use Rattle.std.specs.Borrow.{Array, follows, sem};
 ghost use Rattle.bit_addressing_memory.specs.Memory.{read_by};
-ghost use Rattle.bit_addressing_span.specs.declared.span.TheConstants.{MAX_BITS};
-ghost use Rattle.bit_addressing_span.specs.declared.span_error.BitSpanError.TheVariants.{TooLong};
+ghost use Rattle.bit_slice_views.specs.SpanLimits.{MAX_BITS};
+ghost use Rattle.bit_slice_views.specs.SpanFaults.{TooLong};
 ghost use Rattle.bit_slice_views_mut.specs.ViewMut.{lent_words, lent_lender, lent_place, lent_bits};
 
 use crate::bit_view::BitView;
 use crate::view_mut::BitSliceMut;
 use bit_addressing_memory::{BitOrder, BitRegister};
-use bit_addressing_span::BitSpanError;
-use bit_slice_views::BitStore;
+use bit_slice_views::{BitSpanError, BitStore};
 
 impl<'a, T: BitStore, O: BitOrder<T>> BitSliceMut<'a, T, O> {
     /// The bits of one word, which ends as the window leaves it.

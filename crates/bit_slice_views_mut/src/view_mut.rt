@@ -3,15 +3,14 @@
 ghost use Rattle.std.specs.Prelude.{◌≡◌, ◌+◌, ◌-◌, ◌*◌, ◌%◌, ◌^◌, ◌<◌, ◌≤◌, ◌↔◌, [], length, min, IsOk, IfOk, IfErr};
 ghost use Rattle.std.specs.Fn.{FnOnceReturnsAtMut};
 ghost use Rattle.bit_addressing_memory.specs.Memory.{memory, piece, read_by, reading_in};
-ghost use Rattle.bit_addressing_span.specs.declared.span.TheConstants.{MAX_BITS};
-ghost use Rattle.bit_addressing_span.specs.declared.span_error.BitSpanError.TheVariants.{TooLong};
+ghost use Rattle.bit_slice_views.specs.SpanLimits.{MAX_BITS};
+ghost use Rattle.bit_slice_views.specs.SpanFaults.{TooLong};
 
 use crate::beside::MayWriteBeside;
 use crate::bits_mut::BitsMut;
 use crate::bits_window::{BitsShown, BitsWindow};
 use bit_addressing_memory::{BitIdx, BitOrder, BitRegister, mem};
-use bit_addressing_span::{BitSpanError, MAX_BITS};
-use bit_slice_views::{BitSlice, Bits};
+use bit_slice_views::{BitSlice, BitSpanError, Bits, MAX_BITS};
 use std::marker::PhantomData;
 
 /// A writable window of a slice of words.

@@ -8,7 +8,7 @@ use Rattle.bit_addressing_memory.specs.declared.direction.Direction.TheVariants.
 use Rattle.bit_addressing_memory.specs.Bits.{digit_at}
 use Rattle.bit_addressing_memory.specs.Memory.{Reading, entry}
 use Rattle.bit_addressing_memory.specs.Straight.{straight}
-use Rattle.bit_slice_chunks.specs.Chunk.{chunk_bit, IsChunk, IsRaised, AgreeTo}
+use Rattle.bit_slice_paths.specs.Chunk.{chunk_bit, IsChunk, IsRaised, AgreeTo}
 use Rattle.bit_slice_words.specs.Found.{is_bit}
 use Rattle.bit_slice_words.specs.Stretch.{bit_found, FirstAt, LastAt, IsFirst, IsLast, Nowhere}
 use Rattle.bit_slice_words.proofs.StretchLemmas.{nowhere_join}

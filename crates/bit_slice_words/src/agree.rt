@@ -5,8 +5,7 @@ ghost use Rattle.bit_addressing_memory.specs.Memory.{entry, read_by};
 ghost use Rattle.bit_slice_paths.specs.Agrees.{Agrees};
 
 use bit_addressing_memory::{BitOrder, BitRegister, Walk, most_singly_of_two, read_entry};
-use bit_slice_chunks::any_order::direction_for;
-use bit_slice_paths::across;
+use bit_slice_paths::{across, direction_for};
 
 // How many of `len` bits are compared one by one first.
 #[inline(always)]

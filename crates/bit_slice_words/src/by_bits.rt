@@ -11,8 +11,7 @@ ghost use Rattle.bit_slice_paths.specs.Steps.{groups, Takes};
 use crate::agree::{agree_by_chunks, few_to_compare};
 use crate::combine::combined;
 use bit_addressing_memory::{BitOrder, BitRegister, Walk, most_singly, read_entry, write_entry};
-use bit_slice_chunks::any_order::direction_for;
-use bit_slice_paths::{Combination, Steps, across};
+use bit_slice_paths::{Combination, Steps, across, direction_for};
 
 // How many bits are worked on at once, at most.
 const CHUNK: usize = 64;

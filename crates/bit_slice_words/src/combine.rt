@@ -8,8 +8,7 @@ ghost use Rattle.bit_slice_paths.specs.Combined.{combined_bit, Combines};
 use bit_addressing_memory::{
     BitOrder, BitRegister, Walk, most_singly_of_two, read_entry, write_entry,
 };
-use bit_slice_chunks::any_order::direction_for;
-use bit_slice_paths::{Combination, across};
+use bit_slice_paths::{Combination, across, direction_for};
 
 // The bit that two make.
 pub(crate) fn combined(how: Combination, bit: bool, other: bool) -> bool

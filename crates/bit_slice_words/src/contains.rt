@@ -6,8 +6,7 @@ ghost use Rattle.bit_slice_words.specs.Holds.{Holds};
 
 use crate::agree::{agree_rest, agree_singly, few_to_compare};
 use bit_addressing_memory::{BitOrder, BitRegister, Walk, most_singly_of_two};
-use bit_slice_chunks::any_order::direction_for;
-use bit_slice_paths::seek;
+use bit_slice_paths::{direction_for, seek};
 
 /// Whether the `other_len` bits of the memory `others` from a place on stand, in order and next to each other, in the
 /// `len` bits of the memory `words` from another place on. No bits stand everywhere.

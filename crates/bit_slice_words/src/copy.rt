@@ -4,8 +4,7 @@ ghost use Rattle.std.specs.Prelude.{◌+◌, ◌*◌, ◌^◌, ◌<◌, ◌≤�
 ghost use Rattle.bit_addressing_memory.specs.Memory.{read_by, Copies};
 
 use bit_addressing_memory::{BitOrder, BitRegister, Walk, copy_between, most_singly_of_two};
-use bit_slice_chunks::any_order::direction_for;
-use bit_slice_paths::{Combination, across};
+use bit_slice_paths::{Combination, across, direction_for};
 
 /// Copies `len` bits of the memory `from`, those from `source` on, to the places from `target` on of the memory
 /// `words`. Both stretches lie in their memories, and their ends fit a `usize`; the two may have different words and

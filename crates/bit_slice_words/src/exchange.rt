@@ -4,8 +4,7 @@ ghost use Rattle.std.specs.Prelude.{◌+◌, ◌*◌, ◌^◌, ◌<◌, ◌≤�
 ghost use Rattle.bit_addressing_memory.specs.Memory.{read_by, Swaps};
 
 use bit_addressing_memory::{BitOrder, BitRegister, Walk, most_singly, swap_within};
-use bit_slice_chunks::any_order::direction_for;
-use bit_slice_paths::exchange;
+use bit_slice_paths::{direction_for, exchange};
 
 /// Exchanges `len` bits of a memory, those from `first` on, with those from `second` on. The first stretch ends before
 /// the second begins, which lies in the memory, and its end fits a `usize`. Every other bit stays.

@@ -4,13 +4,13 @@ ghost use Rattle.std.specs.Prelude.{◌≡◌, ℕ, ◌+◌, ◌-◌, ◌*◌, �
 ghost use Rattle.bit_addressing_memory.specs.declared.direction.Direction.{Direction};
 ghost use Rattle.bit_addressing_memory.specs.Memory.{read_by};
 ghost use Rattle.bit_addressing_memory.specs.Straight.{Goes, straight};
-ghost use Rattle.bit_slice_chunks.specs.Chunk.{chunk_bit};
+ghost use Rattle.bit_slice_paths.specs.Chunk.{chunk_bit};
 ghost use Rattle.bit_slice_words.specs.Found.{is_bit};
 ghost use Rattle.bit_slice_words.specs.Stretch.{bit_found, IsFirst, IsLast};
 
 use bit_addressing_memory::mem::bits_of;
 use bit_addressing_memory::{BitOrder, BitRegister, Direction};
-use bit_slice_chunks::{first_difference, raised, read_part};
+use bit_slice_paths::{first_difference, raised, read_part};
 
 // The place of the first bit that is `bit` in a part of a word, of up to 64 bits.
 #[inline(always)]

@@ -4,8 +4,7 @@ ghost use Rattle.std.specs.Prelude.{◌+◌, ◌-◌, ◌*◌, ◌^◌, ◌<◌,
 ghost use Rattle.bit_addressing_memory.specs.Memory.{entry, read_by, Overwrites};
 
 use bit_addressing_memory::{BitOrder, BitRegister, Walk, most_singly, swap_entries};
-use bit_slice_chunks::any_order::direction_for;
-use bit_slice_paths::mirror;
+use bit_slice_paths::{direction_for, mirror};
 
 /// Turns `len` bits of a memory round, those from `place` on: the last comes first. They lie in the memory,
 /// and `place + len` fits a `usize`. Every other bit of the memory stays.

@@ -57,7 +57,7 @@ impl<A: BitViewSized, O: WordPaths<A::Store> + Digits<A::Store>> Model for Table
     ghost use Rattle.std.specs.Prelude.{◌≡◌, ◌*◌, ◌≤◌, length, true, IfSome};
     ghost use Rattle.std.specs.Coded.{codes};
     ghost use Rattle.bit_addressing_memory.specs.Memory.{read_by};
-    ghost use Rattle.bit_addressing_span.specs.declared.span.TheConstants.{MAX_BITS};
+    ghost use Rattle.bit_slice_views.specs.SpanLimits.{MAX_BITS};
     ghost use Rattle.bit_containers_vector.specs.Vector.{vec_bits, vec_head};
     ghost use Rattle.bit_table_layout.specs.declared.layout.TheConstants.{MAX_ROW_BITS};
     ghost use Rattle.bit_table_layout.specs.Layouts.{is_layout, row_width};

@@ -3,7 +3,7 @@ use Rattle.std.specs.Prelude.{◌≡◌, ℕ, ◌≤◌, Bool, List, length}
 use Rattle.bit_addressing_memory.specs.Memory.{Reading}
 use Rattle.bit_containers_vector.specs.Vector.{vec_bits, vec_head}
 use Rattle.bit_containers_vector.specs.declared.vector.BitVec.{BitVec}
-use Rattle.bit_addressing_span.specs.declared.span.TheConstants.{MAX_BITS}
+use Rattle.bit_slice_views.specs.SpanLimits.{MAX_BITS}
 use Rattle.bit_table_commands.specs.LetterSets.{letter_count}
 use Rattle.bit_table_rows.specs.Walk.{EachHas}
 

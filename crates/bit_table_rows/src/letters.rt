@@ -6,7 +6,7 @@ ghost use Rattle.std.specs.List.{All, count_by, filter};
 ghost use Rattle.std.specs.FinSet as set;
 ghost use Rattle.bit_addressing_memory.specs.Bits.{digit_at};
 ghost use Rattle.bit_addressing_memory.specs.Memory.{read_by, touched};
-ghost use Rattle.bit_addressing_span.specs.declared.span.TheConstants.{MAX_BITS};
+ghost use Rattle.bit_slice_views.specs.SpanLimits.{MAX_BITS};
 ghost use Rattle.bit_slice_words.specs.Steps.{groups, Takes};
 ghost use Rattle.bit_slice_views.specs.View.{view_bits, view_head};
 ghost use Rattle.bit_table_rows.specs.Lists.{AreColumns};
@@ -47,7 +47,7 @@ impl<T: BitStore, O: WordPaths<T>> Model for Letters<T, O> {
     ghost use Rattle.std.specs.Prelude.{◌≡◌, ◌*◌, ◌≤◌, List, length, map};
     ghost use Rattle.std.specs.Coded.{codes};
     ghost use Rattle.bit_addressing_memory.specs.Memory.{read_by};
-    ghost use Rattle.bit_addressing_span.specs.declared.span.TheConstants.{MAX_BITS};
+    ghost use Rattle.bit_slice_views.specs.SpanLimits.{MAX_BITS};
     ghost use Rattle.bit_containers_vector.specs.Vector.{vec_bits};
     ghost use Rattle.bit_table_commands.specs.LetterSets.{LetterSet, letters_code, letter_count};
     ghost use Rattle.bit_table_rows.specs.Marks.{marks_of};

@@ -3,7 +3,7 @@
 ghost use Rattle.std.specs.Prelude.{◌≡◌, ◌+◌, ◌-◌, ◌*◌, ◌<◌, ◌≤◌, ◌++◌, false, length, slice_index_or, IfOk, IsOk, OnOk, OnErr};
 ghost use Rattle.bit_addressing_memory.specs.Memory.{read_by};
 ghost use Rattle.bit_addressing_memory.specs.Straight.{Goes};
-ghost use Rattle.bit_addressing_span.specs.declared.span.TheConstants.{MAX_BITS};
+ghost use Rattle.bit_slice_views.specs.SpanLimits.{MAX_BITS};
 ghost use Rattle.bit_containers_vector.specs.Vector.{vec_bits, vec_head, HasRoomFor, IsAsBefore};
 ghost use Rattle.bit_table_rows.specs.Lists.{HasBits, IsColumn};
 ghost use Rattle.bit_table_rows.specs.RowEdit.{added, count_after, edited_by, most_moved, LiesIn};

@@ -4,7 +4,7 @@
 ghost use Rattle.std.specs.Prelude.{◌≡◌, ◌+◌, ◌-◌, ◌*◌, ◌^◌, ◌<◌, ◌≤◌, ◌∷◌, [], false, length, take, IfOk, IsOk, OnOk, OnErr};
 ghost use Rattle.bit_addressing_memory.specs.Memory.{memory, piece, read_by, touched};
 ghost use Rattle.bit_addressing_memory.specs.Straight.{Goes};
-ghost use Rattle.bit_addressing_span.specs.declared.span.TheConstants.{MAX_BITS};
+ghost use Rattle.bit_slice_views.specs.SpanLimits.{MAX_BITS};
 ghost use Rattle.bit_containers_vector.specs.Vector.{HasRoomFor, IsAsBefore};
 ghost use Rattle.bit_slice_views_mut.specs.Frame.{KeepsBeside};
 ghost use Rattle.bit_table_rows.specs.Lists.{HasBits, IsColumn};

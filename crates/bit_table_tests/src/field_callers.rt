@@ -2,7 +2,7 @@
 
 ghost use Rattle.std.specs.Prelude.{◌≡◌, ◌*◌, ◌<◌, ◌≤◌, length, IfOk, IsTrue, Some, slice_get};
 ghost use Rattle.bit_addressing_memory.specs.Memory.{read_by};
-ghost use Rattle.bit_addressing_span.specs.declared.span.TheConstants.{MAX_BITS};
+ghost use Rattle.bit_slice_views.specs.SpanLimits.{MAX_BITS};
 ghost use Rattle.bit_containers_vector.specs.Vector.{vec_bits};
 ghost use Rattle.bit_table_tests.specs.Numbers.{number_set};
 ghost use Rattle.bit_table_layout.specs.Fields.{takes};

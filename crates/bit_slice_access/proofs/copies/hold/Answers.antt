@@ -1,7 +1,7 @@
 use Rattle.std.proofs.Common.{◌≡◌, ap, length, sym, ◌∙◌, arith}
 use Rattle.bit_addressing_memory.specs.Memory.{read_by}
 use Rattle.bit_addressing_memory.proofs.MemoryLemmas.{length-piece}
-use Rattle.bit_slice_words.proofs.ListLemmas.{copied_list}
+use Rattle.bit_slice_views_mut.proofs.ListLemmas.{copied_list}
 use Rattle.bit_slice_access.proofs.copies.hold.Goals as goal
 
 pub copy_in-requires-clause-source_in : goal.copy_in-requires-clause-source_in

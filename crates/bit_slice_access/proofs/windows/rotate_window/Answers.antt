@@ -1,8 +1,8 @@
 use Rattle.std.proofs.Common.{◌+◌, ◌<◌, ℕ, ◌++◌, take, drop, arith, sym, ap, refl, ◌∙◌}
 use Rattle.bit_addressing_memory.specs.Memory.{memory, piece, read_by, with_piece, entry}
 use Rattle.bit_addressing_memory.proofs.MemoryLemmas.{piece_piece}
-use Rattle.bit_slice_words.specs.Rotations.{rotated_from}
-use Rattle.bit_slice_words.proofs.ListLemmas.{rotated_left_list}
+use Rattle.bit_slice_views_mut.specs.Rotations.{rotated_from}
+use Rattle.bit_slice_views_mut.proofs.ListLemmas.{rotated_left_list}
 use Rattle.bit_slice_access.proofs.PartEditLemmas.{window_part}
 use Rattle.bit_slice_access.proofs.windows.rotate_window.Goals as goal
 

@@ -1,6 +1,6 @@
 use Rattle.std.proofs.Common.{◌+◌, ◌<◌, ℕ, arith, ap, refl, ◌∙◌}
 use Rattle.bit_addressing_memory.specs.Memory.{memory, piece, read_by, with_piece, entry}
-use Rattle.bit_slice_words.proofs.ListLemmas.{copied_list}
+use Rattle.bit_slice_views_mut.proofs.ListLemmas.{copied_list}
 use Rattle.bit_slice_access.proofs.PartEditLemmas.{window_part}
 use Rattle.bit_slice_access.proofs.windows.write_window.Goals as goal
 

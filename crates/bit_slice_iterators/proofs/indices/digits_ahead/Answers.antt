@@ -1,5 +1,5 @@
 use Rattle.bit_addressing_memory.specs.Memory.{read_by}
-use Rattle.bit_slice_words.specs.Found.{is_bit}
+use Rattle.bit_slice_views.specs.Found.{is_bit}
 use Rattle.bit_slice_views.specs.View.{view_bits}
 use Rattle.bit_slice_iterators.proofs.HeldLemmas.{faced_digits}
 use Rattle.bit_slice_iterators.proofs.indices.digits_ahead.Goals as goal

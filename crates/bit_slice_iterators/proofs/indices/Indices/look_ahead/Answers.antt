@@ -1,6 +1,6 @@
 use Rattle.std.proofs.Common.{◌≡◌, ◌+◌, ◌-◌, length, min, refl, ap, ◌∙◌, arith}
 use Rattle.bit_addressing_memory.specs.Memory.{read_by, piece}
-use Rattle.bit_slice_words.specs.Found.{is_bit}
+use Rattle.bit_slice_views.specs.Found.{is_bit}
 use Rattle.bit_slice_views.specs.View.{view_bits}
 use Rattle.bit_slice_iterators.proofs.HeldLemmas.{held_more}
 use Rattle.bit_slice_iterators.proofs.indices.Indices.look_ahead.Goals as goal

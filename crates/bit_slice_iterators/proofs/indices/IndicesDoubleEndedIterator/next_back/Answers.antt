@@ -2,7 +2,7 @@ use Rattle.std.proofs.Common.{ℕ, ◌≡◌, ◌+◌, List, ◌++◌, ◌∷◌
 use Rattle.std.proofs.Common.{rules, arith, refl, sym, ap, ◌∙◌}
 use Rattle.bit_addressing_memory.specs.Memory.{read_by, piece}
 use Rattle.bit_addressing_memory.proofs.MemoryLemmas.{piece_none}
-use Rattle.bit_slice_words.specs.Found.{is_bit}
+use Rattle.bit_slice_views.specs.Found.{is_bit}
 use Rattle.bit_slice_views.specs.View.{view_bits}
 use Rattle.bit_slice_iterators.specs.Indices.{held, indices}
 use Rattle.bit_slice_iterators.proofs.HeldLemmas.{held_last, held_last_of_all, held_nothing}

@@ -3,7 +3,7 @@ use Rattle.std.proofs.lemmas.List.Sums.{count_by-le-length}
 use Rattle.std.specs.Int.RustNames.{count_ones}
 use lib.Count.{ones-le}
 use Rattle.bit_addressing_memory.specs.Memory.{read_by}
-use Rattle.bit_slice_words.specs.Found.{is_bit}
+use Rattle.bit_slice_views.specs.Found.{is_bit}
 use Rattle.bit_slice_views.specs.View.{view_bits}
 use Rattle.bit_slice_iterators.specs.Indices.{held, indices}
 use Rattle.bit_slice_iterators.proofs.HeldLemmas.{length-held}

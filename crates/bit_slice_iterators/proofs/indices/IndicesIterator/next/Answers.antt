@@ -1,6 +1,6 @@
 use Rattle.std.proofs.Common.{◌≡◌, ◌+◌, ◌-◌, ◌<◌, ◌^◌, ℕ, [], ◌∷◌, ◌++◌, length, rules, arith, refl, sym, ap, ◌∙◌}
 use Rattle.bit_addressing_memory.specs.Memory.{read_by}
-use Rattle.bit_slice_words.specs.Found.{is_bit}
+use Rattle.bit_slice_views.specs.Found.{is_bit}
 use Rattle.bit_slice_views.specs.View.{view_bits}
 use Rattle.bit_slice_iterators.specs.Indices.{held, indices}
 use Rattle.bit_slice_iterators.proofs.HeldLemmas.{held_first, held_none, held_nothing}

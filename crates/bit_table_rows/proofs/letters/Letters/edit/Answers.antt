@@ -3,7 +3,7 @@ use Rattle.std.specs.FinSet as set
 use Rattle.std.proofs.lemmas.Bool.{false≢true}
 use Rattle.std.proofs.lemmas.Result.{err_from_is_err_and}
 use Rattle.bit_addressing_memory.specs.Memory.{read_by}
-use Rattle.bit_addressing_span.specs.declared.span.TheConstants.{MAX_BITS}
+use Rattle.bit_slice_views.specs.SpanLimits.{MAX_BITS}
 use Rattle.bit_containers_vector.specs.Vector.{vec_bits}
 use Rattle.bit_table_rows.specs.Marks.{marks_of}
 use Rattle.bit_table_rows.specs.RowEdit.{added, count_after, edited_by, LiesIn}

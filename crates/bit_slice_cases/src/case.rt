@@ -160,9 +160,9 @@ fn read<R: BitRegister, O: BitOrder<R>, W: Bits>(
     if let "texts" = case.call {
         return Ok(Some(show(alloc, &view)?));
     }
-    let answer = look(alloc, &view, case, other)?;
-    if answer.is_some() {
-        return Ok(answer);
+    let mut text = String::new(alloc);
+    if look(alloc, &mut text, &view, case, other)? {
+        return Ok(Some(text));
     }
     let answer = share(alloc, &view, case, other)?;
     if answer.is_some() {

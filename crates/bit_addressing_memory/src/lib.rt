@@ -17,8 +17,8 @@ mod sweep;
 mod walks;
 
 pub use bit_addressing_order::{
-    BitEnd, BitIdx, BitMask, BitOrder, BitRegister, Limits, LocalBits, Lsb0, Msb0, OrderCandidate, Positions,
-    mask_from_at, mem, select_from_at,
+    BitEnd, BitIdx, BitMask, BitOrder, BitRegister, Limits, LocalBits, Lsb0, Msb0, OrderCandidate,
+    Positions, mask_from_at, mem, select_from_at,
 };
 pub use copies::{copy_between, copy_within, swap_between, swap_entries, swap_within};
 pub use direction::{Direction, direction_of, goes};

@@ -13,7 +13,9 @@ ghost use Rattle.bit_addressing_span.specs.Parts.{part_from, part_upto, part_pla
 use crate::cut::cut_from;
 use crate::domain::Domain;
 use crate::span::{BitSpan, words_touched};
-use bit_addressing_memory::{BitEnd, BitIdx, BitOrder, BitRegister, each_digit, flipped, load_in, no_digits, store_in};
+use bit_addressing_memory::{
+    BitEnd, BitIdx, BitOrder, BitRegister, each_digit, flipped, load_in, no_digits, store_in,
+};
 use std::marker::PhantomData;
 
 /// The words of a span of a memory, each read and written in the part of it that lies in the span.

@@ -5,7 +5,10 @@ ghost use Rattle.bit_addressing_memory.specs.Memory.{indexed, read_by, entry, Ov
 ghost use Rattle.bit_addressing_memory.specs.Partial.{part_mask};
 ghost use Rattle.bit_addressing_memory.specs.Partial.{ReadsPart};
 
-use bit_addressing_memory::{BitEnd, BitIdx, BitMask, BitOrder, BitRegister, each_digit, flipped, load_in, no_digits, store_in};
+use bit_addressing_memory::{
+    BitEnd, BitIdx, BitMask, BitOrder, BitRegister, each_digit, flipped, load_in, no_digits,
+    store_in,
+};
 use std::marker::PhantomData;
 
 /// The bits of one word from an index up to before an end, in the order `O`, read and written.

@@ -196,7 +196,7 @@ def main():
         fcntl.flock(turn, fcntl.LOCK_EX)
     if is_current(crates):
         return 0
-    tell(f"the program is built once each of its {len(crates.names)} crates is proved: from nothing in some twenty minutes")
+    tell(f"the program is built once each of its {len(crates.names)} crates is proved: from nothing in some 27 minutes")
     tell("on four processors, after that only what has changed. What is proved stays if this is cut off")
     status = build(crates)
     if status == 0:

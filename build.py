@@ -1,7 +1,7 @@
 #!/usr/bin/env python3
 """Builds the program where its sources have changed: what bit-table calls. Each crate that it stands on is proved.
 
-rt proves a crate by several jobs, but has work for one of them for half of the time, and it locks the folders of the crate
+rt proves a crate by several jobs, but keeps about two of four processors busy, and it locks the folders of the crate
 and of all below it until it ends. So the crate with the most above it is proved where it stands, and one that does not wait
 for it beside it: in a copy of what it reads, and on what the first one leaves of the processors.
 
@@ -71,7 +71,7 @@ class Crates:
             sources.update(f"{crate}: {self.lines[crate]}\n".encode())
             for file in self.sources(crate):
                 sources.update(f"{os.path.relpath(file, HERE)} {sum_of(file)}\n".encode())
-        return f"{sources.hexdigest()} {sum_of(BUILT)}\n" if os.path.isfile(BUILT) else ""
+        return f"{sources.hexdigest()} {sum_of(BUILT)}\n" if os.access(BUILT, os.X_OK) else ""
 
 
 def sum_of(file):
@@ -207,5 +207,7 @@ def main():
 
 if __name__ == "__main__":
     for number in (signal.SIGINT, signal.SIGTERM, signal.SIGHUP):
-        signal.signal(number, lambda number, _: sys.exit(128 + number))
+        # One that is ignored, as under nohup, stays so.
+        if signal.getsignal(number) != signal.SIG_IGN:
+            signal.signal(number, lambda number, _: sys.exit(128 + number))
     sys.exit(main())

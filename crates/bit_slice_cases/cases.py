@@ -621,18 +621,35 @@ def path_sweep():
 
 
 def path_heads():
-    """Each path at each head of a word of 8 bits and each length to 200, and at some heads of wider words."""
+    """Each path at each head of a word of 8 bits and each length to 200, a line all lengths; and at some heads of wider words."""
     rng = random.Random(47)
     for order in ("lsb0", "msb0", "hilo"):
         for head in range(8):
-            for length in range(201):
-                yield path_at("u8", order, head, rng.randrange(17), length, head + length, rng)
+            memory, others = (Memory("u8", order, filled(8, 30, rng)) for _ in range(2))
+            from_ = rng.randrange(17)
+            for name in ("path_copy", "path_over", "path_and", "path_or", "path_xor", "path_swap"):
+                yield path_lengths(memory, head, others, from_, name)
+            alike = others.put(from_, memory.piece(head, 200))
+            yield path_lengths(memory, head, alike, from_, "path_equal")
+            for k in (0, 1, 7, 8, 31, 32, 62, 63, 64, 65, 127, 128, 199):
+                other = alike.put(from_ + k, [1 - memory.list()[head + k]])
+                yield path_lengths(memory, head, other, from_, "path_equal")
     for word in ("u64", "u128"):
         for order in ("lsb0", "msb0"):
             for head in (0, 13, 63, 64, 100):
                 for length in (0, 1, 63, 64, 65, 128, 140, 300):
                     for call in range(7):
                         yield path_at(word, order, head, rng.choice((0, 13, 63, 64, 100)), length, call, rng)
+
+
+def path_lengths(memory, place, others, from_, name):
+    """A path at all lengths to 200: a digest of the answers."""
+    digest = 0xCBF29CE484222325
+    for length in range(201):
+        told = next(answer for call, answer in path_calls(memory, place, others, from_, length) if call == name)
+        for byte in told.encode():
+            digest = (digest ^ byte) * 0x100000001B3 % 2**64
+    return f"{memory.head(place, 200)} {name} {others.hex()} {from_} lengths", f"{digest:016x}"
 
 
 def path_steps():

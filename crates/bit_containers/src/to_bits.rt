@@ -1,6 +1,6 @@
 //! Windows made into vectors of their own.
 
-ghost use Rattle.std.specs.Prelude.{◌≡◌, ℕ, ◌+◌, ◌*◌, ◌%◌, ◌<◌, ◌≤◌, ◌++◌, length, replicate, IfOk};
+ghost use Rattle.std.specs.Prelude.{◌≡◌, ℕ, ◌+◌, ◌*◌, ◌%◌, ◌^◌, ◌<◌, ◌≤◌, ◌++◌, length, replicate, IfOk};
 ghost use Rattle.bit_addressing_memory.specs.Memory.{read_by, Copies};
 ghost use Rattle.bit_addressing_span.specs.declared.span.TheConstants.{MAX_BITS};
 ghost use Rattle.bit_containers.specs.Repeated.{repeated};
@@ -9,10 +9,10 @@ ghost use Rattle.bit_containers_vector.specs.Grown.{HoldsAlone};
 ghost use Rattle.bit_containers_vector.specs.Vector.{vec_bits, vec_head};
 ghost use Rattle.bit_slice_views.specs.View.{view_bits};
 
-use bit_addressing_memory::{BitOrder, BitRegister, copy_between, mem};
+use bit_addressing_memory::{BitOrder, BitRegister, mem};
 use bit_containers_vector::BitVec;
 use bit_slice_views::{BitSlice, BitStore, Bits};
-use bit_slice_views_mut::BitSliceMut;
+use bit_slice_views_mut::{BitSliceMut, copy_in};
 use std::alloc::{AllocError, Global};
 
 /// What windows make of themselves: vectors of their bits. Each call takes memory.
@@ -101,11 +101,13 @@ fn copy<T: BitStore, O: BitOrder<T>>(
     len: usize,
 )
     requires within { place + len ≤ length words.old.items * T.BITS }
+    requires ends { place + len < 2 ^ 64 }
     requires source_within { source + len ≤ length others.now * T.BITS }
+    requires source_ends { source + len < 2 ^ 64 }
     ensures copied { Copies (read_by T.BitRegister O.position) words.old.items words.new.items
         (read_by T.BitRegister O.position) others.now source place len }
 {
-    copy_between::<T, O, T, O>(others, source, words.as_mut_slice(), place, len);
+    copy_in::<T, O, T, O>(others, source, words.as_mut_slice(), place, len);
 }
 
 // The bits of a window so many times.

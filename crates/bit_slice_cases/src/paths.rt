@@ -9,19 +9,47 @@ use bit_slice::{BitRegister, BitSlice, BitSliceMut, BitsMut, Steps, WordPaths};
 use std::alloc::{AllocError, Global};
 
 /// What a word path is answered, or a copy that goes by one: whether the bits are equal, the steps, and both memories. The
-/// first word of the call is the other memory, the next the place there.
+/// first word of the call is the other memory, the next the place there. Where the third is `lengths`, it is a digest of
+/// what each length is answered, from no bits to those of the case.
 pub fn go_path<R: BitRegister, O: WordPaths<R>>(
     alloc: Global,
     case: &Case<'_>,
 ) -> Result<String, AllocError> {
+    if case.third == "lengths" {
+        return go_lengths::<R, O>(alloc, case);
+    }
+    go_so_far::<R, O>(alloc, case, case.len)
+}
+
+// The digest: of the answers one after the other, byte by byte, as Fowler, Noll and Vo make it (FNV-1a, 64 bits).
+fn go_lengths<R: BitRegister, O: WordPaths<R>>(
+    alloc: Global,
+    case: &Case<'_>,
+) -> Result<String, AllocError> {
+    let mut digest = 0xcbf2_9ce4_8422_2325u64;
+    for len in 0..case.len.min(2_048) + 1 {
+        let answer = go_so_far::<R, O>(alloc, case, len)?;
+        for byte in answer.bytes() {
+            digest = (digest ^ u64::from(byte)).wrapping_mul(0x0000_0100_0000_01b3);
+        }
+    }
+    format!(in alloc; "{digest:016x}")
+}
+
+// The answer for so many bits.
+fn go_so_far<R: BitRegister, O: WordPaths<R>>(
+    alloc: Global,
+    case: &Case<'_>,
+    len: usize,
+) -> Result<String, AllocError> {
     let mut words = read_words::<R>(alloc, case.memory)?;
     let mut others = read_words::<R>(alloc, case.first)?;
     let from = number(case.second);
-    if !has_window(&words, case.from, case.len) || !has_window(&others, from, case.len) {
+    if !has_window(&words, case.from, len) || !has_window(&others, from, len) {
         return "no such window".to_string(alloc);
     }
     let mut steps = Steps::new();
-    let is_equal = go::<R, O>(&mut words, case, &mut others, from, &mut steps);
+    let is_equal = go::<R, O>(&mut words, case, len, &mut others, from, &mut steps);
     let mut text = format!(in alloc; "{is_equal} {} ", steps.taken())?;
     push_words(&mut text, &words)?;
     text.push(' ')?;
@@ -33,17 +61,18 @@ pub fn go_path<R: BitRegister, O: WordPaths<R>>(
 fn go<R: BitRegister, O: WordPaths<R>>(
     words: &mut [R],
     case: &Case<'_>,
+    len: usize,
     others: &mut [R],
     from: usize,
     steps: &mut Steps,
 ) -> bool
     requires near { case.now.from ≤ 2048 }
     requires other_near { from ≤ 2048 }
-    requires short { case.now.len ≤ 2048 }
-    requires fits { case.now.from + case.now.len ≤ length words.old * R.BITS }
-    requires other_fits { from + case.now.len ≤ length others.old * R.BITS }
+    requires short { len ≤ 2048 }
+    requires fits { case.now.from + len ≤ length words.old * R.BITS }
+    requires other_fits { from + len ≤ length others.old * R.BITS }
 {
-    let (at, len) = (case.from, case.len);
+    let at = case.from;
     match case.call {
         "path_equal" => return O::equal(words, at, others, from, len, steps),
         "path_copy" => O::copy(words, at, others, from, len, steps),

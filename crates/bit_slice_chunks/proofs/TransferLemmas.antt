@@ -1,11 +1,11 @@
 -- Chunks of a memory, word by word: read, and written.
-use Rattle.std.proofs.Common.{◌≡◌, ℕ, ◌+◌, ◌-◌, ◌*◌, ◌/◌, ◌<◌, ◌≤◌}
+use Rattle.std.proofs.Common.{◌≡◌, ℕ, zero, suc, ◌+◌, ◌-◌, ◌*◌, ◌/◌, ◌<◌, ◌≤◌}
 use Rattle.std.proofs.Common.{Bool, List, length, get_or, min, bit_or, refl, sym, ap, ◌∙◌, inl, inr, arith}
-use Rattle.std.proofs.Math.Nat.{mul-le-mul_right}
+use Rattle.std.proofs.Math.Nat.{div-mul-le_self, mul-le-mul_right}
 use Rattle.std.proofs.lemmas.Bool.{cases_lt}
-use Rattle.std.proofs.lemmas.Nat.{div_below}
+use Rattle.std.proofs.lemmas.Nat.{div_below, le-div}
 use Rattle.bit_addressing_memory.specs.Bits.{digit_at}
-use Rattle.bit_addressing_memory.specs.Memory.{Reading, entry, reading_in, Overwrites}
+use Rattle.bit_addressing_memory.specs.Memory.{Reading, entry, reading_in, touched, Overwrites}
 use Rattle.bit_addressing_memory.proofs.EntryLemmas.{entry_read}
 pub use Rattle.bit_addressing_memory.proofs.LimbLemmas.{no_digit, or_left, or_right}
 pub use Rattle.bit_addressing_memory.proofs.OverwriteLemmas.{overwrites_join}
@@ -32,6 +32,19 @@ word_in b bits end k words is some any low within =
 -- so is the first
 pub first_in : (b bits place n words : ℕ) → bits ≡ b → 0 < b → 0 < n → place + n ≤ words * b → place / bits < words
 first_in b bits place n words is some any within = rw is (div_below place b words some (omega arith))
+
+-- the first is not behind the last
+pub in_order : (bits place n : ℕ) → 0 < bits → 0 < n → place / bits ≤ (place + n - 1) / bits
+in_order bits place n some any =
+    le-div (place / bits) (place + n - 1) bits some (omega (arith, div-mul-le_self place bits))
+
+-- and so many are touched, of which the last one holds the last entry
+pub touched_last : (b bits place n : ℕ) → bits ≡ b → 0 < n
+    → (place + n - 1) / bits + 1 - place / bits ≡ touched b place n
+touched_last b bits place zero is any = absurd (omega arith)
+touched_last b bits place (suc m) is any =
+    let last : place + suc m - 1 ≡ place + m = omega arith in
+    rw (is, last) refl
 
 -- ---- reading
 
@@ -91,6 +104,15 @@ read_all reading words place end count direction chunk r few within had cut = re
 }
 
 -- ---- writing
+
+-- the first word's bits begin with the chunk's
+pub lowered_none : (direction : Direction) (chunk : ℕ) → IsLowered direction chunk 0 chunk
+lowered_none direction chunk = record {
+  inside = λ i small.
+      let same : i ≡ i + 0 = omega arith in
+      ap (chunk_bit direction chunk) same;
+  past = λ i small far. absurd (omega arith);
+}
 
 -- one word more
 pub write_more : {R : Type 0} (reading : Reading R) (before mid after : List R)

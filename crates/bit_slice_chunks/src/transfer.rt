@@ -1,7 +1,8 @@
-//! Up to 64 bits of a memory read as a chunk, and written: each word that they touch is read once, or put once.
+//! Up to 64 bits of a memory read as a chunk, and written: each word that they touch is read once, or put once, and the
+//! words can be counted.
 
 ghost use Rattle.std.specs.Prelude.{◌≡◌, ℕ, ◌+◌, ◌-◌, ◌*◌, ◌^◌, ◌<◌, ◌≤◌, length};
-ghost use Rattle.bit_addressing_memory.specs.Memory.{read_by, Overwrites};
+ghost use Rattle.bit_addressing_memory.specs.Memory.{read_by, touched, Overwrites};
 ghost use Rattle.bit_addressing_memory.specs.Straight.{Goes};
 ghost use Rattle.bit_slice_chunks.specs.Chunk.{chunk_bit, IsChunk};
 
@@ -24,16 +25,37 @@ pub fn read_bits<R: BitRegister, O: BitOrder<R>>(
     requires ends { place + count < 2 ^ 64 }
     ensures { IsChunk (read_by R.BitRegister O.position) words.now place count direction result }
 {
+    read_counted::<R, O>(direction, words, place, count).0
+}
+
+/// The same, with how many words were read: each that the bits touch, once.
+#[inline(always)]
+pub fn read_counted<R: BitRegister, O: BitOrder<R>>(
+    direction: Direction,
+    words: &[R],
+    place: usize,
+    count: usize,
+) -> (u64, usize)
+    requires goes { Goes R.BITS O.position direction }
+    requires some { 0 < count }
+    requires few { count ≤ 64 }
+    requires within { place + count ≤ length words.now * R.BITS }
+    requires ends { place + count < 2 ^ 64 }
+    ensures chunk { IsChunk (read_by R.BitRegister O.position) words.now place count direction result.0 }
+    ensures reads { result.1 ≡ touched R.BITS place count }
+{
     let bits = bits_of::<R>();
     let first = place / bits;
     let last = (place + count - 1) / bits;
     let mut chunk = part::<R>(direction, words[first], (place % bits) as u8);
+    let mut reads = 1;
     for k in first + 1..last + 1 {
         let next = part::<R>(direction, words[k], 0);
         let by = k * bits - place;
         chunk |= raised(direction, next, by as u8);
+        reads += 1;
     }
-    first_bits(direction, chunk, count as u8)
+    (first_bits(direction, chunk, count as u8), reads)
 }
 
 /// The `count` bits of one word of a memory from an index on, 1 to 64, as a chunk, as `read_bits` has them.
@@ -72,16 +94,42 @@ pub fn write_bits<R: BitRegister, O: BitOrder<R>>(
     ensures { Overwrites (read_by R.BitRegister O.position) words.old words.new place count
         (chunk_bit direction chunk) }
 {
+    write_counted::<R, O>(direction, words, place, count, chunk);
+}
+
+/// The same, with how many words were put: each that the bits touch, once.
+#[inline(always)]
+pub fn write_counted<R: BitRegister, O: BitOrder<R>>(
+    direction: Direction,
+    words: &mut [R],
+    place: usize,
+    count: usize,
+    chunk: u64,
+) -> usize
+    requires goes { Goes R.BITS O.position direction }
+    requires some { 0 < count }
+    requires few { count ≤ 64 }
+    requires within { place + count ≤ length words.old * R.BITS }
+    requires ends { place + count < 2 ^ 64 }
+    ensures bits { Overwrites (read_by R.BitRegister O.position) words.old words.new place count
+        (chunk_bit direction chunk) }
+    ensures writes { result ≡ touched R.BITS place count }
+{
     let bits = bits_of::<R>();
     let first = place / bits;
     let last = (place + count - 1) / bits;
-    for k in first..last + 1 {
+    let head = place % bits;
+    let inner = bits.min(head + count);
+    put::<R, O>(direction, words, first, head as u8, inner as u8, chunk);
+    let mut writes = 1;
+    for k in first + 1..last + 1 {
         let start = k * bits;
-        let from = place.saturating_sub(start);
         let upto = bits.min(place + count - start);
-        let rest = lowered(direction, chunk, (start + from - place) as u8);
-        put::<R, O>(direction, words, k, from as u8, upto as u8, rest);
+        let rest = lowered(direction, chunk, (start - place) as u8);
+        put::<R, O>(direction, words, k, 0, upto as u8, rest);
+        writes += 1;
     }
+    writes
 }
 
 // Writes the first bits of a chunk into a part of one word.

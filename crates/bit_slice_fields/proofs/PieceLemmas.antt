@@ -1,11 +1,11 @@
 -- Pieces of a window whose bits weigh in turn: what a piece is, gathered, and written.
 --
 -- A piece: `piece_is`. Its digits as a chunk has them: `piece_digits`, `chunk_up`, `chunk_down`. One piece more:
--- `gathered_piece`, `scattered_piece`.
+-- `gathered_piece`, `scattered_piece`. A window that is one piece: `whole_piece`, `whole_digits`.
 use Rattle.std.proofs.Common.{◌≡◌, ◌⊎◌, ℕ, ◌+◌, ◌-◌, ◌*◌, ◌/◌, ◌%◌, ◌^◌, ◌==◌, ◌<◌, ◌≤◌}
 use Rattle.std.proofs.Common.{Bool, true, false, List, get_or, length, min, bit_or, arith, refl, sym, ap, ◌∙◌, inl, inr}
 use Rattle.std.specs.Int.{bit_at}
-use Rattle.std.proofs.Math.Nat.{mul-le-mul_right, suc-mul}
+use Rattle.std.proofs.Math.Nat.{div-eq_of_lt, mul-le-mul_right, suc-mul}
 use Rattle.std.proofs.Math.Pow.{pow_mono, pow_pos}
 use Rattle.std.proofs.lemmas.Bool.{cases_lt}
 use Rattle.std.proofs.lemmas.Nat.{or_lt, pow-add}
@@ -20,6 +20,7 @@ use Rattle.bit_addressing_memory.specs.Straight.{straight, Goes}
 use Rattle.bit_addressing_memory.proofs.OverwriteLemmas.{overwrites_join}
 use Rattle.bit_addressing_memory.proofs.LimbLemmas.{no_digit}
 use Rattle.bit_slice_chunks.specs.Chunk.{chunk_bit, IsChunk}
+use Rattle.bit_slice_fields.specs.Digits.{HasDigits}
 use Rattle.bit_slice_fields.specs.Number.{segment_start, segment_end, weight, CountsFrom}
 use Rattle.bit_slice_fields.specs.Pieces.{way_for, digits_in, least_bit, ChunkOf, IsPiece}
 use Rattle.bit_slice_fields.proofs.DigitsLemmas.{Gathered}
@@ -99,6 +100,40 @@ piece_is low le b h n s e w some order inside few ends is =
       turns = each;
     }
 
+-- ---- a window that is one piece
+
+-- the bit that weighs least, of a window in one word
+least_inside : (low le : Bool) (b h n : ℕ) → 0 < b → h < b → 0 < n → (low ≡ le) ⊎ (h + n ≤ b)
+    → 0 ≡ weight low le b h n (least_bit low 0 n)
+least_inside true true b h n some head any one = sym (weight_up b h n 0 some any)
+least_inside false false b h n some head any one =
+    let last = weight_down b h n (n - 1) some (omega arith) in
+    omega (arith, last)
+least_inside true false b h n some head any (inl same) = cc
+least_inside false true b h n some head any (inl same) = cc
+least_inside true false b h n some head any (inr inside) =
+    let word : (h + 0) / b ≡ 0 = div-eq_of_lt (omega arith) in
+    rw word (omega arith)
+least_inside false true b h n some head any (inr inside) =
+    let word : (h + (n - 1)) / b ≡ 0 = div-eq_of_lt (omega arith) in
+    rw word (omega arith)
+
+-- it ends in the segment where it begins, or all bits weigh in turn
+ends_inside : (low le : Bool) (b h n : ℕ) → h < b → (low ≡ le) ⊎ (h + n ≤ b)
+    → (low ≡ le) ⊎ (n ≤ segment_end b h n 0)
+ends_inside low le b h n head (inl same) = inl same
+ends_inside low le b h n head (inr inside) =
+    let word : (h + 0) / b ≡ 0 = div-eq_of_lt (omega arith) in
+    inr (rw word (omega arith))
+
+pub whole_piece : (low le : Bool) (b h n : ℕ) → 0 < b → h < b → 0 < n → n ≤ 64 → (low ≡ le) ⊎ (h + n ≤ b)
+    → IsPiece (weight low le b h n) n (way_for low) 0 n 0
+whole_piece low le b h n some head any few one =
+    let all : n - 0 ≡ n = omega arith in
+    rw all at
+    (piece_is low le b h n 0 n 0 some any (omega arith) (omega arith) (ends_inside low le b h n head one)
+    (least_inside low le b h n some head any one))
+
 -- ---- its digits in a chunk
 
 -- no digit from m on
@@ -162,6 +197,19 @@ chunk_down d w m x r few is made i low =
     ∙ bit_at_shl_high x (64 - m) (64 - 1 - i) (omega arith)
     ∙ ap (bit_at x) at
     ∙ lowest_digits d w x (m - 1 - i) is (omega arith))
+
+-- the digits of a window that is one piece
+pub whole_digits : (weighs : ℕ → ℕ) (n v : ℕ) (bits : List Bool) (way : Direction) → n ≡ length bits
+    → IsPiece weighs n way 0 n 0 → HasPiece way bits 0 n v → HasDigits weighs bits v
+whole_digits weighs n v bits way size is has = record {
+  digits = λ i low.
+      let at : 0 + straight n way i ≡ straight n way i = omega arith in
+      let here : 0 + i ≡ i = omega arith in
+      rw (at, here) at (ap (digit_at v) (is.turns i (omega arith)))
+      ∙ has.digits i (omega arith)
+      ∙ ap (λ k. get_or bits k false) here;
+  small = rw (← size) has.small;
+}
 
 -- ---- one piece more
 

@@ -1,7 +1,7 @@
 //! The digits of a number and the bits of a window, piece by piece: a piece lies in one segment, or is the whole window
 //! where all its bits weigh in turn, and is read and written as a chunk.
 
-ghost use Rattle.std.specs.Prelude.{◌≡◌, ℕ, ◌+◌, ◌-◌, ◌*◌, ◌%◌, ◌^◌, ◌<◌, ◌≤◌, length, bit_or};
+ghost use Rattle.std.specs.Prelude.{◌≡◌, ℕ, ◌+◌, ◌-◌, ◌*◌, ◌%◌, ◌^◌, ◌<◌, ◌≤◌, true, length, bit_or};
 ghost use Rattle.bit_addressing_memory.specs.Bits.{bits_in_order, digit_at};
 ghost use Rattle.bit_addressing_memory.specs.Memory.{memory, piece, read_by};
 ghost use Rattle.bit_slice_fields.specs.Digits.{cut_weight, HasDigits};
@@ -106,6 +106,21 @@ fn piece_of(cut: Cut, bits: usize, n: usize, from: usize) -> Piece
     }
 }
 
+// Whether a window is one piece: it has 64 bits at most, and they weigh in turn or lie in one word.
+#[inline(always)]
+fn is_one_piece(cut: Cut, bits: usize, n: usize) -> bool
+    requires some { 0 < bits }
+    requires few { bits ≤ 128 }
+    requires head { cut.head < bits }
+    requires short { n ≤ 128 }
+    ensures { result ≡ true → IsPiece (cut_weight cut bits n) n (way_for cut.low) 0 n 0 }
+{
+    if n == 0 || n > 64 {
+        return false;
+    }
+    cut.low == cut.le || cut.head + n <= bits
+}
+
 // The direction in which the bits of a word weigh.
 #[inline(always)]
 fn way_of(low: bool) -> Direction
@@ -165,6 +180,10 @@ pub(crate) fn gathered<T: BitRegister, O: BitOrder<T>>(view: BitSlice<'_, T, O>,
     let bits = mem::bits_of::<T>();
     let way = way_of(cut.low);
     let (words, head, len) = view.parts();
+    if is_one_piece(cut, bits, len) {
+        let all = read_bits::<T, O>(way, words, head as usize, len);
+        return digits_of(all, cut.low, len);
+    }
     let mut digits = 0u128;
     let mut from = 0;
     while from < len {
@@ -255,6 +274,11 @@ fn scatter_by_pieces<T: BitRegister, O: BitOrder<T>>(
 {
     let bits = mem::bits_of::<T>();
     let way = way_of(cut.low);
+    if is_one_piece(cut, bits, len) {
+        let all = chunk_of(digits, cut.low, 0, len);
+        write_bits::<T, O>(way, words, place, len, all);
+        return;
+    }
     let mut from = 0;
     while from < len {
         let piece = piece_of(cut, bits, len, from);

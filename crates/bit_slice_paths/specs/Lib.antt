@@ -1,5 +1,6 @@
 pub mod Agrees
 pub mod Mirrored
+pub mod Rotations
 pub mod Stands
 pub mod Steps
 -- what public clauses cite of the crates below

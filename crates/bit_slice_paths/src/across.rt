@@ -60,7 +60,7 @@ fn combine_rest<R: BitRegister, O: BitOrder<R>, Q: BitRegister, P: BitOrder<Q>>(
 const MANY: usize = 256;
 
 // How many bits go before whole chunks: of many those before the next word, or half of one of 128 bits, so that each chunk
-// that is written lies in as few words as it can.
+// of the first memory lies in as few words as it can.
 #[inline(always)]
 fn before_chunks<R: BitRegister>(place: usize, len: usize) -> usize
     ensures few { result ≤ 64 }
@@ -95,7 +95,7 @@ pub fn combine<R: BitRegister, O: BitOrder<R>, Q: BitRegister, P: BitOrder<Q>>(
     if first > 0 {
         combine_rest::<R, O, Q, P>(direction, how, words, place, others, other_place, first);
     }
-    combine_chunks::<R, O, Q, P>(
+    combine_behind::<R, O, Q, P>(
         direction,
         how,
         words,
@@ -104,6 +104,34 @@ pub fn combine<R: BitRegister, O: BitOrder<R>, Q: BitRegister, P: BitOrder<Q>>(
         other_place + first,
         len - first,
     );
+}
+
+// The same behind the first bits. Where both places are multiples of 64, which is told to the compiler, no chunk is made of
+// two words.
+#[inline(always)]
+fn combine_behind<R: BitRegister, O: BitOrder<R>, Q: BitRegister, P: BitOrder<Q>>(
+    direction: Direction,
+    how: Combination,
+    words: &mut [R],
+    place: usize,
+    others: &[Q],
+    other_place: usize,
+    len: usize,
+)
+    requires within { place + len ≤ length words.old * R.BITS }
+    requires ends { place + len < 2 ^ 64 }
+    requires other_within { other_place + len ≤ length others.now * Q.BITS }
+    requires other_ends { other_place + len < 2 ^ 64 }
+    ensures { Combines (read_by R.BitRegister O.position) words.old words.new place len
+        (combined_bit how) (read_by Q.BitRegister P.position) others.now other_place }
+{
+    if place % 64 == 0 && other_place % 64 == 0 {
+        let first = 64 * (place / 64);
+        let other_first = 64 * (other_place / 64);
+        combine_chunks::<R, O, Q, P>(direction, how, words, first, others, other_first, len);
+        return;
+    }
+    combine_chunks::<R, O, Q, P>(direction, how, words, place, others, other_place, len);
 }
 
 // The same, whole chunks and the rest.
@@ -199,6 +227,80 @@ fn difference_of_rest<R: BitRegister, O: BitOrder<R>, Q: BitRegister, P: BitOrde
 /// The first of `len` bits that is not as that of another memory: `len` where none is.
 #[inline(always)]
 pub fn difference<R: BitRegister, O: BitOrder<R>, Q: BitRegister, P: BitOrder<Q>>(
+    direction: Direction,
+    words: &[R],
+    place: usize,
+    others: &[Q],
+    other_place: usize,
+    len: usize,
+) -> usize
+    requires within { place + len ≤ length words.now * R.BITS }
+    requires ends { place + len < 2 ^ 64 }
+    requires other_within { other_place + len ≤ length others.now * Q.BITS }
+    requires other_ends { other_place + len < 2 ^ 64 }
+    ensures { Agrees (read_by R.BitRegister O.position) words.now place
+        (read_by Q.BitRegister P.position) others.now other_place len result }
+{
+    let before = before_chunks::<R>(place, len);
+    if before > 0 {
+        let same = difference_of_rest::<R, O, Q, P>(
+            direction,
+            words,
+            place,
+            others,
+            other_place,
+            before,
+        );
+        if same < before {
+            return same;
+        }
+    }
+    let same = difference_behind::<R, O, Q, P>(
+        direction,
+        words,
+        place + before,
+        others,
+        other_place + before,
+        len - before,
+    );
+    before + same
+}
+
+// The same behind the first bits, as `combine_behind`.
+#[inline(always)]
+fn difference_behind<R: BitRegister, O: BitOrder<R>, Q: BitRegister, P: BitOrder<Q>>(
+    direction: Direction,
+    words: &[R],
+    place: usize,
+    others: &[Q],
+    other_place: usize,
+    len: usize,
+) -> usize
+    requires within { place + len ≤ length words.now * R.BITS }
+    requires ends { place + len < 2 ^ 64 }
+    requires other_within { other_place + len ≤ length others.now * Q.BITS }
+    requires other_ends { other_place + len < 2 ^ 64 }
+    ensures { Agrees (read_by R.BitRegister O.position) words.now place
+        (read_by Q.BitRegister P.position) others.now other_place len result }
+{
+    if place % 64 == 0 && other_place % 64 == 0 {
+        let first = 64 * (place / 64);
+        let other_first = 64 * (other_place / 64);
+        return difference_of_chunks::<R, O, Q, P>(
+            direction,
+            words,
+            first,
+            others,
+            other_first,
+            len,
+        );
+    }
+    difference_of_chunks::<R, O, Q, P>(direction, words, place, others, other_place, len)
+}
+
+// The same, whole chunks and the rest.
+#[inline(always)]
+fn difference_of_chunks<R: BitRegister, O: BitOrder<R>, Q: BitRegister, P: BitOrder<Q>>(
     direction: Direction,
     words: &[R],
     place: usize,

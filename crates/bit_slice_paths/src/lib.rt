@@ -5,6 +5,7 @@ pub mod across;
 pub mod by_words;
 pub mod exchange;
 pub mod mirror;
+pub mod rotation;
 pub mod seek;
 mod steps;
 

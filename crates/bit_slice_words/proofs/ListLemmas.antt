@@ -18,8 +18,8 @@ use Rattle.std.proofs.lemmas.Simd.{length-zip2, get_or-zip2}
 use Rattle.bit_addressing_memory.specs.Memory.{Reading, entry, memory, piece, Overwrites, Copies}
 use Rattle.bit_addressing_memory.specs.Moves.{Moves}
 use Rattle.bit_addressing_memory.proofs.WindowLemmas.{window_is, window_bit, length-window}
-use Rattle.bit_slice_words.specs.Rotations.{rotated_from}
-use Rattle.bit_slice_words.proofs.RotateLemmas.{rotated_from_on, rotated_from_over}
+use Rattle.bit_slice_paths.specs.Rotations.{rotated_from}
+use Rattle.bit_slice_paths.proofs.RotationLemmas.{rotated_from_on, rotated_from_over}
 use Rattle.bit_slice_words.proofs.ShiftLemmas.{then_of, else_of}
 
 -- ---- one memory

@@ -1,17 +1,9 @@
 -- A stretch rotated: its two parts turned round, and then the whole.
 use Rattle.std.proofs.Common.{◌≡◌, ℕ, ◌+◌, ◌-◌, ◌<◌, ◌≤◌, List, sym, ap, ◌∙◌, inl, inr, arith}
-use Rattle.std.specs.Prelude.{if◌then◌else◌}
-use Rattle.std.proofs.lemmas.Bool.{cases_lt, lt-ltb, le-ltb}
+use Rattle.std.proofs.lemmas.Bool.{cases_lt}
 use Rattle.bit_addressing_memory.specs.Memory.{Reading, entry, Overwrites}
-use Rattle.bit_slice_words.specs.Rotations.{rotated_from}
-
--- behind the cut
-pub rotated_from_on : (n by k : ℕ) → k + by < n → rotated_from n by k ≡ k + by
-rotated_from_on n by k h = ap (λ t. if t then k + by else k + by - n) (lt-ltb (k + by) n h)
-
--- and before it
-pub rotated_from_over : (n by k : ℕ) → n ≤ k + by → rotated_from n by k ≡ k + by - n
-rotated_from_over n by k h = ap (λ t. if t then k + by else k + by - n) (le-ltb (k + by) n h)
+use Rattle.bit_slice_paths.specs.Rotations.{rotated_from}
+use Rattle.bit_slice_paths.proofs.RotationLemmas.{rotated_from_on, rotated_from_over}
 
 -- the two parts turned round, and then the whole
 pub rotated : {R : Type 0} (reading : Reading R) (before mid now after : List R) (place n by : ℕ) → by ≤ n

@@ -2,21 +2,57 @@
 
 ghost use Rattle.std.specs.Prelude.{◌+◌, ◌-◌, ◌*◌, ◌^◌, ◌<◌, ◌≤◌, length};
 ghost use Rattle.bit_addressing_memory.specs.Memory.{entry, read_by, Overwrites};
-ghost use Rattle.bit_slice_words.specs.Rotations.{rotated_from};
+ghost use Rattle.bit_slice_paths.specs.Rotations.{rotated_from};
 
 use crate::reverse::reverse_in;
-use bit_addressing_memory::{BitOrder, BitRegister};
+use bit_addressing_memory::{BitOrder, BitRegister, Walk, most_singly};
+use bit_slice_paths::{direction_for, rotation};
 
 /// Moves each of `len` bits of a memory, those from `place` on, `by` places towards the first of them; the
 /// first `by` become the last. They lie in the memory, `place + len` fits a `usize`, and `by` is at most `len`.
 /// Every other bit of the memory stays.
 ///
-/// What `rotate_left` of a bitvec slice does. Each of the two parts is turned round, and then the whole:
-///
-/// ```text
-/// a b c | d e f g     c b a | g f e d     d e f g | a b c
-/// ```
+/// What `rotate_left` of a bitvec slice does.
 pub fn rotate_left_in<R: BitRegister, O: BitOrder<R>>(
+    words: &mut [R],
+    place: usize,
+    len: usize,
+    by: usize,
+)
+    requires within { place + len ≤ length words.old * R.BITS }
+    requires ends { place + len < 2 ^ 64 }
+    requires most { by ≤ len }
+    ensures rotated { Overwrites (read_by R.BitRegister O.position) words.old words.new place len
+        (λ k. entry (read_by R.BitRegister O.position) words.old (place + rotated_from len by k)) }
+{
+    if len <= most_singly::<R, O>(Walk::Copy) {
+        rotate_by_turns::<R, O>(words, place, len, by);
+        return;
+    }
+    rotate_by_chunks::<R, O>(words, place, len, by);
+}
+
+// The same, by chunks. Out of line, so that a few bits are rotated by a short function.
+#[inline(never)]
+fn rotate_by_chunks<R: BitRegister, O: BitOrder<R>>(
+    words: &mut [R],
+    place: usize,
+    len: usize,
+    by: usize,
+)
+    requires within { place + len ≤ length words.old * R.BITS }
+    requires ends { place + len < 2 ^ 64 }
+    requires most { by ≤ len }
+    ensures rotated { Overwrites (read_by R.BitRegister O.position) words.old words.new place len
+        (λ k. entry (read_by R.BitRegister O.position) words.old (place + rotated_from len by k)) }
+{
+    rotation::rotate::<R, O>(direction_for::<R, O>(), words, place, len, by);
+}
+
+// The same, by reversals. Each of the two parts is turned round, and then the whole:
+//
+//     a b c | d e f g     c b a | g f e d     d e f g | a b c
+fn rotate_by_turns<R: BitRegister, O: BitOrder<R>>(
     words: &mut [R],
     place: usize,
     len: usize,

@@ -1,12 +1,12 @@
 //! The replies to commands that were carried out.
-ghost use Rattle.std.specs.Prelude.{◌≡◌, ℕ, List, IfOk, Some, map};
+ghost use Rattle.std.specs.Prelude.{◌≡◌, IfOk, map};
 ghost use Rattle.std.specs.List.{join_with_byte};
 ghost use Rattle.bit_table_commands.specs.Replies.{reply_text, row_numbers};
 
 use super::items::Items;
 use bit_table_layout::image;
+use itoa::{Buffer, Integer};
 use std::alloc::{AllocError, Global};
-use std::fmt;
 
 /// The numbers of a row, one a field, in order.
 pub type Numbers = Items<i128>;
@@ -63,18 +63,19 @@ fn row_numbers(alloc: Global, rows: &[usize]) -> Result<Vec<u8>, AllocError>
     }
 }
 
-// The texts of items, with a space between each two.
-fn spaced<T: fmt::Display>(alloc: Global, items: &[T]) -> Result<Vec<u8>, AllocError>
-    ensures { (shown : T → List ℕ) → ((item : T) → T.output item ≡ Some (shown item))
-        → IfOk result (λ text. text.items ≡ join_with_byte 32 (map shown items.now)) }
+// Numbers in decimal with a space between each two.
+fn spaced<N: Integer>(alloc: Global, numbers: &[N]) -> Result<Vec<u8>, AllocError>
+    ensures { IfOk result (λ text. text.items ≡ join_with_byte 32 (map N.text numbers.now)) }
 {
-    let mut text = String::new(alloc);
-    let Some((first, rest)) = items.split_first() else {
-        return Ok(text.into_bytes());
+    let mut text = Vec::new(alloc);
+    let Some((first, rest)) = numbers.split_first() else {
+        return Ok(text);
     };
-    write!(text, "{first}")?;
-    for item in rest {
-        write!(text, " {item}")?;
+    let mut buffer = Buffer::new();
+    text.extend_from_slice(buffer.format(*first).as_bytes())?;
+    for number in rest {
+        text.push(b' ')?;
+        text.extend_from_slice(buffer.format(*number).as_bytes())?;
     }
-    Ok(text.into_bytes())
+    Ok(text)
 }

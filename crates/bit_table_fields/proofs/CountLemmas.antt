@@ -1,10 +1,11 @@
 -- How many word steps the numbers of rows take.
 --
--- Of one number: `takes_within`, by `touched_few`. Of a row, one field after another: `takes_field`.
-use Rattle.std.proofs.Common.{◌≡◌, ℕ, zero, suc, ◌+◌, ◌*◌, ◌/◌, ◌<◌, ◌≤◌, Bool, true, false, arith, add-mul}
+-- Of one number: `takes_within`, by `touched_few`; `takes_words`. Of a row, one field after another: `takes_field`.
+use Rattle.std.proofs.Common.{◌≡◌, ℕ, zero, suc, ◌+◌, ◌*◌, ◌/◌, ◌<◌, ◌≤◌, Bool, true, false, arith, refl, add-mul}
 use Rattle.std.proofs.Common.{mul-le-mul_right}
 use Rattle.std.proofs.lemmas.Nat.{div-add-mod', div_below, mod_below}
 use Rattle.bit_addressing_memory.specs.Memory.{touched}
+use Rattle.bit_slice_chunks.proofs.TransferLemmas.{touched_last, in_order}
 use Rattle.bit_slice_words.specs.Steps.{Takes}
 use Rattle.bit_table_fields.specs.Windows.{most_for}
 
@@ -35,6 +36,16 @@ takes_within old new b place n true some took = record {
   at_most = omega (arith, took.at_most, touched_few b place n some);
 }
 takes_within old new b place n false some took = took
+
+-- a step for each word that a number touches, of one bit at least
+pub takes_words : (old new words b place n : ℕ) → 0 < b → 1 ≤ n → words ≡ touched b place n
+    → Takes old new words words → Takes old new 1 (touched b place n)
+takes_words old new words b place n some any is took =
+    let least : 1 ≤ touched b place n =
+    omega (arith, touched_last b b place n refl any, in_order b place n some any) in
+    let a = took.at_least in
+    let c = took.at_most in
+    record { at_least = omega arith; at_most = omega arith }
 
 -- one field more
 pub takes_field : (old now new i sum more b place n : ℕ) (by_words : Bool) → 0 < b → more ≡ sum + n

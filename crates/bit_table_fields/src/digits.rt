@@ -1,8 +1,8 @@
 //! Numbers in windows of bits by a digit rule.
 //!
 //! An order writes the calls that end in `_at`, which have no body here: one whose two constants are false calls the
-//! functions of the same names in `digits_by_bits`, but for the orders of this crate, which go by chunks. Users make the
-//! calls over windows.
+//! functions of the same names in `digits_by_bits`, but for the orders of this crate, which go by words or by chunks. Users
+//! make the calls over windows.
 
 ghost use Rattle.std.specs.Prelude.{◌≡◌, ℕ, ◌+◌, ◌*◌, ◌^◌, ◌<◌, ◌≤◌, Bool, true, false, length};
 ghost use Rattle.bit_addressing_memory.specs.Memory.{memory, piece, read_by, with_piece};
@@ -12,8 +12,8 @@ ghost use Rattle.bit_table_fields.specs.Windows.{most_for, number_held};
 ghost use Rattle.bit_table_layout.specs.Rows.{field_bits};
 ghost use Rattle.bit_table_layout.specs.declared.layout.Rule.TheVariants.{Low, High};
 
-use crate::digits_by_chunks;
 use crate::hi_lo::HiLo;
+use crate::{digits_by_chunks, digits_by_words};
 use bit_addressing_memory::{BitOrder, BitRegister, Lsb0, Msb0};
 use bit_slice_views::{BitSlice, Bits};
 use bit_slice_views_mut::BitsMut;
@@ -162,16 +162,16 @@ pub trait Digits<R: BitRegister>: BitOrder<R> {
 }
 
 impl<R: BitRegister> Digits<R> for Lsb0 {
-    ghost LOW_WORDS = { false };
+    ghost LOW_WORDS = { true };
 
-    const LOW_WORDS: bool = false;
+    const LOW_WORDS: bool = true;
 
     ghost HIGH_WORDS = { false };
 
     const HIGH_WORDS: bool = false;
 
     fn load_low_at(words: &[R], place: usize, width: u32, signed: bool, steps: &mut Steps) -> i128 {
-        digits_by_chunks::load::<R, Lsb0>(Rule::Low, words, place, width, signed, steps)
+        digits_by_words::load::<R, Lsb0>(Rule::Low, words, place, width, signed, steps)
     }
 
     fn load_high_at(
@@ -191,7 +191,7 @@ impl<R: BitRegister> Digits<R> for Lsb0 {
         value: i128,
         steps: &mut Steps,
     ) {
-        digits_by_chunks::store::<V>(Rule::Low, view, at, width, value, steps);
+        digits_by_words::store::<V>(Rule::Low, view, at, width, value, steps);
     }
 
     fn store_high_at<V: BitsMut<Store = R, Order = Lsb0>>(
@@ -210,9 +210,9 @@ impl<R: BitRegister> Digits<R> for Msb0 {
 
     const LOW_WORDS: bool = false;
 
-    ghost HIGH_WORDS = { false };
+    ghost HIGH_WORDS = { true };
 
-    const HIGH_WORDS: bool = false;
+    const HIGH_WORDS: bool = true;
 
     fn load_low_at(words: &[R], place: usize, width: u32, signed: bool, steps: &mut Steps) -> i128 {
         digits_by_chunks::load::<R, Msb0>(Rule::Low, words, place, width, signed, steps)
@@ -225,7 +225,7 @@ impl<R: BitRegister> Digits<R> for Msb0 {
         signed: bool,
         steps: &mut Steps,
     ) -> i128 {
-        digits_by_chunks::load::<R, Msb0>(Rule::High, words, place, width, signed, steps)
+        digits_by_words::load::<R, Msb0>(Rule::High, words, place, width, signed, steps)
     }
 
     fn store_low_at<V: BitsMut<Store = R, Order = Msb0>>(
@@ -245,7 +245,7 @@ impl<R: BitRegister> Digits<R> for Msb0 {
         value: i128,
         steps: &mut Steps,
     ) {
-        digits_by_chunks::store::<V>(Rule::High, view, at, width, value, steps);
+        digits_by_words::store::<V>(Rule::High, view, at, width, value, steps);
     }
 }
 

@@ -1,9 +1,10 @@
-//! Numbers in windows for every order: by a chunk, which counts one step a bit. By `digits_by_bits` go a few bits, and all
-//! where the order turns no word quickly.
+//! Numbers in windows for every order and rule: by a chunk, which counts one step a bit. By `digits_by_bits` go a few bits,
+//! and all where the order turns no word quickly.
 
-ghost use Rattle.std.specs.Prelude.{◌≡◌, ℕ, ◌+◌, ◌*◌, ◌^◌, ◌<◌, ◌≤◌, length};
+ghost use Rattle.std.specs.Prelude.{◌≡◌, ℕ, ◌+◌, ◌*◌, ◌^◌, ◌<◌, ◌≤◌, List, length};
 ghost use Rattle.bit_addressing_memory.specs.Bits.{digit_at};
 ghost use Rattle.bit_addressing_memory.specs.Memory.{memory, piece, read_by, with_piece};
+ghost use Rattle.bit_slice_chunks.specs.Chunk.{IsChunk};
 ghost use Rattle.bit_slice_views_mut.specs.Frame.{KeepsBeside};
 ghost use Rattle.bit_slice_words.specs.Steps.{Takes};
 ghost use Rattle.bit_table_fields.specs.Chunks.{digits_in, rule_way, ChunkOf};
@@ -90,9 +91,25 @@ fn load_chunk<R: BitRegister, O: BitOrder<R>>(
     ensures steps { Takes steps.old steps.new width width }
 {
     let chunk = read_bits::<R, O>(way_of(rule), words, place, width as usize);
-    let digits = digits_of(rule, chunk, width);
     steps.many(width as usize);
-    number_of(digits, width, signed)
+    number_in::<R, O>(rule, chunk, width, signed)
+}
+
+// The number whose digits, in the direction of a rule, a chunk of `width` bits of a memory has.
+#[inline(always)]
+pub(crate) fn number_in<R: BitRegister, O: BitOrder<R>>(
+    rule: Rule,
+    chunk: u64,
+    width: u32,
+    signed: bool,
+) -> i128
+    requires some { 1 ≤ width }
+    requires narrow { width ≤ 64 }
+    ensures { (words : List R) → (place : ℕ) → place + width ≤ length words * R.BITS
+        → IsChunk (read_by R.BitRegister O.position) words place width (rule_way rule) chunk
+        → result ≡ number_held rule signed width (piece (memory (read_by R.BitRegister O.position) words) place width) }
+{
+    number_of(digits_of(rule, chunk, width), width, signed)
 }
 
 /// `Digits::store_low_at` or `Digits::store_high_at`, as the rule says.
@@ -171,7 +188,7 @@ fn write_number<R: BitRegister, O: BitOrder<R>>(
 }
 
 // The direction in which the digits of a rule lie in a chunk as they do in a number.
-fn way_of(rule: Rule) -> Direction
+pub(crate) fn way_of(rule: Rule) -> Direction
     ensures { result ≡ rule_way rule }
 {
     match rule {
@@ -193,7 +210,7 @@ fn digits_of(rule: Rule, chunk: u64, width: u32) -> u64
 }
 
 // The chunk whose first bits are digits of a number.
-fn chunk_of(rule: Rule, value: i128, width: u32) -> u64
+pub(crate) fn chunk_of(rule: Rule, value: i128, width: u32) -> u64
     requires some { 1 ≤ width }
     requires narrow { width ≤ 64 }
     ensures { ChunkOf rule width value result }

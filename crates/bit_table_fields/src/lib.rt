@@ -4,6 +4,7 @@
 mod digits;
 pub mod digits_by_bits;
 mod digits_by_chunks;
+mod digits_by_words;
 mod hi_lo;
 mod numbers;
 mod rows;

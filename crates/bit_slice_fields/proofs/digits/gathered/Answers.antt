@@ -4,8 +4,31 @@ use Rattle.bit_slice_views.specs.View.{view_bits}
 use Rattle.bit_slice_fields.specs.Digits.{cut_weight}
 use Rattle.bit_slice_fields.specs.Pieces.{way_for}
 use Rattle.bit_slice_fields.proofs.DigitsLemmas.{gathered_none, gathered_all}
-use Rattle.bit_slice_fields.proofs.PieceLemmas.{goes_for, piece_digits, gathered_more}
+use Rattle.bit_slice_fields.proofs.PieceLemmas.{goes_for, piece_digits, gathered_more, whole_digits}
 use Rattle.bit_slice_fields.proofs.digits.gathered.Goals as goal
+
+pub read_bits-all-requires-clause-goes : goal.read_bits-all-requires-clause-goes
+read_bits-all-requires-clause-goes g c =
+    rw c.way_of-way.ensures
+    (goes_for c.args.cut.low g.T.BitRegister.BITS g.O.Positions.position c.requires.counts)
+
+pub returns-then-is_one_piece : goal.returns-then-is_one_piece
+returns-then-is_one_piece g c =
+    let reading = read_by g.T.BitRegister g.O.Positions.position in
+    let shown = view_bits reading c.args.view in
+    let cut = c.args.cut in
+    let head = c.parts-head.result.1 in
+    let len = c.parts-head.result.2 in
+    let some : 0 < g.T.BitRegister.BITS = omega (arith, g.met.T.BitRegister.least_bits) in
+    let is = c.is_one_piece.ensures c.if-is_one_piece.true in
+    let chunk = rw c.way_of-way.ensures at c.read_bits-all.ensures in
+    let has =
+    piece_digits (way_for cut.low) reading c.parts-head.result.0.now head len 0 len head c.read_bits-all.result
+    c.digits_of.result shown some (omega arith) is.some is.few (omega arith) c.parts-head.ensures.bits
+    c.read_bits-all.type_inv c.digits_of.ensures chunk in
+    whole_digits (cut_weight cut g.T.BitRegister.BITS (length shown)) (length shown) c.digits_of.result shown
+    (way_for cut.low) refl (rw (c.bits_of-bits.ensures, c.parts-head.ensures.len) at is)
+    (rw c.parts-head.ensures.len at has)
 
 pub loop-from-init : goal.loop-from-init
 loop-from-init g c =

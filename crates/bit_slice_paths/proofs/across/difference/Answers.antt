@@ -1,31 +1,19 @@
-use Rattle.std.proofs.Common.{◌≡◌, ◌+◌, ◌*◌, ◌/◌, ◌%◌, arith}
+use Rattle.std.proofs.Common.{◌-◌, arith}
 use Rattle.bit_addressing_memory.specs.Memory.{read_by}
 use Rattle.bit_slice_paths.proofs.AcrossLemmas.{agrees_more}
-use Rattle.bit_slice_paths.proofs.WalkLemmas.{equal_more}
 use Rattle.bit_slice_paths.proofs.across.difference.Goals as goal
-
-pub returns-then-same-lt64 : goal.returns-then-same-lt64
-returns-then-same-lt64 g c =
-    let reading = read_by g.R.BitRegister g.O.Positions.position in
-    let its = read_by g.Q.BitRegister g.P.Positions.position in
-    agrees_more reading its c.args.words.now c.args.others.now c.args.place c.args.other_place (64 * c.loop-k.k) 64
-    c.args.len c.difference_of_whole-same.result (omega arith) (λ _. c.if-same-lt64.true) c.loop-k.invariant
-    c.difference_of_whole-same.ensures
-
-pub loop-k-preserved : goal.loop-k-preserved
-loop-k-preserved g c =
-    let reading = read_by g.R.BitRegister g.O.Positions.position in
-    let its = read_by g.Q.BitRegister g.P.Positions.position in
-    let k = c.loop-k.k in
-    equal_more reading its c.args.words.now c.args.others.now c.args.place c.args.other_place (64 * k) 64
-    (64 * (k + 1)) (omega arith) c.loop-k.invariant
-    (λ i low. c.difference_of_whole-same.ensures.same i (omega (arith, c.if-same-lt64.false)))
+use Rattle.bit_slice_paths.proofs.across.difference.Goals.{then-before-gt0+else-same-before, else-before-gt0}
 
 pub returns : goal.returns
 returns g c =
     let reading = read_by g.R.BitRegister g.O.Positions.position in
     let its = read_by g.Q.BitRegister g.P.Positions.position in
-    let whole : c.loop-k.k ≡ c.args.len / 64 = omega arith in
-    agrees_more reading its c.args.words.now c.args.others.now c.args.place c.args.other_place
-    (64 * (c.args.len / 64)) (c.args.len % 64) c.args.len c.difference_of_rest-same.result (omega arith)
-    (λ low. omega arith) (rw whole at c.loop-k.invariant) c.difference_of_rest-same.ensures
+    let before = c.before_chunks-before.result in
+    agrees_more reading its c.args.words.now c.args.others.now c.args.place c.args.other_place before
+    (c.args.len - before) c.args.len c.difference_behind-same.result
+    (omega (arith, c.before_chunks-before.ensures.within)) (λ low. omega arith) (elim c.if-before-gt0.branch [
+      | then-before-gt0+else-same-before w ↦
+          λ k low. w.difference_of_rest-same.ensures.same k (omega (arith, w.if-same-before.false))
+      | else-before-gt0 w ↦ λ k low. absurd (omega (arith, w.if-before-gt0.false))
+    ])
+    c.difference_behind-same.ensures

@@ -7,4 +7,4 @@ pub returns-else-is_empty : goal.returns-else-is_empty
 returns-else-is_empty c =
     subst (λ l. IfOk c.spaced.result (λ text. text.items ≡ l))
     (row_numbers-some c.args.rows.now (sym c.is_empty.ensures ∙ c.if-is_empty.false))
-    (c.spaced.ensures decimal (λ row. refl))
+    c.spaced.ensures

@@ -1,6 +1,6 @@
 use Rattle.bit_addressing_memory.specs.Memory.{read_by}
 use Rattle.bit_slice_words.proofs.RotateLemmas.{rotated}
-use Rattle.bit_slice_words.proofs.rotate.rotate_left_in.Goals as goal
+use Rattle.bit_slice_words.proofs.rotate.rotate_by_turns.Goals as goal
 
 pub returns : goal.returns
 returns g c = record {

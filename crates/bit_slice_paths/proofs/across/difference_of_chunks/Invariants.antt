@@ -1,6 +1,6 @@
 use Rattle.std.proofs.Common.{◌≡◌, ℕ, ◌+◌, ◌*◌, ◌<◌}
 use Rattle.bit_addressing_memory.specs.Memory.{entry, read_by}
-use Rattle.bit_slice_paths.proofs.across.difference.Given as goal
+use Rattle.bit_slice_paths.proofs.across.difference_of_chunks.Given as goal
 
 -- the bits so far are the same
 abbrev pub invariant-loop-k : goal.invariant-loop-k

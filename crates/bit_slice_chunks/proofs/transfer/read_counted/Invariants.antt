@@ -1,0 +1,11 @@
+use Rattle.std.proofs.Common.{◌≡◌, ◌-◌, ◌*◌}
+use Rattle.bit_addressing_memory.specs.Memory.{read_by}
+use Rattle.bit_slice_chunks.specs.Chunk.{ReadTo}
+use Rattle.bit_slice_chunks.proofs.transfer.read_counted.Given as goal
+
+abbrev pub invariant-loop-k : goal.invariant-loop-k
+invariant-loop-k g l = record {
+  chunk : ReadTo (read_by g.R.BitRegister g.O.Positions.position) l.words l.place (l.k * g.R.BitRegister.BITS)
+      l.direction l.chunk;
+  reads : l.reads ≡ l.k - l.first;
+}

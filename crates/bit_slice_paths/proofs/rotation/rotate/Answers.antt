@@ -1,0 +1,64 @@
+use Rattle.std.proofs.Common.{◌≡◌, ◌+◌, ◌-◌, ◌∙◌, refl, inl, inr, arith}
+use Rattle.bit_addressing_memory.specs.Memory.{read_by}
+use Rattle.bit_slice_paths.proofs.RotationLemmas.{rotated_none, exchanged_front, exchanged_back}
+use Rattle.bit_slice_paths.proofs.rotation.rotate.Goals as goal
+use Rattle.bit_slice_paths.proofs.rotation.rotate.Goals.{then-left-eq0-via-then-left-eq0}
+use Rattle.bit_slice_paths.proofs.rotation.rotate.Goals.{then-left-eq0-via-else-left-eq0+then-right-eq0}
+
+pub loop-left-init : goal.loop-left-init
+loop-left-init g c =
+    let all : c.args.by + (c.args.len - c.args.by) ≡ c.args.len = omega (arith, c.requires.most) in
+    record {
+      rest = λ after turned. rw all at turned;
+      inside = omega arith;
+      words = refl;
+    }
+
+pub loop-left-preserved-then-left-right : goal.loop-left-preserved-then-left-right
+loop-left-preserved-then-left-right g c =
+    let reading = read_by g.R.BitRegister g.O.Positions.position in
+    let left = c.loop-left.left in
+    let right = c.loop-left.right in
+    record {
+      rest = λ after turned.
+          c.loop-left.invariant.rest after
+          (exchanged_front reading c.loop-left.words c.exchange.new.words after c.loop-left.first left right _ _ _
+          c.if-left-right.true (omega arith) (omega arith) refl c.exchange.ensures turned);
+      inside = omega (arith, c.loop-left.invariant.inside);
+      words = c.exchange.ensures.words ∙ c.loop-left.invariant.words;
+    }
+
+pub loop-left-preserved : goal.loop-left-preserved
+loop-left-preserved g c =
+    let reading = read_by g.R.BitRegister g.O.Positions.position in
+    let left = c.loop-left.left in
+    let right = c.loop-left.right in
+    let swapped = c.exchange-else-left-right in
+    record {
+      rest = λ after turned.
+          c.loop-left.invariant.rest after
+          (exchanged_back reading c.loop-left.words swapped.new.words after c.loop-left.first left right _ _ _ _ _
+          (omega (arith, c.if-left-right.false)) refl refl (omega (arith, c.if-left-right.false)) refl refl
+          swapped.ensures turned);
+      inside = omega (arith, c.loop-left.invariant.inside);
+      words = swapped.ensures.words ∙ c.loop-left.invariant.words;
+    }
+
+pub returns-then-left-eq0 : goal.returns-then-left-eq0
+returns-then-left-eq0 g c =
+    let reading = read_by g.R.BitRegister g.O.Positions.position in
+    let left = c.loop-left.left in
+    let right = c.loop-left.right in
+    c.loop-left.invariant.rest c.loop-left.words
+    (rotated_none reading c.loop-left.words c.loop-left.first (left + right) left (elim c.then-left-eq0.branch [
+      | then-left-eq0-via-then-left-eq0 w ↦ inl (omega (arith, w.if-left-eq0.true))
+      | then-left-eq0-via-else-left-eq0+then-right-eq0 w ↦ inr (omega (arith, w.if-right-eq0.true))
+    ]))
+
+pub returns-else-left-le-HELD : goal.returns-else-left-le-HELD
+returns-else-left-le-HELD g c =
+    let reading = read_by g.R.BitRegister g.O.Positions.position in
+    let left = c.loop-left.left in
+    let right = c.loop-left.right in
+    let by : left + right - right ≡ left = omega arith in
+    c.loop-left.invariant.rest c.hold_last.new.words (rw by at c.hold_last.ensures)

@@ -1,0 +1,97 @@
+//! Bits of one memory rotated: those that leave a stretch at one end come in at the other. Up to 64 are held aside while the
+//! others are moved at once; before, of more the shorter part is exchanged with as many at the other end, and is in place.
+
+ghost use Rattle.std.specs.Prelude.{◌+◌, ◌-◌, ◌*◌, ◌^◌, ◌<◌, ◌≤◌, length};
+ghost use Rattle.bit_addressing_memory.specs.Memory.{entry, read_by, Overwrites};
+ghost use Rattle.bit_slice_paths.specs.Rotations.{rotated_from};
+
+use crate::exchange::exchange;
+use bit_addressing_memory::{BitOrder, BitRegister, Direction, Sweep, move_in, way_for};
+use bit_slice_chunks::any_order::{read_bits, write_bits};
+
+// Moves each of `len` bits towards the first of them by up to 64 places; those that leave become the last.
+#[inline(always)]
+fn hold_first<R: BitRegister, O: BitOrder<R>>(
+    direction: Direction,
+    words: &mut [R],
+    place: usize,
+    len: usize,
+    by: usize,
+)
+    requires some { 0 < by }
+    requires few { by ≤ 64 }
+    requires most { by ≤ len }
+    requires within { place + len ≤ length words.old * R.BITS }
+    requires ends { place + len < 2 ^ 64 }
+    ensures { Overwrites (read_by R.BitRegister O.position) words.old words.new place len
+        (λ k. entry (read_by R.BitRegister O.position) words.old (place + rotated_from len by k)) }
+{
+    let held = read_bits::<R, O>(direction, words, place, by);
+    let mut sweep = Sweep::new(words, way_for(place + by, place));
+    move_in::<R, O>(&mut sweep, place + by, place, len - by);
+    write_bits::<R, O>(direction, words, place + (len - by), by, held);
+}
+
+// Moves each of `len` bits towards the last of them by up to 64 places; those that leave become the first.
+#[inline(always)]
+fn hold_last<R: BitRegister, O: BitOrder<R>>(
+    direction: Direction,
+    words: &mut [R],
+    place: usize,
+    len: usize,
+    by: usize,
+)
+    requires some { 0 < by }
+    requires few { by ≤ 64 }
+    requires most { by ≤ len }
+    requires within { place + len ≤ length words.old * R.BITS }
+    requires ends { place + len < 2 ^ 64 }
+    ensures { Overwrites (read_by R.BitRegister O.position) words.old words.new place len
+        (λ k. entry (read_by R.BitRegister O.position) words.old (place + rotated_from len (len - by) k)) }
+{
+    let held = read_bits::<R, O>(direction, words, place + (len - by), by);
+    let mut sweep = Sweep::new(words, way_for(place, place + by));
+    move_in::<R, O>(&mut sweep, place, place + by, len - by);
+    write_bits::<R, O>(direction, words, place, by, held);
+}
+
+// How many bits are held aside at most.
+const HELD: usize = 64;
+
+/// Moves each of `len` bits of a memory `by` places towards the first of them; the first `by` become the last.
+#[inline(always)]
+pub fn rotate<R: BitRegister, O: BitOrder<R>>(
+    direction: Direction,
+    words: &mut [R],
+    place: usize,
+    len: usize,
+    by: usize,
+)
+    requires within { place + len ≤ length words.old * R.BITS }
+    requires ends { place + len < 2 ^ 64 }
+    requires most { by ≤ len }
+    ensures { Overwrites (read_by R.BitRegister O.position) words.old words.new place len
+        (λ k. entry (read_by R.BitRegister O.position) words.old (place + rotated_from len by k)) }
+{
+    let mut first = place;
+    let mut left = by;
+    let mut right = len - by;
+    while left > HELD && right > HELD {
+        if left <= right {
+            right -= left;
+            exchange::<R, O>(direction, words, first, first + left + right, left);
+        } else {
+            exchange::<R, O>(direction, words, first, first + left, right);
+            first += right;
+            left -= right;
+        }
+    }
+    if left == 0 || right == 0 {
+        return;
+    }
+    if left <= HELD {
+        hold_first::<R, O>(direction, words, first, left + right, left);
+    } else {
+        hold_last::<R, O>(direction, words, first, left + right, right);
+    }
+}

@@ -154,9 +154,10 @@ def table(script, answer, storages):
 def tables():
     for script, answer in worked.TABLES:
         table(script, answer, STORAGES)
-    for script, answer in worked.COMBINED:
-        for word, order in some_storages(4):
-            table(script, answer % worked.STEPS[order], [(word, order)])
+    for rows, script, answer in worked.COMBINED:
+        for word, order in [("u8", "lsb0"), *some_storages(4)]:
+            steps = worked.STEPS[rows] if span(order) == 64 else rows
+            table(script, answer.replace("%d", str(steps)), [(word, order)])
     for script, answer in worked.RELAYED:
         for storage in worked.RELAYS:
             table(script % storage, answer, some_storages(4))
@@ -311,6 +312,13 @@ def images():
             case(f"image {word} {order} {rows} {image} {rule} a:u2 b:i3", answer)
 
 
+def field_steps(word, order, place, width, high):
+    """A step for each word that a field touches where its digits lie as the positions go, else a step a bit."""
+    if order != ("msb0" if high else "lsb0"):
+        return width
+    return (place + width - 1) // WORDS[word] + 1 - place // WORDS[word]
+
+
 def digits():
     """Fields of each width up to 16 at each head up to 15, and some wider."""
     rng = random.Random(6)
@@ -323,12 +331,12 @@ def digits():
         window = bits[place : place + width]
         number = rng.choice((0xB2E5, -0x1D3A, -1, 0x9E3779B97F4A7C15, 5 - (1 << 127), rng.getrandbits(70)))
         answer = [plain.number_of(window, high, signed) for signed in (False, True) for high in (False, True)]
-        # these orders go bit by bit: a step a bit
-        answer.append(4 * width)
+        steps = sum(field_steps(word, order, place, width, high) for high in (False, True))
+        answer.append(2 * steps)
         for high in (False, True):
             stored = plain.digits(number, width, high)
             answer.append(held.with_list(bits[:place] + stored + bits[place + width :]))
-        answer.append(2 * width)
+        answer.append(steps)
         case(f"digits {word} {order} {held.hex()} {place} {width} {number}", " ".join(map(str, answer)))
 
 
@@ -404,7 +412,7 @@ def marked_rows():
 def rows_of_each_width():
     """Rows of each width in each storage: whatever moves rows, and the image behind it."""
     rng = random.Random(17)
-    for width, storage in itertools.product(thrown.WIDTHS, STORAGES):
+    for width, storage in itertools.product((*thrown.WIDTHS, 1023, 1024), STORAGES):
         thrower = thrown.Thrower(rng, width)
         fields = thrower.table.layout.fields
 
@@ -415,7 +423,9 @@ def rows_of_each_width():
             insert(rng.randint(0, rows))
         for edit in ("insert", "rotate 1 5 3", "copy 0 3 2", "delete 2 4", "rotate 0 5 1", "copy 2 5 0", "delete 0 1"):
             insert(rng.randint(1, 5)) if edit == "insert" else thrower.throw(edit)
-            thrower.throw("image")
+            # wide rows are shown at the end alone
+            if width <= 256 or edit == "delete 0 1":
+                thrower.throw("image")
         script = b"\n".join(thrower.lines)
         assert b"refused" not in lines(script).encode(), script
         run(script, lines(script), [storage])

@@ -299,16 +299,23 @@ TABLES = [
     ),
 ]
 
-# Both letters of an operation, and one alone: 29 rows bear both, 41 exactly one. Seventy rows are two steps where a step
-# carries 64 bits, and seventy where it carries one.
-STEPS = {"lsb0": 2, "msb0": 2, "hilo": 70, "fifth": 70}
+# Both letters of an operation, and one alone: of seventy rows 29 bear both, 41 exactly one. So many rows are so many steps
+# where a step carries 64 bits, and as many as they are where it carries one.
+STEPS = {0: 0, 70: 2, 1000: 16}
 COMBINED = [
     (
+        70,
         SEVENTY[0] + b"!and x y\ncount x\ncount y\n!and y y\ncount y",
         SEVENTY[1] + "%d\n29\n50\n0\n50\n",
     ),
-    (SEVENTY[0] + b"!or x y\ncount x\ncount y\n!or y y\ncount y", SEVENTY[1] + "%d\n70\n50\n0\n50\n"),
-    (SEVENTY[0] + b"!xor x y\ncount x\ncount y\n!xor y y\ncount y", SEVENTY[1] + "%d\n41\n50\n0\n0\n"),
+    (70, SEVENTY[0] + b"!or x y\ncount x\ncount y\n!or y y\ncount y", SEVENTY[1] + "%d\n70\n50\n0\n50\n"),
+    (70, SEVENTY[0] + b"!xor x y\ncount x\ncount y\n!xor y y\ncount y", SEVENTY[1] + "%d\n41\n50\n0\n0\n"),
+    (
+        1000,
+        b"low f:u1\nload 1000 " + 125 * b"00" + b"\nmark x f = 0\n!and y x\ncount y\n!or y x\ncount y\n!xor y x\ncount y",
+        "ok\nok\nok\n%d\n0\n%d\n1000\n%d\n0\n",
+    ),
+    (0, b"low f:u1\n!and x y\n!or x y\n!xor x y\ncount x", "ok\n%d\n%d\n%d\n0\n"),
 ]
 
 # Rows, letters and what is kept go to another storage, and answer there and here as before.

@@ -31,9 +31,9 @@ fn one_number_of_a_vector_is_written_over(rt: HostRuntime) -> Result<(), AllocEr
     let mut steps = Steps::new();
     assert!(rt; load_number(&rows, 3, Rule::High, 4, true, &mut steps) == -1);
     assert!(rt; load_number(&rows, 3, Rule::High, 4, false, &mut steps) == 15);
-    assert!(rt; steps.taken() == 8);
+    assert!(rt; steps.taken() == 2);
     store_number(&mut rows, 3, Rule::Low, 2, 1, &mut steps);
     assert!(rt; load_number(&rows, 3, Rule::High, 4, false, &mut steps) == 11);
-    assert!(rt; steps.taken() == 14);
+    assert!(rt; steps.taken() == 5);
     Ok(())
 }

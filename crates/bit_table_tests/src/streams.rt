@@ -12,16 +12,16 @@ use std::io::{self, Write};
 use std::test::Fail;
 
 // Two rows and their image. The last line has no line end.
-const SCRIPT: &[u8; 46] = b"low a:u3 b:i4\ninsert 0 5 -1\ninsert 1 2 3\nimage";
+const SCRIPT: &[u8; 47] = b"high a:u3 b:i4\ninsert 0 5 -1\ninsert 1 2 3\nimage";
 
-const ANSWER: &[u8; 16] = b"ok\nok\nok\n2 7d0d\n";
+const ANSWER: &[u8; 16] = b"ok\nok\nok\n2 be8c\n";
 
 // How many bytes are read at a time.
 const PIECES: [usize; 4] = [1, 3, 13, 4096];
 
 #[test]
 fn answers_however_it_is_cut(rt: HostRuntime) -> Result<(), Fail> {
-    for first in 0..47 {
+    for first in 0..48 {
         for piece in PIECES {
             assert!(rt; piece > 0);
             let mut input = Input::new(Cut {
@@ -49,16 +49,16 @@ fn due(read: usize) -> usize
     ensures { result ≤ 9 }
 {
     match read {
-        0..=13 => 0,
-        14..=27 => 3,
-        28..=40 => 6,
+        0..=14 => 0,
+        15..=28 => 3,
+        29..=41 => 6,
         _ => 9,
     }
 }
 
 #[test]
 fn a_read_fault_ends_it(rt: HostRuntime) -> Result<(), Fail> {
-    for read in 0..47 {
+    for read in 0..48 {
         for piece in PIECES {
             assert!(rt; piece > 0);
             let mut input = Input::new(Cut {

@@ -15,7 +15,7 @@ typedef uint64_t u64;
 #define MOST_BITS (((u64)1 << 61) - 1)
 /* The lists of a table: those of the letters, and that of the rows' numbers. */
 enum { LETTERS = 26, NUMBERS = LETTERS, LISTS };
-enum { MOST_FIELDS = 1024, MOST_WORDS = MOST_FIELDS + 3, PIECE = 1 << 16 };
+enum { MOST_FIELDS = 1024, PIECE = 1 << 16 };
 
 static void fail(const char *what) {
   fprintf(stderr, "by_hand: %s\n", what);
@@ -169,53 +169,113 @@ static char *space(size_t bytes) {
   out.used += bytes;
   return out.text + out.used - bytes;
 }
+/* Ends the answers at a place within the space that was given last. */
+static void end_at(const char *place) { out.used = (size_t)(place - out.text); }
 static void write_byte(char byte) { *space(1) = byte; }
 static void write_text(const char *text, size_t length) { memcpy(space(length), text, length); }
-static void write_number(u64 x) {
-  char digits[20];
-  size_t at = sizeof digits;
-  do digits[--at] = (char)('0' + x % 10);
-  while (x /= 10);
-  write_text(digits + at, sizeof digits - at);
+
+/* ---- digits */
+
+/* The four digits of each number below 10,000, and those of each two bytes in hexadecimal. */
+static char decimals[4 * 10000], hex_quads[1 << 16][4];
+/* The byte of each two characters, -1 where one is no hexadecimal digit. */
+static int16_t hex_bytes[1 << 16];
+
+static inline uint16_t two_at(const void *bytes) {
+  uint16_t two;
+  memcpy(&two, bytes, sizeof two);
+  return two;
 }
-
-/* The two digits of each byte in hexadecimal, and the value of each digit, -1 for what is none. */
-static char hex_pairs[256][3];
-static signed char hex_values[256];
-
-static void set_up_hex(void) {
-  memset(hex_values, -1, sizeof hex_values);
-  for (int k = 0; k < 16; k++) hex_values[(int)"0123456789abcdef"[k]] = hex_values[(int)"0123456789ABCDEF"[k]] = (signed char)k;
-  for (int byte = 0; byte < 256; byte++) sprintf(hex_pairs[byte], "%02x", byte & 255);
+static void set_up_digits(void) {
+  static const char low[] = "0123456789abcdef", high[] = "0123456789ABCDEF";
+  for (int x = 0; x < 10000; x++)
+    for (int k = 3, left = x; k >= 0; k--, left /= 10) decimals[4 * x + k] = low[left % 10];
+  for (int k = 0; k < 1 << 16; k++) {
+    const char quad[] = {low[k >> 4 & 15], low[k & 15], low[k >> 12], low[k >> 8 & 15]};
+    memcpy(hex_quads[k], quad, sizeof quad);
+  }
+  memset(hex_bytes, -1, sizeof hex_bytes);
+  for (int byte = 0; byte < 256; byte++)
+    for (int k = 0; k < 4; k++) {
+      const char pair[] = {(k & 1 ? high : low)[byte >> 4], (k & 2 ? high : low)[byte & 15]};
+      hex_bytes[two_at(pair)] = (int16_t)byte;
+    }
+}
+/* Writes a number where there is space for 20 digits, and answers where its own end. */
+static char *put_number(char *to, u64 x) {
+  if (x >= 10000) {
+    to = put_number(to, x / 10000);
+    memcpy(to, decimals + 4 * (x % 10000), 4);
+    return to + 4;
+  }
+  int zeros = (x < 1000) + (x < 100) + (x < 10);
+  memcpy(to, decimals + 4 * x + zeros, 4);
+  return to + 4 - zeros;
+}
+static void write_number(u64 x) { end_at(put_number(space(20), x)); }
+/* The byte of two hexadecimal digits, or -1. */
+static inline int byte_of(const char *digits) { return hex_bytes[two_at(digits)]; }
+/* The bytes of so many pairs of hexadecimal digits, two a turn. */
+static bool read_bytes(const char *digits, size_t count, unsigned char *bytes) {
+  int all = 0;
+  size_t k = 0;
+  for (; k + 2 <= count; k += 2, digits += 4) {
+    int first = byte_of(digits), second = byte_of(digits + 2);
+    bytes[k] = (unsigned char)first, bytes[k + 1] = (unsigned char)second;
+    all |= first;
+    all |= second;
+  }
+  if (k < count) {
+    int last = byte_of(digits);
+    bytes[k] = (unsigned char)last;
+    all |= last;
+  }
+  return all >= 0;
 }
 
 /* ---- words */
 
 typedef struct { u64 size; bool minus, huge; } number;
 
-/* The words of a line, and what they say, each kind in their order. */
-static char *words[MOST_WORDS];
-static size_t given, counts[3];
+/* What is left of a line, and what its words say, each kind in their order. */
+static char *rest;
+static size_t counts[3];
 static int letters[2];
 static char op;
 static const field *named;
 static number numbers[MOST_FIELDS];
+static const char *hex;
+static size_t hex_length;
 
-static void split(char *line) {
-  char *rest;
-  given = 0;
-  for (char *word = strtok_r(line, " \t\r\n", &rest); word && given < MOST_WORDS; word = strtok_r(NULL, " \t\r\n", &rest))
-    words[given++] = word;
+static inline bool is_space(char c) { return c == ' ' || c == '\t' || c == '\r' || c == '\n'; }
+/* Most words differ in their first byte. */
+static inline bool is_equal(const char *one, const char *other) { return *one == *other && strcmp(one, other) == 0; }
+/* Takes the next word of the line, an empty one at its end. */
+static char *next_word(void) {
+  char *word = rest;
+  while (is_space(*word)) word++;
+  char *end = word;
+  while (*end && !is_space(*end)) end++;
+  rest = *end ? end + 1 : end;
+  *end = 0;
+  return word;
+}
+/* Takes the rest of the line as one word, not to look through a long one once more: a space in it is no digit. */
+static void read_hex(void) {
+  while (is_space(*rest)) rest++;
+  hex = rest;
+  rest += strlen(rest);
+  for (hex_length = (size_t)(rest - hex); hex_length && is_space(hex[hex_length - 1]);) hex_length--;
 }
 static inline bool is_in(char c, char first, char last) { return c >= first && c <= last; }
 static bool read_number(const char *word, number *n) {
-  *n = (number){0, *word == '-', false};
-  word += n->minus;
-  if (!*word) return false;
-  for (; is_in(*word, '0', '9'); word++)
-    if (__builtin_mul_overflow(n->size, 10, &n->size) || __builtin_add_overflow(n->size, *word - '0', &n->size))
-      n->huge = true;
-  return !*word;
+  u64 size = 0;
+  bool minus = *word == '-', huge = false;
+  const char *at = word + minus;
+  for (; is_in(*at, '0', '9'); at++)
+    if (__builtin_mul_overflow(size, 10, &size) || __builtin_add_overflow(size, *at - '0', &size)) huge = true;
+  *n = (number){size, minus, huge};
+  return at > word + minus && !*at;
 }
 static bool read_count(const char *word, size_t *count) {
   number n;
@@ -229,22 +289,27 @@ static bool read_name(const char *word) {
   while (is_in(word[at], 'a', 'z') || (at && (is_in(word[at], '0', '9') || word[at] == '_'))) at++;
   named = NULL;
   for (const field *f = fields; f < fields + field_count && !named; f++)
-    if (strcmp(f->name, word) == 0) named = f;
+    if (is_equal(f->name, word)) named = f;
   return at && at <= 16 && !word[at];
 }
-/* Reads the words behind a command by their kinds: counts, letters, names, ops, values, and hexadecimal digits. */
+/* Reads the words behind a command by their kinds: counts, letters, names, ops, values, and hexadecimal digits, which
+   come last, and may be none. */
 static bool read_words(const char *kinds) {
-  size_t k = 1, count = 0, letter = 0, value = 0;
+  size_t count = 0, letter = 0, value = 0;
   bool ok = true;
-  for (; ok && k < given && *kinds; k++, kinds++) {
-    const char *word = words[k];
+  for (; ok && *kinds; kinds++) {
+    if (*kinds == 'h') {
+      read_hex();
+      break;
+    }
+    const char *word = next_word();
     if (*kinds == 'c') ok = read_count(word, &counts[count++]);
     if (*kinds == 'x') letters[letter++] = *word - 'a', ok = is_in(*word, 'a', 'z') && !word[1];
     if (*kinds == 'f') ok = read_name(word);
     if (*kinds == 'o') op = *word, ok = is_in(op, '<', '>') && !word[1];
     if (*kinds == 'v') ok = read_number(word, &numbers[value++]);
   }
-  return ok && k == given && !*kinds;
+  return ok && !*next_word();
 }
 /* The digits of a number in a field, where it has a place there. */
 static bool digits_of(const field *f, number n, u64 *digits) {
@@ -317,29 +382,21 @@ static outcome tell_image(void) {
   write_number(now.rows);
   if (count == 0) return TOLD;
   write_byte(' ');
-  char *text = space(2 * count);
-  for (size_t k = 0; k < count; k++) memcpy(text + 2 * k, hex_pairs[bytes[k]], 2);
+  /* A last byte alone is taken with the one behind it, a zero, whose digits are not told. */
+  char *text = space(2 * count + 2);
+  for (size_t k = 0; k < count; k += 2) memcpy(text + 2 * k, hex_quads[two_at(bytes + k)], 4);
+  end_at(text + 2 * count);
   return TOLD;
-}
-/* The bytes of so many pairs of hexadecimal digits. */
-static bool read_bytes(const char *digits, size_t count, unsigned char *bytes) {
-  int all = 0;
-  for (size_t k = 0; k < count; k++) {
-    int high = hex_values[(unsigned char)digits[2 * k]], low = hex_values[(unsigned char)digits[2 * k + 1]];
-    all |= high | low;
-    bytes[k] = (unsigned char)(high * 16 + low);
-  }
-  return all >= 0;
 }
 static outcome load_image(void) {
   static list spare;
-  size_t rows = counts[0], digits = given == 3 ? strlen(words[2]) : 0;
-  reserve(&spare, 4 * digits);
+  size_t rows = counts[0], count = hex_length / 2;
+  reserve(&spare, 8 * count);
   unsigned char *bytes = (unsigned char *)spare.words;
-  if (digits % 2 || !read_bytes(words[2], digits / 2, bytes)) return FORM;
+  if (hex_length % 2 || !read_bytes(hex, count, bytes)) return FORM;
   if (rows > MOST_BITS / units[NUMBERS]) return FULL;
   size_t bits = rows * units[NUMBERS];
-  if ((bits + 7) / 8 != digits / 2 || (bits % 8 && bytes[bits / 8] >> bits % 8)) return IMAGE;
+  if ((bits + 7) / 8 != count || (bits % 8 && bytes[bits / 8] >> bits % 8)) return IMAGE;
   list old = now.lists[NUMBERS];
   now.lists[NUMBERS] = spare;
   spare = old;
@@ -364,17 +421,43 @@ static outcome back(void) {
   is_kept = false;
   return OK;
 }
-/* Marks the rows whose field passes a test. The test is a constant wherever this is called, so each has its own loop. */
-static inline void mark_by(char test, u64 bound) {
+/* For one of eight rows: the byte in which its field begins, and, shifted as the field is in there, the field's mask,
+   the first number that passes a test, and how many pass. Eight rows further on the field is shifted alike. */
+typedef struct { size_t byte; u64 mask, first, passing; } slot;
+
+static inline unsigned passes(const unsigned char *rows, const slot *s) {
+  u64 x;
+  memcpy(&x, rows + s->byte, sizeof x);
+  return ((x - s->first) & s->mask) < s->passing;
+}
+static inline unsigned char eight_pass(const unsigned char *rows, const slot *s) {
+  return (unsigned char)(passes(rows, s) | passes(rows, s + 1) << 1 | passes(rows, s + 2) << 2 |
+                         passes(rows, s + 3) << 3 | passes(rows, s + 4) << 4 | passes(rows, s + 5) << 5 |
+                         passes(rows, s + 6) << 6 | passes(rows, s + 7) << 7);
+}
+static void mark_narrow(u64 first, u64 passing) {
+  slot slots[8];
+  for (size_t k = 0; k < 8; k++) {
+    size_t place = place_of(k, named), shift = place % 8;
+    slots[k] = (slot){place / 8, mask_of(named) << shift, first << shift, passing << shift};
+  }
+  const unsigned char *rows = (const unsigned char *)now.lists[NUMBERS].words;
+  unsigned char *to = (unsigned char *)now.lists[letters[0]].words;
+  size_t left = now.rows, unit = units[NUMBERS];
+  for (; left >= 8; left -= 8, rows += unit) *to++ = eight_pass(rows, slots);
+  unsigned last = 0;
+  for (size_t k = 0; k < left; k++) last |= passes(rows, slots + k) << k;
+  *to = (unsigned char)last;
+}
+static void mark_wide(u64 first, u64 passing) {
   const u64 *w = now.lists[NUMBERS].words;
-  u64 *to = now.lists[letters[0]].words, mask = mask_of(named), sign = sign_of(named);
+  u64 *to = now.lists[letters[0]].words, mask = mask_of(named);
   size_t place = named->place, unit = units[NUMBERS];
   for (size_t row = 0; row < now.rows; row += 64) {
     size_t count = now.rows - row < 64 ? now.rows - row : 64;
     u64 answers = 0;
     for (size_t k = 0; k < count; k++, place += unit) {
-      u64 x = (bits_at(w, place) & mask) ^ sign;
-      u64 answer = test == '<' ? x < bound : test == '=' ? x == bound : x > bound;
+      u64 answer = ((bits_at(w, place) - first) & mask) < passing;
       answers = answers >> 1 | answer << 63;
     }
     to[row / 64] = answers >> (64 - count);
@@ -384,11 +467,15 @@ static outcome mark(void) {
   u64 digits;
   if (!named) return FIELD;
   if (!digits_of(named, numbers[0], &digits)) return VALUE;
-  /* With the sign flipped numbers of both kinds stand in one order. */
-  u64 bound = digits ^ sign_of(named);
-  if (op == '<') mark_by('<', bound);
-  if (op == '=') mark_by('=', bound);
-  if (op == '>') mark_by('>', bound);
+  /* The numbers of a field stand in a circle, where those that pass follow one another from a first one on. */
+  u64 lowest = sign_of(named), less = digits ^ lowest, first = digits, passing = 1;
+  if (op == '<') first = lowest, passing = less;
+  if (op == '>') first = digits + 1, passing = mask_of(named) - less;
+  /* Eight bytes hold a field of so many bits wherever it begins in the first one. */
+  if (named->width <= 57)
+    mark_narrow(first, passing);
+  else
+    mark_wide(first, passing);
   return OK;
 }
 /* Each word of the first letter becomes what the expression makes of it and of that of the second one, ys[k]. */
@@ -414,12 +501,18 @@ static outcome count_letter(void) {
 static outcome list_letter(void) {
   const u64 *w = trimmed(letters[0]);
   size_t begin = out.used;
-  for (size_t k = 0; k <= now.rows / 64; k++)
+  for (size_t k = 0; k <= now.rows / 64; k++) {
+    char *to = space(64 * 21);
     for (u64 left = w[k]; left; left &= left - 1) {
-      if (out.used > begin) write_byte(' ');
-      write_number(64 * k + __builtin_ctzll(left));
+      to = put_number(to, 64 * k + __builtin_ctzll(left));
+      *to++ = ' ';
     }
-  if (out.used == begin) write_text("none", 4);
+    end_at(to);
+  }
+  if (out.used == begin)
+    write_text("none", 4);
+  else
+    out.used--;
   return TOLD;
 }
 static outcome drop_rows(void) {
@@ -434,43 +527,76 @@ static outcome drop_rows(void) {
 
 /* ---- lines */
 
+/* What was read, and how much of it was taken as lines. */
+static struct { char *text; size_t taken, used, room; } in;
+
+/* Reads on behind what was not taken, or ends the last line. */
+static bool read_on(void) {
+  if (in.used + PIECE >= in.room) {
+    in.room = 2 * (in.used + PIECE);
+    in.text = grown(in.text, in.room);
+  }
+  in.used -= in.taken;
+  memmove(in.text, in.text + in.taken, in.used);
+  in.taken = 0;
+  size_t count = fread(in.text + in.used, 1, PIECE, stdin);
+  if (count == 0 && in.used == 0) return false;
+  if (count == 0) in.text[in.used++] = '\n';
+  in.used += count;
+  return true;
+}
+/* Takes the next line, or none. */
+static char *next_line(void) {
+  char *end;
+  size_t seen = 0;
+  do {
+    if (seen == in.used - in.taken && !read_on()) return NULL;
+    end = memchr(in.text + in.taken + seen, '\n', in.used - in.taken - seen);
+    seen = in.used - in.taken;
+  } while (!end);
+  char *line = in.text + in.taken;
+  *end = 0;
+  in.taken = (size_t)(end - in.text) + 1;
+  return line;
+}
 /* Each command with the kinds of its words; an insertion has as many values as there are fields. */
 static char insert_kinds[MOST_FIELDS + 2] = "c";
 static const struct { const char *name, *kinds; outcome (*carry_out)(void); } COMMANDS[] = {
     {"get", "c", get_row}, {"set", "cfv", set_number}, {"insert", insert_kinds, insert_row}, {"delete", "cc", delete_rows},
     {"copy", "ccc", copy_rows}, {"rotate", "ccc", rotate_rows}, {"image", "", tell_image}, {"load", "ch", load_image},
-    {"load", "c", load_image}, {"keep", "", keep}, {"back", "", back}, {"mark", "xfov", mark}, {"and", "xx", and_letters},
+    {"keep", "", keep}, {"back", "", back}, {"mark", "xfov", mark}, {"and", "xx", and_letters},
     {"or", "xx", or_letters}, {"xor", "xx", xor_letters}, {"not", "x", not_letter}, {"count", "x", count_letter},
     {"list", "x", list_letter}, {"drop", "x", drop_rows}};
 
-static outcome carry_out(void) {
+static outcome carry_out(const char *name) {
   for (size_t k = 0; k < sizeof COMMANDS / sizeof *COMMANDS; k++)
-    if (strcmp(words[0], COMMANDS[k].name) == 0 && read_words(COMMANDS[k].kinds)) return COMMANDS[k].carry_out();
+    if (is_equal(name, COMMANDS[k].name))
+      return read_words(COMMANDS[k].kinds) ? COMMANDS[k].carry_out() : FORM;
   return FORM;
 }
-static outcome lay_out(void) {
-  if (strcmp(words[0], "low") || given < 2 || given > MOST_FIELDS + 1) fail("no layout of the rule low");
+static outcome lay_out(const char *rule) {
+  const char *word = next_word();
+  if (strcmp(rule, "low") || !*word) fail("no layout of the rule low");
   for (int l = 0; l < LETTERS; l++) units[l] = 1;
-  for (size_t k = 1; k < given; k++) {
+  for (; *word; word = next_word()) {
+    if (field_count == MOST_FIELDS) fail("too many fields");
     field *f = &fields[field_count++];
     char sign;
-    if (sscanf(words[k], "%16[a-z0-9_]:%c%u", f->name, &sign, &f->width) != 3 || f->width - 1 > 63) fail("no field");
+    if (sscanf(word, "%16[a-z0-9_]:%c%u", f->name, &sign, &f->width) != 3 || f->width - 1 > 63) fail("no field");
     f->is_signed = sign == 'i';
     f->place = units[NUMBERS];
     units[NUMBERS] += f->width;
-    insert_kinds[k] = 'v';
+    insert_kinds[field_count] = 'v';
   }
   reserve_rows(&now, 0);
   return OK;
 }
 int main(void) {
-  char *line = NULL;
-  size_t room = 0;
-  set_up_hex();
-  while (getline(&line, &room, stdin) > 0) {
-    split(line);
-    if (given == 0) continue;
-    const char *text = TEXTS[field_count ? carry_out() : lay_out()];
+  set_up_digits();
+  while ((rest = next_line())) {
+    const char *word = next_word();
+    if (!*word) continue;
+    const char *text = TEXTS[field_count ? carry_out(word) : lay_out(word)];
     write_text(text, strlen(text));
     write_byte('\n');
     if (out.used > PIECE) flush();

@@ -15,7 +15,7 @@ use Rattle.bit_addressing_memory.specs.Straight.{straight, Goes}
 use Rattle.bit_addressing_memory.proofs.OverwriteLemmas.{overwrites_join}
 use Rattle.bit_addressing_memory.proofs.PlaceLemmas.{first_word}
 use Rattle.bit_addressing_memory.proofs.LimbLemmas.{or_left, or_right}
-use Rattle.bit_slice_chunks.specs.Chunk.{chunk_bit, IsChunk, ReadTo, IsLowered, IsRaised, IsPart}
+use Rattle.bit_slice_chunks.specs.Chunk.{chunk_bit, IsChunk, ReadTo, IsCut, IsLowered, IsRaised, IsPart}
 use Rattle.bit_slice_chunks.specs.Chunk.{IsPlaced}
 use Rattle.bit_slice_chunks.proofs.TransferLemmas.{part_entry}
 use Rattle.bit_slice_chunks.proofs.TransferLemmas.{less_words}
@@ -58,6 +58,25 @@ pub word_behind : (b bits place words : ℕ) → IsRegisterSize b → b ≤ 64 �
 word_behind b bits place words size most is some within =
     let start : place / bits * b + place % bits ≡ place = first_word b bits place is in
     less_words (place / bits + 64 / bits) words b (omega (arith, words_of_64 b bits size most is))
+
+-- and with it the memory has 64 bits from the place on
+pub chunk_within : (b bits place words : ℕ) → IsRegisterSize b → b ≤ 64 → bits ≡ b → 0 < b
+    → place / bits + 64 / bits < words → place + 64 ≤ words * b
+chunk_within b bits place words size most is some behind =
+    let start : place / bits * b + place % bits ≡ place = first_word b bits place is in
+    let any : 0 < bits = omega arith in
+    let index : place % bits < b = omega arith in
+    let row : (place / bits + 64 / bits + 1) * b ≤ words * b = mul-le-mul_right b (omega arith) in
+    omega (arith, words_of_64 b bits size most is)
+
+-- the first bits of a chunk, the others cut off
+pub chunk_cut : {R : Type 0} (reading : Reading R) (words : List R) (place n count : ℕ) (direction : Direction)
+    (chunk r : ℕ) → count ≤ n → IsChunk reading words place n direction chunk → IsCut direction chunk count r
+    → IsChunk reading words place count direction r
+chunk_cut reading words place n count direction chunk r few had cut = record {
+  inside = λ i low. cut.inside i low ∙ had.inside i (omega arith);
+  past = cut.past;
+}
 
 -- no word yet
 pub read_none : {R : Type 0} (reading : Reading R) (words : List R) (place end : ℕ) (direction : Direction)

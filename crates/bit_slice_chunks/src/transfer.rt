@@ -1,14 +1,28 @@
-//! Up to 64 bits of a memory read as a chunk, and written: each word that they touch is read once, or put once, and the
-//! words can be counted.
+//! Up to 64 bits of a memory read as a chunk, and written: where words are counted each that they touch is read once, or put
+//! once; else a whole chunk is read, where the memory has one, and cut off.
 
-ghost use Rattle.std.specs.Prelude.{◌≡◌, ℕ, ◌+◌, ◌-◌, ◌*◌, ◌^◌, ◌<◌, ◌≤◌, length};
+ghost use Rattle.std.specs.Prelude.{◌≡◌, ℕ, ◌+◌, ◌-◌, ◌*◌, ◌^◌, ◌<◌, ◌≤◌, length, true};
 ghost use Rattle.bit_addressing_memory.specs.Memory.{read_by, touched, Overwrites};
 ghost use Rattle.bit_addressing_memory.specs.Straight.{Goes};
 ghost use Rattle.bit_slice_chunks.specs.Chunk.{chunk_bit, IsChunk};
 
 use crate::chunk::{first_bits, lowered, part, placed, raised};
+use crate::whole::read_chunk;
 use bit_addressing_memory::mem::bits_of;
 use bit_addressing_memory::{BitEnd, BitIdx, BitOrder, BitRegister, Direction, store_in};
+
+// Whether 64 bits from a place on are read at once: words have up to 64 bits, and there is one behind those that they fill.
+#[inline(always)]
+fn has_chunk<R: BitRegister>(words: &[R], place: usize) -> bool
+    ensures within { result ≡ true → place + 64 ≤ length words.now * R.BITS }
+    ensures ends { result ≡ true → place + 64 < 2 ^ 64 }
+{
+    if R::BITS > 64 || place >= usize::MAX - 64 {
+        return false;
+    }
+    let bits = bits_of::<R>();
+    place / bits + 64 / bits < words.len()
+}
 
 /// The `count` bits of a memory from a place on, 1 to 64, as a chunk: bit k of it is entry `place + k`, and the
 /// bits behind them are zero. The positions go in `direction`.
@@ -25,10 +39,14 @@ pub fn read_bits<R: BitRegister, O: BitOrder<R>>(
     requires ends { place + count < 2 ^ 64 }
     ensures { IsChunk (read_by R.BitRegister O.position) words.now place count direction result }
 {
+    if has_chunk::<R>(words, place) {
+        let chunk = read_chunk::<R, O>(direction, words, place);
+        return first_bits(direction, chunk, count as u8);
+    }
     read_counted::<R, O>(direction, words, place, count).0
 }
 
-/// The same, with how many words were read: each that the bits touch, once.
+/// The same by the words that the bits touch, each read once, with how many these are.
 #[inline(always)]
 pub fn read_counted<R: BitRegister, O: BitOrder<R>>(
     direction: Direction,

@@ -7,7 +7,7 @@ ghost use Rattle.bit_addressing_memory.specs.Straight.{Goes};
 ghost use Rattle.bit_slice_chunks.specs.Chunk.{chunk_bit, IsChunk};
 
 use crate::chunk::{lowered, part, placed, raised};
-use crate::transfer::read_bits;
+use crate::transfer::read_counted;
 use bit_addressing_memory::mem::bits_of;
 use bit_addressing_memory::{BitOrder, BitRegister, Direction};
 
@@ -24,7 +24,7 @@ pub fn read_chunk<R: BitRegister, O: BitOrder<R>>(
     ensures { IsChunk (read_by R.BitRegister O.position) words.now place 64 direction result }
 {
     if R::BITS > 64 {
-        return read_bits::<R, O>(direction, words, place, 64);
+        return read_counted::<R, O>(direction, words, place, 64).0;
     }
     let bits = bits_of::<R>();
     let first = place / bits;

@@ -3,10 +3,12 @@
 -- Below it: `weight_within`. Apart: `weights_apart`. Each: `weight_onto`. In window order whatever the start: `weight_up` (the first
 -- segment lowest, each from its lowest end), `weight_down`.
 use Rattle.std.proofs.Common.{◌≡◌, ℕ, ◌+◌, ◌-◌, ◌*◌, ◌/◌, ◌%◌, ◌<◌, ◌≤◌, ◌∙◌}
-use Rattle.std.proofs.Common.{Bool, true, false, min, arith, sym, ap}
+use Rattle.std.proofs.Common.{Bool, true, false, min, arith, refl, sym, ap}
 use Rattle.std.proofs.lemmas.Nat.{div-add-mod', div-mul-add}
 use Rattle.std.proofs.Math.Nat.{min-le_left, min-le_right}
-use Rattle.bit_slice_fields.specs.Number.{segment_start, segment_end, weight}
+use Rattle.std.specs.Prelude.{if◌then◌else◌}
+use Rattle.bit_slice_fields.specs.Number.{segment_start, segment_end, lower_bits, weight}
+use Rattle.bit_slice_fields.specs.Pieces.{least_bit}
 
 -- bit i lies in the segment from bit s up to before bit e, whose word begins at the place p
 pub record InSegment (b h n i p s e : ℕ) : Type 0 where
@@ -141,3 +143,30 @@ weight_onto true false b h n p some inside =
 weight_onto false false b h n p some inside =
     let low : n - 1 - p < n = omega arith in
     (n - 1 - p, low, weight_down b h n (n - 1 - p) some low ∙ omega arith)
+
+-- how many bits of the segment of bit s weigh less than the least of those from it up to before bit e
+abbrev pub least_inner : Bool → ℕ → ℕ → ℕ → ℕ → ℕ → ℕ
+least_inner true b h n s e = s - segment_start b h s
+least_inner false b h n s e = segment_end b h n s - e
+
+last_inner : (last e : ℕ) → 0 < e → last - 1 - (e - 1) ≡ last - e
+last_inner last e some = omega arith
+
+-- the bit that weighs least, of those from bit s up to before bit e in one segment
+pub least_in_segment : (low le : Bool) (b h n s e : ℕ) → 0 < b → s < e → e ≤ n → e ≤ segment_end b h n s
+    → weight low le b h n (least_bit low s e) ≡ lower_bits le b h n s + least_inner low b h n s e
+least_in_segment true le b h n s e some order inside upto = refl
+least_in_segment false true b h n s e some order inside upto =
+    let q = same_segment b h n s (e - 1) some (omega arith) (omega arith) (omega arith) in
+    ap (λ k. k * b - h + (min n (k * b + b - h) - 1 - (e - 1))) q
+    ∙ ap (λ i. segment_start b h s + i) (last_inner (segment_end b h n s) e (omega arith))
+least_in_segment false false b h n s e some order inside upto =
+    let q = same_segment b h n s (e - 1) some (omega arith) (omega arith) (omega arith) in
+    ap (λ k. n - min n (k * b + b - h) + (min n (k * b + b - h) - 1 - (e - 1))) q
+    ∙ ap (λ i. n - segment_end b h n s + i) (last_inner (segment_end b h n s) e (omega arith))
+
+-- and where all bits weigh in turn
+pub least_in_turn : (low : Bool) (b h n s e : ℕ) → 0 < b → s < e → e ≤ n
+    → weight low low b h n (least_bit low s e) ≡ if low then s else n - e
+least_in_turn true b h n s e some order inside = weight_up b h n s some (omega arith)
+least_in_turn false b h n s e some order inside = weight_down b h n (e - 1) some (omega arith) ∙ omega arith

@@ -1,13 +1,11 @@
 -- Pieces of a window whose bits weigh in turn, and the chunks that hold their digits. No public clause cites this
 -- module.
-use Rattle.std.specs.Prelude.{◌≡◌, ◌⊎◌, ℕ, ◌+◌, ◌-◌, ◌/◌, ◌<◌, ◌≤◌, ◌^◌, Bool, true, false}
+use Rattle.std.specs.Prelude.{◌≡◌, ℕ, ◌+◌, ◌-◌, ◌/◌, ◌<◌, ◌≤◌, ◌^◌, Bool, true, false}
 use Rattle.bit_addressing_memory.specs.Bits.{digit_at}
 use Rattle.bit_addressing_memory.specs.declared.direction.Direction.{Direction}
 use Rattle.bit_addressing_memory.specs.declared.direction.Direction.TheVariants.{Ascending, Descending}
 use Rattle.bit_addressing_memory.specs.Straight.{straight}
 use Rattle.bit_slice_chunks.specs.Chunk.{chunk_bit}
-use Rattle.bit_slice_fields.specs.Number.{segment_end}
-use Rattle.bit_slice_fields.specs.declared.digits.Cut.{Cut}
 
 -- the direction in which the bits of a word weigh
 abbrev pub way_for : Bool → Direction
@@ -18,10 +16,6 @@ way_for false = Descending
 abbrev pub least_bit : Bool → ℕ → ℕ → ℕ
 least_bit true from end = from
 least_bit false from end = end - 1
-
--- a piece from bit `from` up to before bit `end` ends in the segment where it begins, or all bits weigh in turn
-abbrev pub EndsInSegment : Cut → ℕ → ℕ → ℕ → ℕ → Type 0
-EndsInSegment cut b n from end = (cut.low ≡ cut.le) ⊎ (end ≤ segment_end b cut.head n from)
 
 -- the m bits from bit `from` on weigh one more each, in a direction, the least of them w; they are 1 to 64
 pub record IsPiece (weighs : ℕ → ℕ) (n : ℕ) (way : Direction) (from m w : ℕ) : Type 0 where

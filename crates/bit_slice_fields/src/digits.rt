@@ -4,9 +4,11 @@
 ghost use Rattle.std.specs.Prelude.{◌≡◌, ℕ, ◌+◌, ◌-◌, ◌*◌, ◌%◌, ◌^◌, ◌<◌, ◌≤◌, true, length, bit_or};
 ghost use Rattle.bit_addressing_memory.specs.Bits.{bits_in_order, digit_at};
 ghost use Rattle.bit_addressing_memory.specs.Memory.{memory, piece, read_by};
+ghost use Rattle.bit_addressing_memory.specs.Straight.{Goes};
+ghost use Rattle.bit_slice_chunks.specs.Chunk.{IsChunk};
 ghost use Rattle.bit_slice_fields.specs.Digits.{cut_weight, HasDigits};
-ghost use Rattle.bit_slice_fields.specs.Number.{field_bits, CountsFrom};
-ghost use Rattle.bit_slice_fields.specs.Pieces.{way_for, digits_in, least_bit, ChunkOf, EndsInSegment, IsPiece};
+ghost use Rattle.bit_slice_fields.specs.Number.{field_bits, segment_end, CountsFrom};
+ghost use Rattle.bit_slice_fields.specs.Pieces.{way_for, digits_in, least_bit, ChunkOf, IsPiece};
 ghost use Rattle.bit_slice_fields.specs.Whole.{FitsIn};
 ghost use Rattle.bit_slice_views.specs.View.{view_bits};
 ghost use Rattle.bit_slice_views_mut.specs.Frame.{KeepsBeside};
@@ -15,7 +17,7 @@ use crate::integral::Integral;
 use bit_addressing_memory::{
     BitOrder, BitRegister, Direction, Walk, mem, most_singly, write_entry,
 };
-use bit_slice_chunks::{read_bits, write_bits};
+use bit_slice_chunks::{read_bits, read_counted, read_part, write_bits};
 use bit_slice_views::{BitSlice, Bits};
 
 // How the bits of a window weigh: which end of a word counts lowest, whether the first segment does, and the index of
@@ -54,37 +56,52 @@ fn weight_of(cut: Cut, bits: usize, n: usize, i: usize) -> usize
     lower + inner
 }
 
-// The bit before which a piece ends that begins at bit `from`: at most 64 bits on, and where the weights of segments go
-// against those in a segment, at the segment's end.
+// The bit before which the segment of bit `from` ends.
 #[tactic(auto, using(crate::proofs::WeightLemmas::of_bit))]
 #[inline(always)]
-fn piece_end(cut: Cut, bits: usize, n: usize, from: usize) -> usize
+fn end_of_segment(cut: Cut, bits: usize, n: usize, from: usize) -> usize
     requires some { 0 < bits }
     requires few { bits ≤ 128 }
     requires head { cut.head < bits }
     requires short { n ≤ 128 }
     requires inside { from < n }
+    ensures value { result ≡ segment_end bits cut.head n from }
     ensures behind { from < result }
-    ensures within { result ≤ n }
-    ensures few { result ≤ from + 64 }
-    ensures segment { EndsInSegment cut bits n from result }
 {
-    let most = n.min(from + 64);
-    if cut.low == cut.le {
-        return most;
-    }
     let first = (cut.head + from) / bits * bits;
-    most.min(first + bits - cut.head)
+    n.min(first + bits - cut.head)
 }
 
-// The bit of a piece that weighs least.
+// What the least bit of a piece weighs that ends in the segment where it begins.
 #[inline(always)]
-fn least_of(low: bool, from: usize, end: usize) -> usize
-    requires { from < end }
-    ensures value { result ≡ least_bit low from end }
-    ensures within { result < end }
+fn weight_in_segment(cut: Cut, bits: usize, n: usize, from: usize, end: usize) -> usize
+    requires some { 0 < bits }
+    requires few { bits ≤ 128 }
+    requires head { cut.head < bits }
+    requires short { n ≤ 128 }
+    requires order { from < end }
+    requires within { end ≤ n }
+    requires segment { end ≤ segment_end bits cut.head n from }
+    ensures { result ≡ cut_weight cut bits n (least_bit cut.low from end) }
 {
-    if low { from } else { end - 1 }
+    let first = (cut.head + from) / bits * bits;
+    let start = first.saturating_sub(cut.head);
+    let last = n.min(first + bits - cut.head);
+    let lower = if cut.le { start } else { n - last };
+    let inner = if cut.low { from - start } else { last - end };
+    lower + inner
+}
+
+// What the least bit of a piece weighs where all bits of the window weigh in turn.
+#[inline(always)]
+fn weight_in_turn(cut: Cut, bits: usize, n: usize, from: usize, end: usize) -> usize
+    requires some { 0 < bits }
+    requires order { from < end }
+    requires within { end ≤ n }
+    requires turn { cut.low ≡ cut.le }
+    ensures { result ≡ cut_weight cut bits n (least_bit cut.low from end) }
+{
+    if cut.low { from } else { n - end }
 }
 
 // The longest piece of a window from a bit on, of 64 bits at most, whose bits weigh one more each.
@@ -97,12 +114,17 @@ fn piece_of(cut: Cut, bits: usize, n: usize, from: usize) -> Piece
     requires inside { from < n }
     ensures { IsPiece (cut_weight cut bits n) n (way_for cut.low) from result.len result.weight }
 {
-    let end = piece_end(cut, bits, n, from);
-    let least = least_of(cut.low, from, end);
-    let weight = weight_of(cut, bits, n, least);
+    let most = n.min(from + 64);
+    if cut.low == cut.le {
+        return Piece {
+            len: most - from,
+            weight: weight_in_turn(cut, bits, n, from, most),
+        };
+    }
+    let end = most.min(end_of_segment(cut, bits, n, from));
     Piece {
         len: end - from,
-        weight,
+        weight: weight_in_segment(cut, bits, n, from, end),
     }
 }
 
@@ -168,6 +190,34 @@ fn with_piece(digits: u128, piece: u128, weight: usize) -> u128
     digits | piece << weight
 }
 
+// The bits of a piece as a chunk.
+#[inline(always)]
+fn piece_bits<T: BitRegister, O: BitOrder<T>>(
+    way: Direction,
+    words: &[T],
+    place: usize,
+    len: usize,
+) -> u64
+    requires goes { Goes T.BITS O.position way }
+    requires some { 0 < len }
+    requires few { len ≤ 64 }
+    requires within { place + len ≤ length words.now * T.BITS }
+    requires ends { place + len < 2 ^ 64 }
+    ensures { IsChunk (read_by T.BitRegister O.position) words.now place len way result }
+{
+    let bits = mem::bits_of::<T>();
+    let word = place / bits;
+    let from = place % bits;
+    if from + len <= bits {
+        return read_part::<T, O>(way, words, word, from as u8, len as u8);
+    }
+    // Of narrow words the bits touch fewer than a whole chunk does.
+    if bits < 64 {
+        return read_counted::<T, O>(way, words, place, len).0;
+    }
+    read_bits::<T, O>(way, words, place, len)
+}
+
 // The number that a window holds.
 #[inline(always)]
 pub(crate) fn gathered<T: BitRegister, O: BitOrder<T>>(view: BitSlice<'_, T, O>, cut: Cut) -> u128
@@ -181,14 +231,14 @@ pub(crate) fn gathered<T: BitRegister, O: BitOrder<T>>(view: BitSlice<'_, T, O>,
     let way = way_of(cut.low);
     let (words, head, len) = view.parts();
     if is_one_piece(cut, bits, len) {
-        let all = read_bits::<T, O>(way, words, head as usize, len);
+        let all = piece_bits::<T, O>(way, words, head as usize, len);
         return digits_of(all, cut.low, len);
     }
     let mut digits = 0u128;
     let mut from = 0;
     while from < len {
         let piece = piece_of(cut, bits, len, from);
-        let chunk = read_bits::<T, O>(way, words, head as usize + from, piece.len);
+        let chunk = piece_bits::<T, O>(way, words, head as usize + from, piece.len);
         let more = digits_of(chunk, cut.low, piece.len);
         digits = with_piece(digits, more, piece.weight);
         from += piece.len;

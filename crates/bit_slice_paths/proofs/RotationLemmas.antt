@@ -1,7 +1,8 @@
 -- A stretch rotated.
 --
--- Where a bit stood: `rotated_from_on`, `rotated_from_over`. Nothing to rotate: `rotated_none`. A part exchanged, and the
--- rest rotated: `exchanged_front`, `exchanged_back`.
+-- Where a bit stood: `rotated_from_on`, `rotated_from_over`. Nothing to rotate: `rotated_none`. Rotated again, towards the
+-- start and towards the end: `rotated_more`, `rotated_back_more`. A part exchanged, and the rest rotated:
+-- `exchanged_front`, `exchanged_back`.
 use Rattle.std.proofs.Common.{◌≡◌, ◌⊎◌, ℕ, ◌+◌, ◌-◌, ◌<◌, ◌≤◌, List, refl, sym, ap, ◌∙◌, inl, inr, arith}
 use Rattle.std.specs.Prelude.{if◌then◌else◌}
 use Rattle.std.proofs.lemmas.Bool.{cases_lt, lt-ltb, le-ltb}
@@ -36,6 +37,74 @@ rotated_none reading words place n by none = record {
   below = λ p low. refl;
   above = λ p high. refl;
   words = refl;
+}
+
+-- towards the start by a, and then by b
+pub rotated_more : {R : Type 0} (reading : Reading R) (before mid after : List R) (place n a b by : ℕ) → by ≡ a + b
+    → by ≤ n → Rotates reading before mid place n a → Rotates reading mid after place n b
+    → Rotates reading before after place n by
+rotated_more reading before mid after place n a b by is most first next = record {
+  there = λ k small. next.there k small ∙ elim (cases_lt (k + b) n) [
+    | inl on ↦
+        ap (λ i. entry reading mid (place + i)) (rotated_from_on n b k on)
+        ∙ first.there (k + b) on
+        ∙ elim (cases_lt (k + by) n) [
+          | inl inner ↦
+              let same : k + b + a ≡ k + by = omega arith in
+              ap (λ i. entry reading before (place + i))
+              (rotated_from_on n a (k + b) (omega arith) ∙ same ∙ sym (rotated_from_on n by k inner))
+          | inr outer ↦
+              let same : k + b + a - n ≡ k + by - n = omega arith in
+              ap (λ i. entry reading before (place + i))
+              (rotated_from_over n a (k + b) (omega arith) ∙ same ∙ sym (rotated_from_over n by k outer))
+        ]
+    | inr over ↦
+        let same : k + b - n + a ≡ k + by - n = omega arith in
+        ap (λ i. entry reading mid (place + i)) (rotated_from_over n b k over)
+        ∙ first.there (k + b - n) (omega arith)
+        ∙ ap (λ i. entry reading before (place + i))
+        (rotated_from_on n a (k + b - n) (omega arith) ∙ same ∙ sym (rotated_from_over n by k (omega arith)))
+  ];
+  below = λ p low. next.below p low ∙ first.below p low;
+  above = λ p high. next.above p high ∙ first.above p high;
+  words = next.words ∙ first.words;
+}
+
+-- towards the end by a, and then by b
+pub rotated_back_more : {R : Type 0} (reading : Reading R) (before mid after : List R) (place n a b by : ℕ)
+    → by ≡ a + b → by ≤ n → Rotates reading before mid place n (n - a) → Rotates reading mid after place n (n - b)
+    → Rotates reading before after place n (n - by)
+rotated_back_more reading before mid after place n a b by is most first next = record {
+  there = λ k small. next.there k small ∙ elim (cases_lt k b) [
+    | inl on ↦
+        let same : k + (n - b) + (n - a) - n ≡ k + (n - by) = omega arith in
+        ap (λ i. entry reading mid (place + i)) (rotated_from_on n (n - b) k (omega arith))
+        ∙ first.there (k + (n - b)) (omega arith)
+        ∙ ap (λ i. entry reading before (place + i))
+        (rotated_from_over n (n - a) (k + (n - b)) (omega arith)
+        ∙ same
+        ∙ sym (rotated_from_on n (n - by) k (omega arith)))
+    | inr over ↦
+        ap (λ i. entry reading mid (place + i)) (rotated_from_over n (n - b) k (omega arith))
+        ∙ first.there (k + (n - b) - n) (omega arith)
+        ∙ elim (cases_lt k by) [
+          | inl inner ↦
+              let same : k + (n - b) - n + (n - a) ≡ k + (n - by) = omega arith in
+              ap (λ i. entry reading before (place + i))
+              (rotated_from_on n (n - a) (k + (n - b) - n) (omega arith)
+              ∙ same
+              ∙ sym (rotated_from_on n (n - by) k (omega arith)))
+          | inr outer ↦
+              let same : k + (n - b) - n + (n - a) - n ≡ k + (n - by) - n = omega arith in
+              ap (λ i. entry reading before (place + i))
+              (rotated_from_over n (n - a) (k + (n - b) - n) (omega arith)
+              ∙ same
+              ∙ sym (rotated_from_over n (n - by) k (omega arith)))
+        ]
+  ];
+  below = λ p low. next.below p low ∙ first.below p low;
+  above = λ p high. next.above p high ∙ first.above p high;
+  words = next.words ∙ first.words;
 }
 
 -- the first `left` bits exchanged with the last of `left + right`, and all but these rotated

@@ -6,16 +6,17 @@ ghost use Rattle.bit_addressing_memory.specs.Memory.{read_by};
 ghost use Rattle.bit_slice_chunks.specs.Combined.{combined_bit, Combines};
 ghost use Rattle.bit_slice_paths.specs.Agrees.{Agrees};
 
+use crate::combining::Combining;
 use bit_addressing_memory::mem::bits_of;
-use bit_addressing_memory::{BitOrder, BitRegister, Direction};
-use bit_slice_chunks::any_order::{combine_bits, combine_chunk, read_bits, read_chunk};
-use bit_slice_chunks::{Combination, first_difference};
+use bit_addressing_memory::{BitOrder, BitRegister};
+use bit_slice_chunks::any_order::{
+    combine_bits, combine_chunk, direction_for, read_bits, read_chunk,
+};
+use bit_slice_chunks::first_difference;
 
 // Combines 64 bits.
 #[inline(always)]
-fn combine_whole<R: BitRegister, O: BitOrder<R>, Q: BitRegister, P: BitOrder<Q>>(
-    direction: Direction,
-    how: Combination,
+fn combine_whole<H: Combining, R: BitRegister, O: BitOrder<R>, Q: BitRegister, P: BitOrder<Q>>(
     words: &mut [R],
     place: usize,
     others: &[Q],
@@ -26,17 +27,16 @@ fn combine_whole<R: BitRegister, O: BitOrder<R>, Q: BitRegister, P: BitOrder<Q>>
     requires other_within { other_place + 64 ≤ length others.now * Q.BITS }
     requires other_ends { other_place + 64 < 2 ^ 64 }
     ensures { Combines (read_by R.BitRegister O.position) words.old words.new place 64
-        (combined_bit how) (read_by Q.BitRegister P.position) others.now other_place }
+        (combined_bit H.HOW) (read_by Q.BitRegister P.position) others.now other_place }
 {
+    let direction = direction_for::<R, O>();
     let other = read_chunk::<Q, P>(direction, others, other_place);
-    combine_chunk::<R, O>(direction, how, words, place, other);
+    combine_chunk::<R, O>(direction, H::HOW, words, place, other);
 }
 
 // Combines up to 64 bits.
 #[inline(never)]
-fn combine_rest<R: BitRegister, O: BitOrder<R>, Q: BitRegister, P: BitOrder<Q>>(
-    direction: Direction,
-    how: Combination,
+fn combine_rest<H: Combining, R: BitRegister, O: BitOrder<R>, Q: BitRegister, P: BitOrder<Q>>(
     words: &mut [R],
     place: usize,
     others: &[Q],
@@ -50,10 +50,11 @@ fn combine_rest<R: BitRegister, O: BitOrder<R>, Q: BitRegister, P: BitOrder<Q>>(
     requires other_within { other_place + count ≤ length others.now * Q.BITS }
     requires other_ends { other_place + count < 2 ^ 64 }
     ensures { Combines (read_by R.BitRegister O.position) words.old words.new place count
-        (combined_bit how) (read_by Q.BitRegister P.position) others.now other_place }
+        (combined_bit H.HOW) (read_by Q.BitRegister P.position) others.now other_place }
 {
+    let direction = direction_for::<R, O>();
     let other = read_bits::<Q, P>(direction, others, other_place, count);
-    combine_bits::<R, O>(direction, how, words, place, count, other);
+    combine_bits::<R, O>(direction, H::HOW, words, place, count, other);
 }
 
 // From how many bits on a walk begins with those before the next word.
@@ -73,11 +74,9 @@ fn before_chunks<R: BitRegister>(place: usize, len: usize) -> usize
     (bits - place % bits) % bits
 }
 
-/// Combines each of `len` bits with one of another memory; by `Combination::Take` it is a copy.
+/// Combines each of `len` bits with one of another memory; by `Taken` it is a copy.
 #[inline(always)]
-pub fn combine<R: BitRegister, O: BitOrder<R>, Q: BitRegister, P: BitOrder<Q>>(
-    direction: Direction,
-    how: Combination,
+pub fn combine<H: Combining, R: BitRegister, O: BitOrder<R>, Q: BitRegister, P: BitOrder<Q>>(
     words: &mut [R],
     place: usize,
     others: &[Q],
@@ -89,15 +88,13 @@ pub fn combine<R: BitRegister, O: BitOrder<R>, Q: BitRegister, P: BitOrder<Q>>(
     requires other_within { other_place + len ≤ length others.now * Q.BITS }
     requires other_ends { other_place + len < 2 ^ 64 }
     ensures { Combines (read_by R.BitRegister O.position) words.old words.new place len
-        (combined_bit how) (read_by Q.BitRegister P.position) others.now other_place }
+        (combined_bit H.HOW) (read_by Q.BitRegister P.position) others.now other_place }
 {
     let first = before_chunks::<R>(place, len);
     if first > 0 {
-        combine_rest::<R, O, Q, P>(direction, how, words, place, others, other_place, first);
+        combine_rest::<H, R, O, Q, P>(words, place, others, other_place, first);
     }
-    combine_behind::<R, O, Q, P>(
-        direction,
-        how,
+    combine_chunks::<H, R, O, Q, P>(
         words,
         place + first,
         others,
@@ -106,39 +103,9 @@ pub fn combine<R: BitRegister, O: BitOrder<R>, Q: BitRegister, P: BitOrder<Q>>(
     );
 }
 
-// The same behind the first bits. Where both places are multiples of 64, which is told to the compiler, no chunk is made of
-// two words.
-#[inline(always)]
-fn combine_behind<R: BitRegister, O: BitOrder<R>, Q: BitRegister, P: BitOrder<Q>>(
-    direction: Direction,
-    how: Combination,
-    words: &mut [R],
-    place: usize,
-    others: &[Q],
-    other_place: usize,
-    len: usize,
-)
-    requires within { place + len ≤ length words.old * R.BITS }
-    requires ends { place + len < 2 ^ 64 }
-    requires other_within { other_place + len ≤ length others.now * Q.BITS }
-    requires other_ends { other_place + len < 2 ^ 64 }
-    ensures { Combines (read_by R.BitRegister O.position) words.old words.new place len
-        (combined_bit how) (read_by Q.BitRegister P.position) others.now other_place }
-{
-    if place % 64 == 0 && other_place % 64 == 0 {
-        let first = 64 * (place / 64);
-        let other_first = 64 * (other_place / 64);
-        combine_chunks::<R, O, Q, P>(direction, how, words, first, others, other_first, len);
-        return;
-    }
-    combine_chunks::<R, O, Q, P>(direction, how, words, place, others, other_place, len);
-}
-
 // The same, whole chunks and the rest.
 #[inline(always)]
-fn combine_chunks<R: BitRegister, O: BitOrder<R>, Q: BitRegister, P: BitOrder<Q>>(
-    direction: Direction,
-    how: Combination,
+fn combine_chunks<H: Combining, R: BitRegister, O: BitOrder<R>, Q: BitRegister, P: BitOrder<Q>>(
     words: &mut [R],
     place: usize,
     others: &[Q],
@@ -150,39 +117,23 @@ fn combine_chunks<R: BitRegister, O: BitOrder<R>, Q: BitRegister, P: BitOrder<Q>
     requires other_within { other_place + len ≤ length others.now * Q.BITS }
     requires other_ends { other_place + len < 2 ^ 64 }
     ensures { Combines (read_by R.BitRegister O.position) words.old words.new place len
-        (combined_bit how) (read_by Q.BitRegister P.position) others.now other_place }
+        (combined_bit H.HOW) (read_by Q.BitRegister P.position) others.now other_place }
 {
     let whole = len / 64;
     let rest = len % 64;
     for k in 0..whole {
         let done = 64 * k;
-        combine_whole::<R, O, Q, P>(
-            direction,
-            how,
-            words,
-            place + done,
-            others,
-            other_place + done,
-        );
+        combine_whole::<H, R, O, Q, P>(words, place + done, others, other_place + done);
     }
     if rest > 0 {
         let done = 64 * whole;
-        combine_rest::<R, O, Q, P>(
-            direction,
-            how,
-            words,
-            place + done,
-            others,
-            other_place + done,
-            rest,
-        );
+        combine_rest::<H, R, O, Q, P>(words, place + done, others, other_place + done, rest);
     }
 }
 
 // The first of 64 bits that differ.
 #[inline(always)]
 fn difference_of_whole<R: BitRegister, O: BitOrder<R>, Q: BitRegister, P: BitOrder<Q>>(
-    direction: Direction,
     words: &[R],
     place: usize,
     others: &[Q],
@@ -195,6 +146,7 @@ fn difference_of_whole<R: BitRegister, O: BitOrder<R>, Q: BitRegister, P: BitOrd
     ensures { Agrees (read_by R.BitRegister O.position) words.now place
         (read_by Q.BitRegister P.position) others.now other_place 64 result }
 {
+    let direction = direction_for::<R, O>();
     let chunk = read_chunk::<R, O>(direction, words, place);
     let other = read_chunk::<Q, P>(direction, others, other_place);
     first_difference(direction, chunk, other)
@@ -203,7 +155,6 @@ fn difference_of_whole<R: BitRegister, O: BitOrder<R>, Q: BitRegister, P: BitOrd
 // The first of up to 64 bits that differ.
 #[inline(always)]
 fn difference_of_rest<R: BitRegister, O: BitOrder<R>, Q: BitRegister, P: BitOrder<Q>>(
-    direction: Direction,
     words: &[R],
     place: usize,
     others: &[Q],
@@ -219,6 +170,7 @@ fn difference_of_rest<R: BitRegister, O: BitOrder<R>, Q: BitRegister, P: BitOrde
     ensures { Agrees (read_by R.BitRegister O.position) words.now place
         (read_by Q.BitRegister P.position) others.now other_place count result }
 {
+    let direction = direction_for::<R, O>();
     let chunk = read_bits::<R, O>(direction, words, place, count);
     let other = read_bits::<Q, P>(direction, others, other_place, count);
     first_difference(direction, chunk, other).min(count)
@@ -227,7 +179,6 @@ fn difference_of_rest<R: BitRegister, O: BitOrder<R>, Q: BitRegister, P: BitOrde
 /// The first of `len` bits that is not as that of another memory: `len` where none is.
 #[inline(always)]
 pub fn difference<R: BitRegister, O: BitOrder<R>, Q: BitRegister, P: BitOrder<Q>>(
-    direction: Direction,
     words: &[R],
     place: usize,
     others: &[Q],
@@ -243,20 +194,12 @@ pub fn difference<R: BitRegister, O: BitOrder<R>, Q: BitRegister, P: BitOrder<Q>
 {
     let before = before_chunks::<R>(place, len);
     if before > 0 {
-        let same = difference_of_rest::<R, O, Q, P>(
-            direction,
-            words,
-            place,
-            others,
-            other_place,
-            before,
-        );
+        let same = difference_of_rest::<R, O, Q, P>(words, place, others, other_place, before);
         if same < before {
             return same;
         }
     }
-    let same = difference_behind::<R, O, Q, P>(
-        direction,
+    let same = difference_of_chunks::<R, O, Q, P>(
         words,
         place + before,
         others,
@@ -266,42 +209,9 @@ pub fn difference<R: BitRegister, O: BitOrder<R>, Q: BitRegister, P: BitOrder<Q>
     before + same
 }
 
-// The same behind the first bits, as `combine_behind`.
-#[inline(always)]
-fn difference_behind<R: BitRegister, O: BitOrder<R>, Q: BitRegister, P: BitOrder<Q>>(
-    direction: Direction,
-    words: &[R],
-    place: usize,
-    others: &[Q],
-    other_place: usize,
-    len: usize,
-) -> usize
-    requires within { place + len ≤ length words.now * R.BITS }
-    requires ends { place + len < 2 ^ 64 }
-    requires other_within { other_place + len ≤ length others.now * Q.BITS }
-    requires other_ends { other_place + len < 2 ^ 64 }
-    ensures { Agrees (read_by R.BitRegister O.position) words.now place
-        (read_by Q.BitRegister P.position) others.now other_place len result }
-{
-    if place % 64 == 0 && other_place % 64 == 0 {
-        let first = 64 * (place / 64);
-        let other_first = 64 * (other_place / 64);
-        return difference_of_chunks::<R, O, Q, P>(
-            direction,
-            words,
-            first,
-            others,
-            other_first,
-            len,
-        );
-    }
-    difference_of_chunks::<R, O, Q, P>(direction, words, place, others, other_place, len)
-}
-
 // The same, whole chunks and the rest.
 #[inline(always)]
 fn difference_of_chunks<R: BitRegister, O: BitOrder<R>, Q: BitRegister, P: BitOrder<Q>>(
-    direction: Direction,
     words: &[R],
     place: usize,
     others: &[Q],
@@ -320,7 +230,6 @@ fn difference_of_chunks<R: BitRegister, O: BitOrder<R>, Q: BitRegister, P: BitOr
     for k in 0..whole {
         let done = 64 * k;
         let same = difference_of_whole::<R, O, Q, P>(
-            direction,
             words,
             place + done,
             others,
@@ -335,7 +244,6 @@ fn difference_of_chunks<R: BitRegister, O: BitOrder<R>, Q: BitRegister, P: BitOr
     }
     let done = 64 * whole;
     let same = difference_of_rest::<R, O, Q, P>(
-        direction,
         words,
         place + done,
         others,

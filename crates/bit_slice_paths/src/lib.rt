@@ -3,6 +3,7 @@
 
 pub mod across;
 pub mod by_words;
+pub mod combining;
 pub mod exchange;
 pub mod mirror;
 pub mod rotation;

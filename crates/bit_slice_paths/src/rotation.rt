@@ -1,5 +1,6 @@
 //! Bits of one memory rotated: those that leave a stretch at one end come in at the other. Up to 64 are held aside while the
-//! others are moved at once; before, of more the shorter part is exchanged with as many at the other end, and is in place.
+//! others are moved, and so again until all have left; of many more the shorter part is first exchanged with as many at the
+//! other end, and is in place.
 
 ghost use Rattle.std.specs.Prelude.{◌+◌, ◌-◌, ◌*◌, ◌^◌, ◌<◌, ◌≤◌, length};
 ghost use Rattle.bit_addressing_memory.specs.Memory.{entry, read_by, Overwrites};
@@ -58,6 +59,59 @@ fn hold_last<R: BitRegister, O: BitOrder<R>>(
 // How many bits are held aside at most.
 const HELD: usize = 64;
 
+// Up to how many bits go by moves alone: of more, exchanges take less time.
+const MOVED: usize = 256;
+
+// Moves each of `len` bits towards the first of them; those that leave become the last.
+#[inline(always)]
+fn move_down<R: BitRegister, O: BitOrder<R>>(
+    direction: Direction,
+    words: &mut [R],
+    place: usize,
+    len: usize,
+    by: usize,
+)
+    requires within { place + len ≤ length words.old * R.BITS }
+    requires ends { place + len < 2 ^ 64 }
+    requires most { by ≤ len }
+    ensures { Overwrites (read_by R.BitRegister O.position) words.old words.new place len
+        (λ k. entry (read_by R.BitRegister O.position) words.old (place + rotated_from len by k)) }
+{
+    let moves = by / HELD;
+    let rest = by % HELD;
+    for k in 0..moves {
+        hold_first::<R, O>(direction, words, place, len, HELD);
+    }
+    if rest > 0 {
+        hold_first::<R, O>(direction, words, place, len, rest);
+    }
+}
+
+// Moves each of `len` bits towards the last of them; those that leave become the first.
+#[inline(always)]
+fn move_up<R: BitRegister, O: BitOrder<R>>(
+    direction: Direction,
+    words: &mut [R],
+    place: usize,
+    len: usize,
+    by: usize,
+)
+    requires within { place + len ≤ length words.old * R.BITS }
+    requires ends { place + len < 2 ^ 64 }
+    requires most { by ≤ len }
+    ensures { Overwrites (read_by R.BitRegister O.position) words.old words.new place len
+        (λ k. entry (read_by R.BitRegister O.position) words.old (place + rotated_from len (len - by) k)) }
+{
+    let moves = by / HELD;
+    let rest = by % HELD;
+    for k in 0..moves {
+        hold_last::<R, O>(direction, words, place, len, HELD);
+    }
+    if rest > 0 {
+        hold_last::<R, O>(direction, words, place, len, rest);
+    }
+}
+
 /// Moves each of `len` bits of a memory `by` places towards the first of them; the first `by` become the last.
 #[inline(always)]
 pub fn rotate<R: BitRegister, O: BitOrder<R>>(
@@ -76,7 +130,7 @@ pub fn rotate<R: BitRegister, O: BitOrder<R>>(
     let mut first = place;
     let mut left = by;
     let mut right = len - by;
-    while left > HELD && right > HELD {
+    while left > MOVED && right > MOVED {
         if left <= right {
             right -= left;
             exchange::<R, O>(direction, words, first, first + left + right, left);
@@ -86,12 +140,9 @@ pub fn rotate<R: BitRegister, O: BitOrder<R>>(
             left -= right;
         }
     }
-    if left == 0 || right == 0 {
-        return;
-    }
-    if left <= HELD {
-        hold_first::<R, O>(direction, words, first, left + right, left);
+    if left <= right {
+        move_down::<R, O>(direction, words, first, left + right, left);
     } else {
-        hold_last::<R, O>(direction, words, first, left + right, right);
+        move_up::<R, O>(direction, words, first, left + right, right);
     }
 }

@@ -14,7 +14,6 @@ use bit_slice_chunks::{first_bits, lowered};
 // Whether so many bits of two memories are the same.
 #[inline(never)]
 fn same<R: BitRegister, O: BitOrder<R>, Q: BitRegister, P: BitOrder<Q>>(
-    direction: Direction,
     words: &[R],
     place: usize,
     others: &[Q],
@@ -30,7 +29,7 @@ fn same<R: BitRegister, O: BitOrder<R>, Q: BitRegister, P: BitOrder<Q>>(
     ensures no { result ≡ false → Stands (read_by R.BitRegister O.position) words.now place
         (read_by Q.BitRegister P.position) others.now other_place len → ⊥ }
 {
-    difference::<R, O, Q, P>(direction, words, place, others, other_place, len) == len
+    difference::<R, O, Q, P>(words, place, others, other_place, len) == len
 }
 
 // Whether bits of another memory stand at a place of which a chunk has the first ones, from bit `from` on. `sought` has
@@ -68,7 +67,7 @@ fn shows<R: BitRegister, O: BitOrder<R>, Q: BitRegister, P: BitOrder<Q>>(
     if len <= 32 {
         return true;
     }
-    same::<R, O, Q, P>(direction, words, place + from, others, other_place, len)
+    same::<R, O, Q, P>(words, place + from, others, other_place, len)
 }
 
 // The first of up to 33 places at which bits of another memory stand, the first of which are `sought`.

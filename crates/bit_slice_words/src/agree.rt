@@ -5,7 +5,7 @@ ghost use Rattle.bit_addressing_memory.specs.Memory.{entry, read_by};
 ghost use Rattle.bit_slice_paths.specs.Agrees.{Agrees};
 
 use bit_addressing_memory::{BitOrder, BitRegister, Walk, most_singly_of_two, read_entry};
-use bit_slice_paths::{across, direction_for};
+use bit_slice_paths::across;
 
 // How many of `len` bits are compared one by one first.
 #[inline(always)]
@@ -124,12 +124,5 @@ pub(crate) fn agree_by_chunks<R: BitRegister, O: BitOrder<R>, Q: BitRegister, P:
     ensures { Agrees (read_by R.BitRegister O.position) words.now place
         (read_by Q.BitRegister P.position) others.now other_place len result }
 {
-    across::difference::<R, O, Q, P>(
-        direction_for::<R, O>(),
-        words,
-        place,
-        others,
-        other_place,
-        len,
-    )
+    across::difference::<R, O, Q, P>(words, place, others, other_place, len)
 }

@@ -11,7 +11,8 @@ ghost use Rattle.bit_slice_paths.specs.Steps.{groups, Takes};
 use crate::agree::{agree_by_chunks, few_to_compare};
 use crate::combine::combined;
 use bit_addressing_memory::{BitOrder, BitRegister, Walk, most_singly, read_entry, write_entry};
-use bit_slice_paths::{Combination, Steps, across, direction_for};
+use bit_slice_paths::combining::{Both, Combining, Differing, Either, Taken};
+use bit_slice_paths::{Steps, across};
 
 // How many bits are worked on at once, at most.
 const CHUNK: usize = 64;
@@ -113,15 +114,7 @@ pub fn copy<R: BitRegister, O: BitOrder<R>>(
         (read_by R.BitRegister O.position) others.now other_place place len }
     ensures steps { Takes steps.old steps.new (groups len 64) (groups len 1) }
 {
-    combine::<R, O>(
-        words,
-        place,
-        others,
-        other_place,
-        len,
-        Combination::Take,
-        steps,
-    );
+    combine::<Taken, R, O>(words, place, others, other_place, len, steps);
 }
 
 /// `WordPaths::swap`, a step a bit.
@@ -203,15 +196,7 @@ pub fn and<R: BitRegister, O: BitOrder<R>>(
         && entry (read_by R.BitRegister O.position) others.now (other_place + k)) }
     ensures steps { Takes steps.old steps.new (groups len 64) (groups len 1) }
 {
-    combine::<R, O>(
-        words,
-        place,
-        others,
-        other_place,
-        len,
-        Combination::And,
-        steps,
-    );
+    combine::<Both, R, O>(words, place, others, other_place, len, steps);
 }
 
 /// `WordPaths::or`, a step a bit.
@@ -232,15 +217,7 @@ pub fn or<R: BitRegister, O: BitOrder<R>>(
         || entry (read_by R.BitRegister O.position) others.now (other_place + k)) }
     ensures steps { Takes steps.old steps.new (groups len 64) (groups len 1) }
 {
-    combine::<R, O>(
-        words,
-        place,
-        others,
-        other_place,
-        len,
-        Combination::Or,
-        steps,
-    );
+    combine::<Either, R, O>(words, place, others, other_place, len, steps);
 }
 
 /// `WordPaths::xor`, a step a bit.
@@ -261,25 +238,16 @@ pub fn xor<R: BitRegister, O: BitOrder<R>>(
         (entry (read_by R.BitRegister O.position) others.now (other_place + k))) }
     ensures steps { Takes steps.old steps.new (groups len 64) (groups len 1) }
 {
-    combine::<R, O>(
-        words,
-        place,
-        others,
-        other_place,
-        len,
-        Combination::Xor,
-        steps,
-    );
+    combine::<Differing, R, O>(words, place, others, other_place, len, steps);
 }
 
-// Makes each of `len` bits what `how` makes of it and of one of another memory.
-fn combine<R: BitRegister, O: BitOrder<R>>(
+// Makes each of `len` bits what a combination makes of it and of one of another memory.
+fn combine<H: Combining, R: BitRegister, O: BitOrder<R>>(
     words: &mut [R],
     place: usize,
     others: &[R],
     other_place: usize,
     len: usize,
-    how: Combination,
     steps: &mut Steps,
 )
     requires within { place + len ≤ length words.old * R.BITS }
@@ -287,25 +255,24 @@ fn combine<R: BitRegister, O: BitOrder<R>>(
     requires other_within { other_place + len ≤ length others.now * R.BITS }
     requires other_ends { other_place + len < 2 ^ 64 }
     ensures combined { Combines (read_by R.BitRegister O.position) words.old words.new place len
-        (combined_bit how) (read_by R.BitRegister O.position) others.now other_place }
+        (combined_bit H.HOW) (read_by R.BitRegister O.position) others.now other_place }
     ensures steps { Takes steps.old steps.new (groups len 64) (groups len 1) }
 {
     if len <= most_singly::<R, O>(Walk::Copy) {
-        combine_singly::<R, O>(words, place, others, other_place, len, how, steps);
+        combine_singly::<H, R, O>(words, place, others, other_place, len, steps);
     } else {
-        combine_by_chunks::<R, O>(words, place, others, other_place, len, how, steps);
+        combine_by_chunks::<H, R, O>(words, place, others, other_place, len, steps);
     }
 }
 
 // The same, bit by bit.
 #[tactic(auto, using(crate::proofs::PathLemmas::count_steps, crate::proofs::ChangedStretchLemmas::stretch_none))]
-fn combine_singly<R: BitRegister, O: BitOrder<R>>(
+fn combine_singly<H: Combining, R: BitRegister, O: BitOrder<R>>(
     words: &mut [R],
     place: usize,
     others: &[R],
     other_place: usize,
     len: usize,
-    how: Combination,
     steps: &mut Steps,
 )
     requires within { place + len ≤ length words.old * R.BITS }
@@ -313,26 +280,25 @@ fn combine_singly<R: BitRegister, O: BitOrder<R>>(
     requires other_within { other_place + len ≤ length others.now * R.BITS }
     requires other_ends { other_place + len < 2 ^ 64 }
     ensures combined { Combines (read_by R.BitRegister O.position) words.old words.new place len
-        (combined_bit how) (read_by R.BitRegister O.position) others.now other_place }
+        (combined_bit H.HOW) (read_by R.BitRegister O.position) others.now other_place }
     ensures steps { Takes steps.old steps.new (groups len 64) (groups len 1) }
 {
     for k in 0..len {
         let bit = read_entry::<R, O>(words, place + k);
         let other = read_entry::<R, O>(others, other_place + k);
-        write_entry::<R, O>(words, place + k, combined(how, bit, other));
+        write_entry::<R, O>(words, place + k, combined(H::HOW, bit, other));
         steps.step();
     }
 }
 
 // The same, by chunks.
 #[tactic(auto, using(crate::proofs::PathLemmas::count_steps))]
-fn combine_by_chunks<R: BitRegister, O: BitOrder<R>>(
+fn combine_by_chunks<H: Combining, R: BitRegister, O: BitOrder<R>>(
     words: &mut [R],
     place: usize,
     others: &[R],
     other_place: usize,
     len: usize,
-    how: Combination,
     steps: &mut Steps,
 )
     requires within { place + len ≤ length words.old * R.BITS }
@@ -340,22 +306,13 @@ fn combine_by_chunks<R: BitRegister, O: BitOrder<R>>(
     requires other_within { other_place + len ≤ length others.now * R.BITS }
     requires other_ends { other_place + len < 2 ^ 64 }
     ensures combined { Combines (read_by R.BitRegister O.position) words.old words.new place len
-        (combined_bit how) (read_by R.BitRegister O.position) others.now other_place }
+        (combined_bit H.HOW) (read_by R.BitRegister O.position) others.now other_place }
     ensures steps { Takes steps.old steps.new (groups len 64) (groups len 1) }
 {
-    let way = direction_for::<R, O>();
     for k in 0..len.div_ceil(CHUNK) {
         let done = CHUNK * k;
         let count = CHUNK.min(len - done);
-        across::combine::<R, O, R, O>(
-            way,
-            how,
-            words,
-            place + done,
-            others,
-            other_place + done,
-            count,
-        );
+        across::combine::<H, R, O, R, O>(words, place + done, others, other_place + done, count);
         steps.many(count);
     }
 }

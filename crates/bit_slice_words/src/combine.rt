@@ -8,7 +8,8 @@ ghost use Rattle.bit_slice_paths.specs.Combined.{combined_bit, Combines};
 use bit_addressing_memory::{
     BitOrder, BitRegister, Walk, most_singly_of_two, read_entry, write_entry,
 };
-use bit_slice_paths::{Combination, across, direction_for};
+use bit_slice_paths::combining::{Both, Combining, Differing, Either};
+use bit_slice_paths::{Combination, across};
 
 // The bit that two make.
 pub(crate) fn combined(how: Combination, bit: bool, other: bool) -> bool
@@ -24,109 +25,67 @@ pub(crate) fn combined(how: Combination, bit: bool, other: bool) -> bool
 
 // Combines each of `len` bits with one of another memory.
 #[inline(always)]
-pub(crate) fn combine_in<R: BitRegister, O: BitOrder<R>, Q: BitRegister, P: BitOrder<Q>>(
-    words: &mut [R],
-    place: usize,
-    others: &[Q],
-    other_place: usize,
-    len: usize,
-    how: Combination,
-)
+pub(crate) fn combine_in<
+    H: Combining,
+    R: BitRegister,
+    O: BitOrder<R>,
+    Q: BitRegister,
+    P: BitOrder<Q>,
+>(words: &mut [R], place: usize, others: &[Q], other_place: usize, len: usize)
     requires within { place + len ≤ length words.old * R.BITS }
     requires ends { place + len < 2 ^ 64 }
     requires other_within { other_place + len ≤ length others.now * Q.BITS }
     requires other_ends { other_place + len < 2 ^ 64 }
     ensures { Combines (read_by R.BitRegister O.position) words.old words.new place len
-        (combined_bit how) (read_by Q.BitRegister P.position) others.now other_place }
+        (combined_bit H.HOW) (read_by Q.BitRegister P.position) others.now other_place }
 {
     if len <= most_singly_of_two::<R, O, Q, P>(Walk::Copy) {
-        combine_singly::<R, O, Q, P>(words, place, others, other_place, len, how);
+        combine_singly::<H, R, O, Q, P>(words, place, others, other_place, len);
         return;
     }
-    combine_by_chunks::<R, O, Q, P>(words, place, others, other_place, len, how);
+    combine_by_chunks::<H, R, O, Q, P>(words, place, others, other_place, len);
 }
 
 // The same, by chunks. Out of line, so that a few bits are combined by a short function.
 #[inline(never)]
-fn combine_by_chunks<R: BitRegister, O: BitOrder<R>, Q: BitRegister, P: BitOrder<Q>>(
+fn combine_by_chunks<H: Combining, R: BitRegister, O: BitOrder<R>, Q: BitRegister, P: BitOrder<Q>>(
     words: &mut [R],
     place: usize,
     others: &[Q],
     other_place: usize,
     len: usize,
-    how: Combination,
 )
     requires within { place + len ≤ length words.old * R.BITS }
     requires ends { place + len < 2 ^ 64 }
     requires other_within { other_place + len ≤ length others.now * Q.BITS }
     requires other_ends { other_place + len < 2 ^ 64 }
     ensures { Combines (read_by R.BitRegister O.position) words.old words.new place len
-        (combined_bit how) (read_by Q.BitRegister P.position) others.now other_place }
+        (combined_bit H.HOW) (read_by Q.BitRegister P.position) others.now other_place }
 {
-    let way = direction_for::<R, O>();
-    // Each has a loop of its own, in which nothing asks which it is.
-    match how {
-        Combination::Take => across::combine::<R, O, Q, P>(
-            way,
-            Combination::Take,
-            words,
-            place,
-            others,
-            other_place,
-            len,
-        ),
-        Combination::And => across::combine::<R, O, Q, P>(
-            way,
-            Combination::And,
-            words,
-            place,
-            others,
-            other_place,
-            len,
-        ),
-        Combination::Or => across::combine::<R, O, Q, P>(
-            way,
-            Combination::Or,
-            words,
-            place,
-            others,
-            other_place,
-            len,
-        ),
-        Combination::Xor => across::combine::<R, O, Q, P>(
-            way,
-            Combination::Xor,
-            words,
-            place,
-            others,
-            other_place,
-            len,
-        ),
-    }
+    across::combine::<H, R, O, Q, P>(words, place, others, other_place, len);
 }
 
 // The same, bit by bit.
 #[inline(always)]
 #[tactic(auto, using(crate::proofs::ChangedStretchLemmas::stretch_steps))]
-fn combine_singly<R: BitRegister, O: BitOrder<R>, Q: BitRegister, P: BitOrder<Q>>(
+fn combine_singly<H: Combining, R: BitRegister, O: BitOrder<R>, Q: BitRegister, P: BitOrder<Q>>(
     words: &mut [R],
     place: usize,
     others: &[Q],
     other_place: usize,
     len: usize,
-    how: Combination,
 )
     requires within { place + len ≤ length words.old * R.BITS }
     requires ends { place + len < 2 ^ 64 }
     requires other_within { other_place + len ≤ length others.now * Q.BITS }
     requires other_ends { other_place + len < 2 ^ 64 }
     ensures { Combines (read_by R.BitRegister O.position) words.old words.new place len
-        (combined_bit how) (read_by Q.BitRegister P.position) others.now other_place }
+        (combined_bit H.HOW) (read_by Q.BitRegister P.position) others.now other_place }
 {
     for k in 0..len {
         let bit = read_entry::<R, O>(words, place + k);
         let other = read_entry::<Q, P>(others, other_place + k);
-        write_entry::<R, O>(words, place + k, combined(how, bit, other));
+        write_entry::<R, O>(words, place + k, combined(H::HOW, bit, other));
     }
 }
 
@@ -150,7 +109,7 @@ pub fn and_in<R: BitRegister, O: BitOrder<R>, Q: BitRegister, P: BitOrder<Q>>(
         (λ k. entry (read_by R.BitRegister O.position) words.old (place + k)
         && entry (read_by Q.BitRegister P.position) others.now (other_place + k)) }
 {
-    combine_in::<R, O, Q, P>(words, place, others, other_place, len, Combination::And);
+    combine_in::<Both, R, O, Q, P>(words, place, others, other_place, len);
 }
 
 /// Sets each of `len` bits of a memory, from `place` on, where the memory `others` has a one, from `other_place`
@@ -173,7 +132,7 @@ pub fn or_in<R: BitRegister, O: BitOrder<R>, Q: BitRegister, P: BitOrder<Q>>(
         (λ k. entry (read_by R.BitRegister O.position) words.old (place + k)
         || entry (read_by Q.BitRegister P.position) others.now (other_place + k)) }
 {
-    combine_in::<R, O, Q, P>(words, place, others, other_place, len, Combination::Or);
+    combine_in::<Either, R, O, Q, P>(words, place, others, other_place, len);
 }
 
 /// Flips each of `len` bits of a memory, from `place` on, where the memory `others` has a one, from
@@ -196,5 +155,5 @@ pub fn xor_in<R: BitRegister, O: BitOrder<R>, Q: BitRegister, P: BitOrder<Q>>(
         (λ k. xor (entry (read_by R.BitRegister O.position) words.old (place + k))
         (entry (read_by Q.BitRegister P.position) others.now (other_place + k))) }
 {
-    combine_in::<R, O, Q, P>(words, place, others, other_place, len, Combination::Xor);
+    combine_in::<Differing, R, O, Q, P>(words, place, others, other_place, len);
 }

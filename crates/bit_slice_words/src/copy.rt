@@ -4,7 +4,8 @@ ghost use Rattle.std.specs.Prelude.{◌+◌, ◌*◌, ◌^◌, ◌<◌, ◌≤�
 ghost use Rattle.bit_addressing_memory.specs.Memory.{read_by, Copies};
 
 use bit_addressing_memory::{BitOrder, BitRegister, Walk, copy_between, most_singly_of_two};
-use bit_slice_paths::{Combination, across, direction_for};
+use bit_slice_paths::across;
+use bit_slice_paths::combining::Taken;
 
 /// Copies `len` bits of the memory `from`, those from `source` on, to the places from `target` on of the memory
 /// `words`. Both stretches lie in their memories, and their ends fit a `usize`; the two may have different words and
@@ -49,13 +50,5 @@ fn copy_by_chunks<Q: BitRegister, P: BitOrder<Q>, R: BitRegister, O: BitOrder<R>
     ensures copied { Copies (read_by R.BitRegister O.position) words.old words.new
         (read_by Q.BitRegister P.position) from.now source target len }
 {
-    across::combine::<R, O, Q, P>(
-        direction_for::<R, O>(),
-        Combination::Take,
-        words,
-        target,
-        from,
-        source,
-        len,
-    );
+    across::combine::<Taken, R, O, Q, P>(words, target, from, source, len);
 }

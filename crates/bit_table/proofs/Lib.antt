@@ -2,6 +2,7 @@ pub mod LetteredLemmas
 pub mod MarkedLemmas
 pub mod NumberLemmas
 pub mod TableLemmas
+pub mod RoomLemmas
 pub mod MovedLemmas
 pub mod RowCommandLemmas
 pub mod Sending

@@ -18,8 +18,8 @@ pub same_place : {X : Type 0} {new old : Frame X} → new ≡ old → new.place 
 same_place same = ap (λ (f : Frame _). f.place) same
 
 -- the rows from k on came to stand from row q on, by what the moves of their list and of the letters' lists say
-module _ (v : TableView) (l : LayoutShape) (s : StoredRows) (kept : Option StoredRows) (moved : List ℕ)
-    (e : view_from l s kept moved ≡ v) (lawful : is_layout l ≡ true) (stored : AreStored l s)
+module _ (v : TableView) (l : LayoutShape) (s : StoredRows) (kept : Option StoredRows) (moved : List ℕ) {room : ℕ}
+    (e : view_from l s kept moved room ≡ v) (lawful : is_layout l ≡ true) (stored : AreStored l s)
     (kept_stored : IfSome kept (AreStored l)) where
   pub are_moved : (word q k h rows : ℕ) (letters now : List ℕ) → now ≡ rows ∷ letters → h ≡ 0
       → rows ≤ touched word (h + q * row_width l.fields) ((s.rows - k) * row_width l.fields)

@@ -11,8 +11,9 @@ use Rattle.bit_table_commands.specs.declared.reply.Reply.TheVariants.{Done}
 use Rattle.bit_table_commands.specs.Tables.{TableShape}
 use Rattle.bit_table_rows.specs.declared.edit.RowEdit.{RowEdit}
 use Rattle.bit_table_rows.specs.declared.edit.RowEdit.TheVariants as edits
-use Rattle.bit_table_rows.specs.RowEdit.{added, edited_by, LiesIn, WhereNew}
+use Rattle.bit_table_rows.specs.RowEdit.{added, edited_by, taken_out, LiesIn, WhereNew}
 use Rattle.bit_table.specs.Moved.{Moved, MovedBy}
+use Rattle.bit_table.specs.Room.{IsWithinRoom, RoomAfter}
 use Rattle.bit_table.specs.RowCommands.{AsksFor}
 use Rattle.bit_table.specs.View.{may_want_memory, TableView}
 use Rattle.bit_table.proofs.TableLemmas.{length-more}
@@ -28,6 +29,17 @@ pub record DoesAll (c : Command) (e : RowEdit) : Type 1 where
   pub replies : (t : TableShape) → Done ≡ reply_to t c
   pub moves : (word : ℕ) (old new : TableView) → MovedBy word old e new.moved → Moved word old c new
   pub succeeds : may_want_memory c ≡ false → added e ≡ 0
+  pub within : (old : TableView) → IsWithinRoom old c → added e ≤ old.room
+  pub rooms : (old new : TableView) → old.room + taken_out e ≤ new.room + added e → RoomAfter old c new
+
+-- an edit takes out no more rows than there are
+pub few_taken : (e : RowEdit) (n : ℕ) → LiesIn n e → taken_out e ≤ n
+few_taken (edits.Insert p) n lies = omega arith
+few_taken (edits.Delete p q) n lies = omega (arith, lies.0, lies.1)
+few_taken (edits.Copy p q r) n lies = omega arith
+few_taken (edits.Swap p q) n lies = omega arith
+few_taken (edits.Rotate p q k) n lies = omega arith
+few_taken (edits.Dup p q) n lies = omega arith
 
 -- rows that are no more have the bits that they had
 same_bits : (n w : ℕ) → n * w ≤ MAX_BITS → (n + 0) * w ≤ MAX_BITS
@@ -44,6 +56,8 @@ does_all (edits.Delete p q) c is = subst (λ c. DoesAll c (edits.Delete p q)) (s
   replies = λ t. refl;
   moves = λ word old new moved. moved;
   succeeds = λ few. refl;
+  within = λ old is. absurd is;
+  rooms = λ old new left. omega (arith, left);
 })
 does_all (edits.Copy p q r) c is = subst (λ c. DoesAll c (edits.Copy p q r)) (sym is) (record {
   no_row = λ P. tt;
@@ -53,6 +67,8 @@ does_all (edits.Copy p q r) c is = subst (λ c. DoesAll c (edits.Copy p q r)) (s
   replies = λ t. refl;
   moves = λ word old new moved. moved;
   succeeds = λ few. refl;
+  within = λ old is. absurd is;
+  rooms = λ old new left. omega (arith, left);
 })
 does_all (edits.Swap p q) c is = subst (λ c. DoesAll c (edits.Swap p q)) (sym is) (record {
   no_row = λ P. tt;
@@ -62,6 +78,8 @@ does_all (edits.Swap p q) c is = subst (λ c. DoesAll c (edits.Swap p q)) (sym i
   replies = λ t. refl;
   moves = λ word old new moved. moved;
   succeeds = λ few. refl;
+  within = λ old is. absurd is;
+  rooms = λ old new left. omega (arith, left);
 })
 does_all (edits.Rotate p q k) c is = subst (λ c. DoesAll c (edits.Rotate p q k)) (sym is) (record {
   no_row = λ P. tt;
@@ -71,6 +89,8 @@ does_all (edits.Rotate p q k) c is = subst (λ c. DoesAll c (edits.Rotate p q k)
   replies = λ t. refl;
   moves = λ word old new moved. moved;
   succeeds = λ few. refl;
+  within = λ old is. absurd is;
+  rooms = λ old new left. omega (arith, left);
 })
 does_all (edits.Dup p q) c is = subst (λ c. DoesAll c (edits.Dup p q)) (sym is) (record {
   no_row = λ P. tt;
@@ -81,4 +101,6 @@ does_all (edits.Dup p q) c is = subst (λ c. DoesAll c (edits.Dup p q)) (sym is)
   replies = λ t. refl;
   moves = λ word old new moved. moved;
   succeeds = λ few. absurd (false≢true (sym few));
+  within = λ old is. is;
+  rooms = λ old new left. omega (arith, left);
 })

@@ -38,8 +38,8 @@ use Rattle.bit_table.proofs.LetteredLemmas.{lettered_edited, lettered_changed}
 use Rattle.bit_table.proofs.MarkedLemmas.{blank-from, lettered_decided, lettered_told, staying-lettered}
 
 -- the view of a table that stores these rows, and keeps these
-abbrev pub view_from : LayoutShape → StoredRows → Option StoredRows → List ℕ → TableView
-view_from l s kept moved = record { shape = table_from l s kept; moved = moved }
+abbrev pub view_from : LayoutShape → StoredRows → Option StoredRows → List ℕ → ℕ → TableView
+view_from l s kept moved room = record { shape = table_from l s kept; moved = moved; room = room }
 
 -- what is written first is the front
 pub first_written : (xs ys : List Bool) (w : ℕ) → length ys ≡ w → take w (with_piece xs 0 ys) ≡ ys
@@ -153,8 +153,8 @@ is_some-kept l None = refl
 is_some-kept l (Some k) = refl
 
 -- what the fields of a table say of it
-module _ (v : TableView) (l : LayoutShape) (s : StoredRows) (kept : Option StoredRows) (moved : List ℕ)
-    (e : view_from l s kept moved ≡ v) (lawful : is_layout l ≡ true) (stored : AreStored l s)
+module _ (v : TableView) (l : LayoutShape) (s : StoredRows) (kept : Option StoredRows) (moved : List ℕ) {room : ℕ}
+    (e : view_from l s kept moved room ≡ v) (lawful : is_layout l ≡ true) (stored : AreStored l s)
     (kept_stored : IfSome kept (AreStored l)) where
   pub shape_is : table_from l s kept ≡ v.shape
   shape_is = ap (λ (x : TableView). x.shape) e
@@ -237,13 +237,18 @@ module _ (v : TableView) (l : LayoutShape) (s : StoredRows) (kept : Option Store
   pub edit_lies : (edit : RowEdit) → LiesIn (length v.shape.rows) edit → LiesIn s.rows edit
   edit_lies edit = subst (λ k. LiesIn k edit) (sym count_is)
 
+  pub more_fit : (more : ℕ)
+      → (length v.shape.rows + more) * row_width v.shape.layout.fields ≤ MAX_BITS
+      → (s.rows + more) * row_width l.fields ≤ MAX_BITS
+  more_fit more room =
+      subst (λ k. (k + more) * row_width l.fields ≤ MAX_BITS) (sym count_is)
+      (subst (λ (m : LayoutShape). (length v.shape.rows + more) * row_width m.fields ≤ MAX_BITS) (sym layout_is)
+      room)
+
   pub edit_fits : (edit : RowEdit)
       → (length v.shape.rows + added edit) * row_width v.shape.layout.fields ≤ MAX_BITS
       → (s.rows + added edit) * row_width l.fields ≤ MAX_BITS
-  edit_fits edit room =
-      subst (λ k. (k + added edit) * row_width l.fields ≤ MAX_BITS) (sym count_is)
-      (subst (λ (m : LayoutShape). (length v.shape.rows + added edit) * row_width m.fields ≤ MAX_BITS) (sym layout_is)
-      room)
+  edit_fits edit room = more_fit (added edit) room
 
   -- the table after it
   pub shape_edited : (edit : RowEdit) (x : Row) (now : StoredRows) → LiesIn s.rows edit

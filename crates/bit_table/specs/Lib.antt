@@ -1,6 +1,7 @@
 pub mod Lettered
 pub mod Moved
 pub mod RowCommands
+pub mod Room
 pub mod Told
 pub mod View
 pub mod Lines

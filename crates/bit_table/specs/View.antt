@@ -11,11 +11,13 @@ use Rattle.bit_table_commands.specs.declared.command.Command.TheVariants.{List a
 use Rattle.bit_table_commands.specs.Tables.{TableShape}
 use Rattle.bit_table.specs.Lettered.{lettered}
 
--- what a script sees of it: its layout, its rows and what is kept; and the word writes of the moves of the last edit
--- that moved rows: of the list of the rows first, and then of those of the letters `a` to `z`
+-- what a script sees of it: its layout, its rows and what is kept; the word writes of the moves of the last edit that
+-- moved rows: of the list of the rows first, and then of those of the letters `a` to `z`; and how many rows more surely
+-- fit without memory
 pub record TableView : Type 0 where
   pub shape : TableShape
   pub moved : List ℕ
+  pub room : ℕ
 
 -- rows as they are stored: how many there are, their bits, and the letters of each
 pub record StoredRows : Type 0 where
@@ -28,6 +30,13 @@ pub record AreStored (l : LayoutShape) (s : StoredRows) : Type 0 where
   pub fits : length s.bits ≡ s.rows * row_width l.fields
   pub room : s.rows * row_width l.fields ≤ MAX_BITS
   pub marked : length s.letters ≡ s.rows
+
+-- n rows of so many bits and their letters have memory for `space` rows: for so many bits, and for the letters of so
+-- many rows
+pub record HaveSpace (n space width most_bits most_rows : ℕ) : Type 0 where
+  pub within : n ≤ space
+  pub bits : space * width ≤ most_bits
+  pub letters : space ≤ most_rows
 
 -- stored rows as a script sees them
 abbrev pub rows_of : LayoutShape → StoredRows → List Row

@@ -23,7 +23,7 @@ pub(crate) struct Kept<A: BitViewSized, O: WordPaths<A::Store> + Digits<A::Store
 }
 
 impl<A: BitViewSized, O: WordPaths<A::Store> + Digits<A::Store>> Model for Kept<A, O> {
-    ghost use Rattle.std.specs.Prelude.{◌≡◌};
+    ghost use Rattle.std.specs.Prelude.{◌≡◌, ◌≤◌, length};
     ghost use Rattle.std.specs.Coded.{codes};
     ghost use Rattle.bit_addressing_memory.specs.Memory.{read_by};
     ghost use Rattle.bit_containers_vector.specs.Vector.{vec_bits, vec_head};
@@ -37,10 +37,10 @@ impl<A: BitViewSized, O: WordPaths<A::Store> + Digits<A::Store>> Model for Kept<
     ghost view = { λ k. record {
       rows = k.rows;
       bits = vec_bits (read_by A.Store.BitRegister O.position) k.bits;
-      letters = k.letters;
+      letters = k.letters.sets;
     } };
 
-    ghost invariant = { λ k. vec_head k.bits ≡ 0 };
+    ghost invariant = { λ k. (vec_head k.bits ≡ 0) × (length k.letters.sets ≤ k.letters.space) };
 }
 
 impl<A: BitViewSized, O: WordPaths<A::Store> + Digits<A::Store>> Kept<A, O> {
@@ -54,7 +54,7 @@ impl<A: BitViewSized, O: WordPaths<A::Store> + Digits<A::Store>> Kept<A, O> {
         requires { length (vec_bits (read_by A.Store.BitRegister O.position) bits.now) ≤ MAX_BITS }
         ensures rows { IfOk result (λ kept. kept.rows ≡ rows) }
         ensures bits { IfOk result (λ kept. kept.bits ≡ vec_bits (read_by A.Store.BitRegister O.position) bits.now) }
-        ensures letters { IfOk result (λ kept. kept.letters ≡ letters.now) }
+        ensures letters { IfOk result (λ kept. kept.letters ≡ letters.now.sets) }
     {
         Ok(Kept {
             rows,
@@ -83,7 +83,8 @@ impl<A: BitViewSized, O: WordPaths<A::Store> + Digits<A::Store>> Kept<A, O> {
         ensures rows { result.0 ≡ self.rows }
         ensures bits { vec_bits (read_by A.Store.BitRegister O.position) result.1 ≡ self.bits }
         ensures head { vec_head result.1 ≡ 0 }
-        ensures letters { result.2 ≡ self.letters }
+        ensures letters { result.2.sets ≡ self.letters }
+        ensures space { length self.letters ≤ result.2.space }
     {
         (self.rows, self.bits, self.letters)
     }

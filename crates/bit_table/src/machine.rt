@@ -69,6 +69,11 @@ fn hold_answer<M: LineMachine>(
     ensures fault { IfErr result (λ e. e ≡ RunError.Memory) }
 {
     let text = machine.answer(line).map_err(|_| RunError::Memory)?;
+    // A long answer is not copied.
+    if held.is_empty() && text.len() >= PIECE {
+        *held = text;
+        return Ok(());
+    }
     held.extend_from_slice(text.as_slice())
         .map_err(|_| RunError::Memory)
 }

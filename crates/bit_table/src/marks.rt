@@ -51,11 +51,12 @@ pub(crate) fn mark_rows<T: BitStore, O: WordPaths<T> + Digits<T>>(
     requires letter { letter < letter_count }
     requires field { field < length layout.now.fields }
     requires bits { length (vec_bits (read_by T.BitRegister O.position) bits.now)
-        ≡ length letters.old * row_width layout.now.fields }
-    ensures { letters.new ≡ told letter
+        ≡ length letters.old.sets * row_width layout.now.fields }
+    ensures sets { letters.new.sets ≡ told letter
         (map (λ row. passes test (number_in_field (Some field) row) value)
-        (rows_from layout.now (length letters.old) (vec_bits (read_by T.BitRegister O.position) bits.now)))
-        letters.old }
+        (rows_from layout.now (length letters.old.sets) (vec_bits (read_by T.BitRegister O.position) bits.now)))
+        letters.old.sets }
+    ensures space { letters.new.space ≡ letters.old.space }
 {
     if letters.rows() <= most_singly::<T, O>(Walk::Mark) {
         mark_singly(letters, layout, bits, letter, field, test, value);
@@ -77,11 +78,12 @@ fn mark_singly<T: BitStore, O: WordPaths<T> + Digits<T>>(
     requires letter { letter < letter_count }
     requires field { field < length layout.now.fields }
     requires bits { length (vec_bits (read_by T.BitRegister O.position) bits.now)
-        ≡ length letters.old * row_width layout.now.fields }
-    ensures { letters.new ≡ told letter
+        ≡ length letters.old.sets * row_width layout.now.fields }
+    ensures sets { letters.new.sets ≡ told letter
         (map (λ row. passes test (number_in_field (Some field) row) value)
-        (rows_from layout.now (length letters.old) (vec_bits (read_by T.BitRegister O.position) bits.now)))
-        letters.old }
+        (rows_from layout.now (length letters.old.sets) (vec_bits (read_by T.BitRegister O.position) bits.now)))
+        letters.old.sets }
+    ensures space { letters.new.space ≡ letters.old.space }
 {
     let shape = &layout.fields()[field];
     let column = Column {
@@ -113,11 +115,12 @@ fn mark_by_blocks<T: BitStore, O: WordPaths<T> + Digits<T>>(
     requires letter { letter < letter_count }
     requires field { field < length layout.now.fields }
     requires bits { length (vec_bits (read_by T.BitRegister O.position) bits.now)
-        ≡ length letters.old * row_width layout.now.fields }
-    ensures { letters.new ≡ told letter
+        ≡ length letters.old.sets * row_width layout.now.fields }
+    ensures sets { letters.new.sets ≡ told letter
         (map (λ row. passes test (number_in_field (Some field) row) value)
-        (rows_from layout.now (length letters.old) (vec_bits (read_by T.BitRegister O.position) bits.now)))
-        letters.old }
+        (rows_from layout.now (length letters.old.sets) (vec_bits (read_by T.BitRegister O.position) bits.now)))
+        letters.old.sets }
+    ensures space { letters.new.space ≡ letters.old.space }
 {
     let shape = &layout.fields()[field];
     let column = Column {

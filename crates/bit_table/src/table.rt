@@ -17,8 +17,9 @@ ghost use Rattle.bit_table_commands.specs.Edits.{edit, reply_to};
 ghost use Rattle.bit_table_commands.specs.Marks.{row_bears};
 ghost use Rattle.bit_table_commands.specs.declared.reply.Reply.TheVariants.{Done};
 ghost use Rattle.bit_table_commands.specs.Tables.{new_table, IsTable};
-ghost use Rattle.bit_table_rows.specs.RowEdit.{added, edited_by, moves_rows, LiesIn, WhereNew};
+ghost use Rattle.bit_table_rows.specs.RowEdit.{added, edited_by, moves_rows, taken_out, LiesIn, WhereNew};
 ghost use Rattle.bit_table.specs.Moved.{Moved, MovedBy};
+ghost use Rattle.bit_table.specs.Room.{IsWithinRoom, RoomAfter};
 ghost use Rattle.bit_table.specs.RowCommands.{AsksFor, HasRowBits};
 ghost use Rattle.bit_table.specs.View.{may_want_memory};
 
@@ -47,6 +48,8 @@ pub struct Table<A: BitViewSized, O: WordPaths<A::Store> + Digits<A::Store>> {
     alloc: Global,
     layout: Layout,
     rows: usize,
+    // For how many rows all lists have memory, at least.
+    space: usize,
     bits: BitVec<A::Store, O>,
     letters: Letters<A::Store, O>,
     kept: Option<Kept<A, O>>,
@@ -54,15 +57,15 @@ pub struct Table<A: BitViewSized, O: WordPaths<A::Store> + Digits<A::Store>> {
 }
 
 impl<A: BitViewSized, O: WordPaths<A::Store> + Digits<A::Store>> Model for Table<A, O> {
-    ghost use Rattle.std.specs.Prelude.{◌≡◌, ◌*◌, ◌≤◌, length, true, IfSome};
+    ghost use Rattle.std.specs.Prelude.{◌≡◌, ◌-◌, ◌*◌, ◌≤◌, length, true, IfSome};
     ghost use Rattle.std.specs.Coded.{codes};
     ghost use Rattle.bit_addressing_memory.specs.Memory.{read_by};
     ghost use Rattle.bit_slice_views.specs.SpanLimits.{MAX_BITS};
-    ghost use Rattle.bit_containers_vector.specs.Vector.{vec_bits, vec_head};
+    ghost use Rattle.bit_containers_vector.specs.Vector.{vec_bits, vec_head, room};
     ghost use Rattle.bit_table_layout.specs.declared.layout.TheConstants.{MAX_ROW_BITS};
     ghost use Rattle.bit_table_layout.specs.Layouts.{is_layout, row_width};
     ghost use Rattle.bit_table_commands.specs.LetterSets.{letters_code};
-    ghost use Rattle.bit_table.specs.View.{table_from, AreStored, StoredRows, TableView};
+    ghost use Rattle.bit_table.specs.View.{table_from, AreStored, HaveSpace, StoredRows, TableView};
 
     ghost Value = { TableView };
 
@@ -72,20 +75,23 @@ impl<A: BitViewSized, O: WordPaths<A::Store> + Digits<A::Store>> Model for Table
       shape = table_from t.layout (record {
         rows = t.rows;
         bits = vec_bits (read_by A.Store.BitRegister O.position) t.bits;
-        letters = t.letters;
+        letters = t.letters.sets;
       }) t.kept;
       moved = t.moved;
+      room = t.space - t.rows;
     } };
 
     ghost invariant = { λ t. (is_layout t.layout ≡ true)
         × AreStored t.layout (record {
           rows = t.rows;
           bits = vec_bits (read_by A.Store.BitRegister O.position) t.bits;
-          letters = t.letters;
+          letters = t.letters.sets;
         })
         × IfSome t.kept (AreStored t.layout)
         × (MAX_ROW_BITS ≤ A.COUNT * A.Store.BITS)
-        × (vec_head t.bits ≡ 0) };
+        × (vec_head t.bits ≡ 0)
+        × HaveSpace t.rows t.space (row_width t.layout.fields) (room (read_by A.Store.BitRegister O.position) t.bits)
+        t.letters.space };
 }
 
 impl<A: BitViewSized, O: WordPaths<A::Store> + Digits<A::Store>> Table<A, O> {
@@ -96,12 +102,14 @@ impl<A: BitViewSized, O: WordPaths<A::Store> + Digits<A::Store>> Table<A, O> {
         requires buffer { MAX_ROW_BITS ≤ A.COUNT * A.Store.BITS }
         ensures shape { result.shape ≡ new_table layout }
         ensures moved { result.moved ≡ replicate 27 0 }
+        ensures room { result.room ≡ 0 }
     {
         let _ = layout.row_bits();
         Table {
             alloc,
             layout,
             rows: 0,
+            space: 0,
             bits: BitVec::new(alloc),
             letters: Letters::new(alloc),
             kept: None,
@@ -152,6 +160,36 @@ impl<A: BitViewSized, O: WordPaths<A::Store> + Digits<A::Store>> Table<A, O> {
         self.moved
     }
 
+    // ---- room
+
+    /// How many rows more surely fit without memory: an insertion, or a copy of rows behind the last one, that adds no
+    /// more of them takes none. A row that is taken out makes room for one.
+    pub fn room(&self) -> usize
+        ensures { result ≡ self.now.room }
+    {
+        self.space - self.rows
+    }
+
+    /// Makes room for so many rows more, in the rows' list and in those of all letters. A refusal changes nothing, and
+    /// where there is room no memory is asked for.
+    pub fn reserve(&mut self, k: usize) -> Result<(), AllocError>
+        requires { (length self.old.shape.rows + k) * row_width self.old.shape.layout.fields ≤ MAX_BITS }
+        ensures ok { OnOk result (k ≤ self.new.room) }
+        ensures err { OnErr result (self.new ≡ self.old) }
+        ensures succeeds { k ≤ self.old.room → IsOk result }
+        ensures shape { self.new.shape ≡ self.old.shape }
+        ensures moved { self.new.moved ≡ self.old.moved }
+        ensures room { self.old.room ≤ self.new.room }
+    {
+        if k <= self.space - self.rows {
+            return Ok(());
+        }
+        self.bits.reserve(k * self.layout.row_bits())?;
+        self.letters.reserve(k)?;
+        self.space = self.rows + k;
+        Ok(())
+    }
+
     // ---- what is kept
 
     /// Keeps the rows in place of those that were kept. Where no memory is found, the older ones stay.
@@ -161,13 +199,14 @@ impl<A: BitViewSized, O: WordPaths<A::Store> + Digits<A::Store>> Table<A, O> {
         ensures ok { OnOk result (self.new.shape ≡ edit self.old.shape Command.Keep) }
         ensures err { OnErr result (self.new ≡ self.old) }
         ensures moved { self.new.moved ≡ self.old.moved }
+        ensures room { self.new.room ≡ self.old.room }
     {
         self.kept = Some(Kept::copy_of(self.alloc, self.rows, &self.bits, &self.letters)?);
         Ok(())
     }
 
     /// Puts the kept rows in place of the rows, after which nothing is kept, and answers whether there were any: where
-    /// nothing is kept, nothing changes. It takes no memory.
+    /// nothing is kept, nothing changes. It takes no memory; the room may be any number afterwards.
     #[inline(never)]
     pub fn back(&mut self) -> bool
         ensures told { result ≡ is_some self.old.shape.kept }
@@ -180,13 +219,14 @@ impl<A: BitViewSized, O: WordPaths<A::Store> + Digits<A::Store>> Table<A, O> {
         };
         let (rows, bits, letters) = kept.into_parts();
         self.rows = rows;
+        self.space = rows;
         self.bits = bits;
         self.letters = letters;
         true
     }
 
     /// A table of the same layout, rows, letters and kept rows, in other words or another order: it answers each command
-    /// as this one does. Its `moved` is all 0.
+    /// as this one does. Its `moved` is all 0, and its room may be any number.
     pub fn relay<A2: BitViewSized, O2: WordPaths<A2::Store> + Digits<A2::Store>>(
         &self,
     ) -> Result<Table<A2, O2>, AllocError>
@@ -205,6 +245,7 @@ impl<A: BitViewSized, O: WordPaths<A::Store> + Digits<A::Store>> Table<A, O> {
             alloc: self.alloc,
             layout,
             rows: self.rows,
+            space: self.rows,
             bits,
             letters,
             kept,
@@ -220,6 +261,7 @@ impl<A: BitViewSized, O: WordPaths<A::Store> + Digits<A::Store>> Table<A, O> {
     pub fn combine(&mut self, op: BoolOp, x: Letter, y: Letter, steps: &mut Steps)
         ensures shape { self.new.shape ≡ edit self.old.shape (Command.Combine op x y) }
         ensures moved { self.new.moved ≡ self.old.moved }
+        ensures room { self.new.room ≡ self.old.room }
         ensures steps { x ≢ y → Takes steps.old steps.new (groups (length self.old.shape.rows) 64)
             (groups (length self.old.shape.rows) O.SPAN) }
         ensures alone { x ≡ y → steps.new ≡ steps.old }
@@ -241,6 +283,9 @@ impl<A: BitViewSized, O: WordPaths<A::Store> + Digits<A::Store>> Table<A, O> {
         ensures succeeds { may_want_memory command.now ≡ false → cause_in self.old.shape command.now ≡ None
             → IsOk result }
 
+        // Within the room no memory is wanted.
+        ensures within { IsWithinRoom self.old command.now → cause_in self.old.shape command.now ≡ None → IsOk result }
+
         // What a command does and answers.
         ensures ok { OnOk result (self.new.shape ≡ edit self.old.shape command.now) }
         ensures reply { IfOk result (λ reply. reply ≡ reply_to self.old.shape command.now) }
@@ -249,6 +294,9 @@ impl<A: BitViewSized, O: WordPaths<A::Store> + Digits<A::Store>> Table<A, O> {
         // An insertion, a deletion or `Drop` writes at most the words that the rows which move touch at their new places,
         // in the rows' list and in each letter's, and none in that of the letter that is dropped by.
         ensures moved { OnOk result (Moved A.Store.BITS self.old command.now self.new) }
+
+        // What is left of the room: rows that come take at most their number of it, and rows that go give theirs back.
+        ensures room { OnOk result (RoomAfter self.old command.now self.new) }
 
         // The rows with this image have the table's numbers.
         ensures image { HasOnlyNumbers self.old.shape.layout (length self.old.shape.rows)
@@ -271,6 +319,8 @@ impl<A: BitViewSized, O: WordPaths<A::Store> + Digits<A::Store>> Table<A, O> {
         ensures reply { IfOk result (λ reply. reply ≡ reply_to self.old.shape command.now) }
         ensures err { OnErr result (self.new ≡ self.old) }
         ensures moved { OnOk result (Moved A.Store.BITS self.old command.now self.new) }
+        ensures within { IsWithinRoom self.old command.now → IsOk result }
+        ensures room { OnOk result (RoomAfter self.old command.now self.new) }
     {
         match command {
             Command::Insert { place, values } => self.insert(*place, values.as_slice()),
@@ -352,6 +402,8 @@ impl<A: BitViewSized, O: WordPaths<A::Store> + Digits<A::Store>> Table<A, O> {
         ensures reply { IfOk result (λ reply. reply ≡ reply_to self.old.shape command.now) }
         ensures err { OnErr result (self.new ≡ self.old) }
         ensures moved { OnOk result (Moved A.Store.BITS self.old command.now self.new) }
+        ensures within { IsWithinRoom self.old command.now → IsOk result }
+        ensures room { OnOk result (RoomAfter self.old command.now self.new) }
     {
         // They are no more than a table may have.
         let _rows = self.rows();
@@ -364,6 +416,8 @@ impl<A: BitViewSized, O: WordPaths<A::Store> + Digits<A::Store>> Table<A, O> {
         ensures reply { IfOk result (λ reply. reply ≡ Done) }
         ensures err { OnErr result (self.new ≡ self.old) }
         ensures moved { OnOk result (Moved A.Store.BITS self.old (Command.Insert place values.now) self.new) }
+        ensures succeeds { 1 ≤ self.old.room → IsOk result }
+        ensures room { OnOk result (self.old.room ≤ self.new.room + 1) }
     {
         let width = self.layout.row_bits();
         let buffer = row_of::<A, O>(&self.layout, values);
@@ -384,7 +438,7 @@ impl<A: BitViewSized, O: WordPaths<A::Store> + Digits<A::Store>> Table<A, O> {
         requires most { (length self.old.shape.rows + added edit) * row_width self.old.shape.layout.fields ≤ MAX_BITS }
         requires width { WhereNew edit (length (view_bits (read_by A.Store.BitRegister O.position) row)
             ≡ row_width self.old.shape.layout.fields) }
-        ensures succeeds { added edit ≡ 0 → IsOk result }
+        ensures succeeds { added edit ≤ self.old.room → IsOk result }
 
         // Where `row` has the bits of a row of the numbers `vs`, this is the new row.
         ensures ok { OnOk result ((vs : List ℤ)
@@ -393,14 +447,32 @@ impl<A: BitViewSized, O: WordPaths<A::Store> + Digits<A::Store>> Table<A, O> {
         ensures reply { IfOk result (λ reply. reply ≡ Done) }
         ensures err { OnErr result (self.new ≡ self.old) }
         ensures moved { OnOk result (MovedBy A.Store.BITS self.old edit self.new.moved) }
+        ensures room { OnOk result (self.old.room + taken_out edit ≤ self.new.room + added edit) }
+    {
+        self.reserve(edit.rows_added())?;
+        Ok(self.edit_within(edit, row))
+    }
+
+    // The same where there is room for the rows that the edit adds.
+    fn edit_within(&mut self, edit: RowEdit, row: BitSlice<'_, A::Store, O>) -> Reply
+        requires range { LiesIn (length self.old.shape.rows) edit }
+        requires most { (length self.old.shape.rows + added edit) * row_width self.old.shape.layout.fields ≤ MAX_BITS }
+        requires width { WhereNew edit (length (view_bits (read_by A.Store.BitRegister O.position) row)
+            ≡ row_width self.old.shape.layout.fields) }
+        requires room { added edit ≤ self.old.room }
+        ensures shape { (vs : List ℤ)
+            → WhereNew edit (HasRowBits self.old.shape.layout vs (view_bits (read_by A.Store.BitRegister O.position) row.entry))
+            → self.new.shape ≡ record self.old.shape { rows = edited_by (new_row vs) edit self.old.shape.rows } }
+        ensures reply { result ≡ Done }
+        ensures moved { MovedBy A.Store.BITS self.old edit self.new.moved }
+        ensures room { self.old.room + taken_out edit ≤ self.new.room + added edit }
     {
         let width = self.layout.row_bits();
-        self.bits.reserve(edit.rows_added() * width)?;
-        let letters = self.letters.edit(edit)?;
+        let letters = self.letters.edit(edit).unwrap();
         let rows = edit_rows(&mut self.bits, self.rows, width, edit, &row).unwrap();
         self.rows = edit.rows_after(self.rows);
         self.moved = writes_told(edit, rows, letters, self.moved);
-        Ok(Reply::Done)
+        Reply::Done
     }
 
     fn set(&mut self, row: u64, field: usize, value: i128) -> Reply
@@ -408,6 +480,7 @@ impl<A: BitViewSized, O: WordPaths<A::Store> + Digits<A::Store>> Table<A, O> {
         ensures shape { self.new.shape ≡ edit self.old.shape (Command.Set row (Some field) value) }
         ensures reply { result ≡ Done }
         ensures moved { self.new.moved ≡ self.old.moved }
+        ensures room { self.new.room ≡ self.old.room }
     {
         let at = row as usize * self.layout.row_bits() + bits_before(&self.layout, field);
         let width = self.layout.fields()[field].width();
@@ -448,6 +521,7 @@ impl<A: BitViewSized, O: WordPaths<A::Store> + Digits<A::Store>> Table<A, O> {
         let rows = rows as usize;
         let letters = Letters::of_rows(self.alloc, rows)?;
         self.rows = rows;
+        self.space = rows;
         self.bits = bits;
         self.letters = letters;
         Ok(Reply::Done)
@@ -458,6 +532,7 @@ impl<A: BitViewSized, O: WordPaths<A::Store> + Digits<A::Store>> Table<A, O> {
         ensures shape { self.new.shape ≡ edit self.old.shape (Command.Mark letter field test value) }
         ensures reply { result ≡ Done }
         ensures moved { self.new.moved ≡ self.old.moved }
+        ensures room { self.new.room ≡ self.old.room }
     {
         // A field that the layout lacks is a cause.
         let Some(field) = field else {
@@ -480,6 +555,7 @@ impl<A: BitViewSized, O: WordPaths<A::Store> + Digits<A::Store>> Table<A, O> {
         ensures shape { self.new.shape ≡ edit self.old.shape (Command.Not letter) }
         ensures reply { result ≡ Done }
         ensures moved { self.new.moved ≡ self.old.moved }
+        ensures room { self.new.room ≡ self.old.room }
     {
         self.letters.invert(letter.index());
         Reply::Done
@@ -502,6 +578,7 @@ impl<A: BitViewSized, O: WordPaths<A::Store> + Digits<A::Store>> Table<A, O> {
         ensures shape { self.new.shape ≡ edit self.old.shape (Command.Drop letter) }
         ensures reply { result ≡ Done }
         ensures moved { Moved A.Store.BITS self.old (Command.Drop letter) self.new }
+        ensures room { self.old.room + length self.old.shape.rows ≤ self.new.room + length self.new.shape.rows }
     {
         let width = self.layout.row_bits();
         let letter = letter.index();

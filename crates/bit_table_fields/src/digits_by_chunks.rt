@@ -90,8 +90,28 @@ fn load_chunk<R: BitRegister, O: BitOrder<R>>(
         (piece (memory (read_by R.BitRegister O.position) words.now) place width) }
     ensures steps { Takes steps.old steps.new width width }
 {
-    let chunk = read_bits::<R, O>(way_of(rule), words, place, width as usize);
     steps.many(width as usize);
+    number_at::<R, O>(rule, words, place, width, signed)
+}
+
+/// The number that `Digits::load_low_at` or `Digits::load_high_at` loads, as the rule says, with no count of steps: where
+/// many are read. It is quick where the positions of the order go straight with the indices.
+#[inline(always)]
+pub fn number_at<R: BitRegister, O: BitOrder<R>>(
+    rule: Rule,
+    words: &[R],
+    place: usize,
+    width: u32,
+    signed: bool,
+) -> i128
+    requires some { 1 ≤ width }
+    requires narrow { width ≤ 64 }
+    requires within { place + width ≤ length words.now * R.BITS }
+    requires ends { place + width < 2 ^ 64 }
+    ensures { result ≡ number_held rule signed width
+        (piece (memory (read_by R.BitRegister O.position) words.now) place width) }
+{
+    let chunk = read_bits::<R, O>(way_of(rule), words, place, width as usize);
     number_in::<R, O>(rule, chunk, width, signed)
 }
 

@@ -11,7 +11,9 @@ use Rattle.bit_slice_views.proofs.EndLemmas.{any_none}
 use Rattle.bit_slice_words.specs.Found.{is_bit}
 use Rattle.bit_slice_words.specs.Stretch.{bit_found, Nowhere}
 use Rattle.bit_slice_words.proofs.StretchLemmas.{position_in}
-use Rattle.bit_containers_vector.specs.Vector.{Shortens, vec_bits, vec_head}
+use Rattle.bit_slice_views_mut.specs.Frame.{Frame}
+use Rattle.bit_containers_vector.proofs.CallerLemmas.{room_framed}
+use Rattle.bit_containers_vector.specs.Vector.{Shortens, vec_bits, vec_frame}
 use Rattle.bit_containers_vector.specs.declared.vector.BitVec.{BitVec}
 use Rattle.bit_table_commands.specs.LetterSets.{letter_count, bears}
 use Rattle.bit_table_rows.specs.Lists.{HasBits}
@@ -74,14 +76,16 @@ words_of_zeros reading words place len upto some fits within none =
 -- a list that was shortened and filled with zeros
 pub zeros_left : {T O : Type 0} {g : _} (reading : Reading T) (old mid new : BitVec T O g) (left : ℕ)
     → left ≤ length (vec_bits reading old) → Shortens reading old mid left
-    → vec_bits reading new ≡ replicate (length (vec_bits reading mid)) false → vec_head new ≡ vec_head mid
+    → vec_bits reading new ≡ replicate (length (vec_bits reading mid)) false
+    → vec_frame reading new ≡ vec_frame reading mid
     → HasBits reading (λ bits. replicate left false) old new
-zeros_left reading old mid new left few cut filled head =
+zeros_left reading old mid new left few cut filled framed =
     let size : length (vec_bits reading mid) ≡ left =
     ap length cut.bits ∙ length-take-le left (vec_bits reading old) few in
     record {
       bits = filled ∙ ap (λ n. replicate n false) size;
-      head = head ∙ cut.head;
+      head = ap (λ (f : Frame ℕ). f.place) framed ∙ cut.head;
+      room = omega (arith, cut.room, room_framed reading mid new framed);
     }
 
 -- from each list those bits taken out where the list of letter x has a one

@@ -17,6 +17,7 @@ pub mod LetterEditLemmas
 pub mod WalkLemmas
 pub mod PutLemmas
 pub mod ColumnLemmas
+pub mod SpaceLemmas
 pub mod ListLemmas
 mod OneBitLemmas
 pub mod OneRowLemmas

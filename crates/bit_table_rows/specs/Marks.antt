@@ -4,6 +4,11 @@ use Rattle.std.specs.List.{filter, range_with_len}
 use Rattle.std.specs.FinSet as set
 use Rattle.bit_table_commands.specs.LetterSets.{LetterSet, letter_count, with_letter}
 
+-- letters as contracts see them: those of each row, and for how many rows there is memory
+pub record LettersView : Type 0 where
+  pub sets : List LetterSet
+  pub space : ℕ
+
 -- the list of letter x
 abbrev pub list_of : List (List Bool) → ℕ → List Bool
 list_of lists x = slice_index_or lists x []

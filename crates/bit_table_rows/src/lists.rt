@@ -4,7 +4,7 @@ ghost use Rattle.std.specs.Prelude.{◌≡◌, ◌+◌, ◌-◌, ◌*◌, ◌<�
 ghost use Rattle.bit_addressing_memory.specs.Memory.{read_by};
 ghost use Rattle.bit_addressing_memory.specs.Straight.{Goes};
 ghost use Rattle.bit_slice_views.specs.SpanLimits.{MAX_BITS};
-ghost use Rattle.bit_containers_vector.specs.Vector.{vec_bits, vec_head, HasRoomFor, IsAsBefore};
+ghost use Rattle.bit_containers_vector.specs.Vector.{vec_bits, vec_head, room, HasRoomFor, IsAsBefore};
 ghost use Rattle.bit_table_rows.specs.Lists.{HasBits, IsColumn};
 ghost use Rattle.bit_table_rows.specs.RowEdit.{added, count_after, edited_by, most_moved, LiesIn};
 ghost use Rattle.bit_table_rows.specs.Walk.{Becomes, EachHas};
@@ -85,6 +85,31 @@ fn edit_by_rows<T: BitStore, O: BitOrder<T>>(
     edit_rows(list, n, 1, edit, &row)
 }
 
+// Makes room for `more` bits more in each list of `n` bits, where each has memory for `space` bits, and answers for how
+// many bits each has memory then. Where that is enough, no list is asked.
+pub(crate) fn make_space<T: BitStore, O: BitOrder<T>>(
+    lists: &mut [BitVec<T, O>],
+    n: usize,
+    space: usize,
+    more: usize,
+) -> Result<usize, AllocError>
+    requires columns { EachHas (IsColumn (read_by T.BitRegister O.position) n) lists.old }
+    requires space { EachHas (λ v. space ≤ room (read_by T.BitRegister O.position) v) lists.old }
+    requires most { n + more ≤ MAX_BITS }
+    ensures same { Becomes (λ k. HasBits (read_by T.BitRegister O.position) (λ bits. bits)) lists.old lists.new }
+    ensures enough { IfOk result (λ now. n + more ≤ now) }
+    ensures grown { IfOk result (λ now. space ≤ now) }
+    ensures each { IfOk result (λ now. EachHas (λ v. now ≤ room (read_by T.BitRegister O.position) v) lists.new) }
+    ensures succeeds { n + more ≤ space → IsOk result }
+{
+    let enough = n + more;
+    if enough <= space {
+        return Ok(space);
+    }
+    reserve_lists(lists, more)?;
+    Ok(enough)
+}
+
 // Makes room for `more` bits in each list.
 pub(crate) fn reserve_lists<T: BitStore, O: BitOrder<T>>(
     lists: &mut [BitVec<T, O>],
@@ -93,7 +118,6 @@ pub(crate) fn reserve_lists<T: BitStore, O: BitOrder<T>>(
     requires most { EachHas (λ v. length (vec_bits (read_by T.BitRegister O.position) v) + more ≤ MAX_BITS) lists.old }
     ensures same { Becomes (λ k. HasBits (read_by T.BitRegister O.position) (λ bits. bits)) lists.old lists.new }
     ensures ok { OnOk result (EachHas (λ v. HasRoomFor (read_by T.BitRegister O.position) v more) lists.new) }
-    ensures succeeds { more ≡ 0 → IsOk result }
 {
     for list in lists.iter_mut() {
         list.reserve(more)?;

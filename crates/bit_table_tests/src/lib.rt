@@ -31,6 +31,8 @@ mod orders;
 #[cfg(test)]
 mod replies;
 #[cfg(test)]
+mod room;
+#[cfg(test)]
 mod rows;
 #[cfg(test)]
 mod streams;

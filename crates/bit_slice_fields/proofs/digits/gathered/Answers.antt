@@ -7,8 +7,8 @@ use Rattle.bit_slice_fields.proofs.DigitsLemmas.{gathered_none, gathered_all}
 use Rattle.bit_slice_fields.proofs.PieceLemmas.{goes_for, piece_digits, gathered_more, whole_digits}
 use Rattle.bit_slice_fields.proofs.digits.gathered.Goals as goal
 
-pub read_bits-all-requires-clause-goes : goal.read_bits-all-requires-clause-goes
-read_bits-all-requires-clause-goes g c =
+pub piece_bits-all-requires-clause-goes : goal.piece_bits-all-requires-clause-goes
+piece_bits-all-requires-clause-goes g c =
     rw c.way_of-way.ensures
     (goes_for c.args.cut.low g.T.BitRegister.BITS g.O.Positions.position c.requires.counts)
 
@@ -21,11 +21,11 @@ returns-then-is_one_piece g c =
     let len = c.parts-head.result.2 in
     let some : 0 < g.T.BitRegister.BITS = omega (arith, g.met.T.BitRegister.least_bits) in
     let is = c.is_one_piece.ensures c.if-is_one_piece.true in
-    let chunk = rw c.way_of-way.ensures at c.read_bits-all.ensures in
+    let chunk = rw c.way_of-way.ensures at c.piece_bits-all.ensures in
     let has =
-    piece_digits (way_for cut.low) reading c.parts-head.result.0.now head len 0 len head c.read_bits-all.result
+    piece_digits (way_for cut.low) reading c.parts-head.result.0.now head len 0 len head c.piece_bits-all.result
     c.digits_of.result shown some (omega arith) is.some is.few (omega arith) c.parts-head.ensures.bits
-    c.read_bits-all.type_inv c.digits_of.ensures chunk in
+    c.piece_bits-all.type_inv c.digits_of.ensures chunk in
     whole_digits (cut_weight cut g.T.BitRegister.BITS (length shown)) (length shown) c.digits_of.result shown
     (way_for cut.low) refl (rw (c.bits_of-bits.ensures, c.parts-head.ensures.len) at is)
     (rw c.parts-head.ensures.len at has)
@@ -38,8 +38,8 @@ loop-from-init g c =
       upto = omega arith;
     }
 
-pub read_bits-chunk-requires-clause-goes : goal.read_bits-chunk-requires-clause-goes
-read_bits-chunk-requires-clause-goes g c =
+pub piece_bits-chunk-requires-clause-goes : goal.piece_bits-chunk-requires-clause-goes
+piece_bits-chunk-requires-clause-goes g c =
     rw c.way_of-way.ensures
     (goes_for c.args.cut.low g.T.BitRegister.BITS g.O.Positions.position c.requires.counts)
 
@@ -54,11 +54,11 @@ loop-from-preserved g c =
     let piece = c.piece_of-piece.result in
     let some : 0 < g.T.BitRegister.BITS = omega (arith, g.met.T.BitRegister.least_bits) in
     let is = c.piece_of-piece.ensures in
-    let chunk = rw c.way_of-way.ensures at c.read_bits-chunk.ensures in
+    let chunk = rw c.way_of-way.ensures at c.piece_bits-chunk.ensures in
     let has =
     piece_digits (way_for cut.low) reading c.parts-head.result.0.now head len from piece.len (head + from)
-    c.read_bits-chunk.result c.digits_of-more.result shown some is.inside is.some is.few refl
-    c.parts-head.ensures.bits c.read_bits-chunk.type_inv c.digits_of-more.ensures chunk in
+    c.piece_bits-chunk.result c.digits_of-more.result shown some is.inside is.some is.few refl
+    c.parts-head.ensures.bits c.piece_bits-chunk.type_inv c.digits_of-more.ensures chunk in
     record {
       digits =
           gathered_more cut.low cut.le g.T.BitRegister.BITS c.bits_of-bits.result cut.head (length shown) len from

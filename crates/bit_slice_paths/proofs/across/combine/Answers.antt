@@ -12,12 +12,12 @@ returns g c =
       | then-first-gt0 w ↦
           combines_more (read_by g.R.BitRegister g.O.Positions.position)
           (read_by g.Q.BitRegister g.P.Positions.position) c.args.words.now w.combine_rest.new.words
-          c.combine_behind.new.words c.args.others.now c.args.place c.args.other_place first (c.args.len - first)
-          c.args.len (combined_bit c.args.how) (omega (arith, c.before_chunks-first.ensures.within))
-          w.combine_rest.ensures (rw w.words-is at c.combine_behind.ensures)
+          c.combine_chunks.new.words c.args.others.now c.args.place c.args.other_place first (c.args.len - first)
+          c.args.len (combined_bit g.H.Combining.HOW) (omega (arith, c.before_chunks-first.ensures.within))
+          w.combine_rest.ensures (rw w.words-is at c.combine_chunks.ensures)
       | else-first-gt0 w ↦
           let here : c.args.place + first ≡ c.args.place = omega (arith, w.if-first-gt0.false) in
           let there : c.args.other_place + first ≡ c.args.other_place = omega (arith, w.if-first-gt0.false) in
           let all : c.args.len - first ≡ c.args.len = omega (arith, w.if-first-gt0.false) in
-          rw (here, there, all, w.words-is) at c.combine_behind.ensures
+          rw (here, there, all, w.words-is) at c.combine_chunks.ensures
     ]

@@ -6,6 +6,6 @@ pub returns : goal.returns
 returns g c =
     let reading = read_by g.R.BitRegister g.O.Positions.position in
     let its = read_by g.Q.BitRegister g.P.Positions.position in
-    agrees_chunk reading its c.args.words.now c.args.others.now c.args.place c.args.other_place c.args.count c.args.direction
+    agrees_chunk reading its c.args.words.now c.args.others.now c.args.place c.args.other_place c.args.count c.direction_for-direction.result
     c.read_bits-chunk.result c.read_bits-other.result c.first_difference.result c.min.result c.requires.few c.read_bits-chunk.ensures
     c.read_bits-other.ensures c.first_difference.ensures c.min.ensures

@@ -1,9 +1,7 @@
-use Rattle.std.proofs.Common.{◌≡◌, ◌+◌, ◌-◌, ◌∙◌, refl, inl, inr, arith}
+use Rattle.std.proofs.Common.{◌≡◌, ◌+◌, ◌-◌, ◌∙◌, refl, arith}
 use Rattle.bit_addressing_memory.specs.Memory.{read_by}
-use Rattle.bit_slice_paths.proofs.RotationLemmas.{rotated_none, exchanged_front, exchanged_back}
+use Rattle.bit_slice_paths.proofs.RotationLemmas.{exchanged_front, exchanged_back}
 use Rattle.bit_slice_paths.proofs.rotation.rotate.Goals as goal
-use Rattle.bit_slice_paths.proofs.rotation.rotate.Goals.{then-left-eq0-via-then-left-eq0}
-use Rattle.bit_slice_paths.proofs.rotation.rotate.Goals.{then-left-eq0-via-else-left-eq0+then-right-eq0}
 
 pub loop-left-init : goal.loop-left-init
 loop-left-init g c =
@@ -44,21 +42,9 @@ loop-left-preserved g c =
       words = swapped.ensures.words ∙ c.loop-left.invariant.words;
     }
 
-pub returns-then-left-eq0 : goal.returns-then-left-eq0
-returns-then-left-eq0 g c =
-    let reading = read_by g.R.BitRegister g.O.Positions.position in
-    let left = c.loop-left.left in
-    let right = c.loop-left.right in
-    c.loop-left.invariant.rest c.loop-left.words
-    (rotated_none reading c.loop-left.words c.loop-left.first (left + right) left (elim c.then-left-eq0.branch [
-      | then-left-eq0-via-then-left-eq0 w ↦ inl (omega (arith, w.if-left-eq0.true))
-      | then-left-eq0-via-else-left-eq0+then-right-eq0 w ↦ inr (omega (arith, w.if-right-eq0.true))
-    ]))
-
-pub returns-else-left-le-HELD : goal.returns-else-left-le-HELD
-returns-else-left-le-HELD g c =
-    let reading = read_by g.R.BitRegister g.O.Positions.position in
+pub returns-else-left-right-2 : goal.returns-else-left-right-2
+returns-else-left-right-2 g c =
     let left = c.loop-left.left in
     let right = c.loop-left.right in
     let by : left + right - right ≡ left = omega arith in
-    c.loop-left.invariant.rest c.hold_last.new.words (rw by at c.hold_last.ensures)
+    c.loop-left.invariant.rest c.move_up.new.words (rw by at c.move_up.ensures)

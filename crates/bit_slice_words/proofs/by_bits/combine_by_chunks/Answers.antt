@@ -17,7 +17,7 @@ loop-k-preserved g c =
     record {
       combined =
           combines_more reading reading c.args.words.now c.loop-k.words c.combine.new.words c.args.others.now c.args.place
-          c.args.other_place done count (min (64 * (c.loop-k.k + 1)) all) (combined_bit c.args.how) sum
+          c.args.other_place done count (min (64 * (c.loop-k.k + 1)) all) (combined_bit g.H.Combining.HOW) sum
           (rw low at c.loop-k.invariant.combined) c.combine.ensures;
       steps =
           takes_join c.args.steps.now c.loop-k.steps c.many.new.self done count (min (64 * (c.loop-k.k + 1)) all) sum

@@ -9,7 +9,7 @@ abbrev pub invariant-loop-k : goal.invariant-loop-k
 invariant-loop-k g l =
     let reading = read_by g.R.BitRegister g.O.Positions.position in
     record {
-      combined : Combines reading l.fn.words l.words l.place (min (64 * l.k) l.len) (combined_bit l.how) reading l.others
+      combined : Combines reading l.fn.words l.words l.place (min (64 * l.k) l.len) (combined_bit g.H.Combining.HOW) reading l.others
           l.other_place;
       steps : Takes l.fn.steps l.steps (min (64 * l.k) l.len) (min (64 * l.k) l.len);
     }

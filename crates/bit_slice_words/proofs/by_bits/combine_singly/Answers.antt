@@ -11,8 +11,8 @@ loop-k-preserved g c =
     record {
       combined =
           combines_more reading c.args.words.now c.loop-k.words c.write_entry.new.words c.args.place k
-          (combined_bit c.args.how) reading c.args.others.now c.args.other_place c.read_entry-bit.result
+          (combined_bit g.H.Combining.HOW) reading c.args.others.now c.args.other_place c.read_entry-bit.result
           c.read_entry-other.result c.combined.result c.read_entry-bit.ensures.value c.read_entry-other.ensures.value
-          c.combined.ensures c.loop-k.invariant.combined c.write_entry.ensures.written;
+          (rw c.HOW.ensures at c.combined.ensures) c.loop-k.invariant.combined c.write_entry.ensures.written;
       steps = takes_more _ _ _ k c.step.ensures c.loop-k.invariant.steps;
     }

@@ -7,6 +7,6 @@ abbrev pub invariant-loop-k : goal.invariant-loop-k
 invariant-loop-k g l =
     let reading = read_by g.R.BitRegister g.O.Positions.position in
     record {
-      combined : Combines reading l.fn.words l.words l.place l.k (combined_bit l.how) reading l.others l.other_place;
+      combined : Combines reading l.fn.words l.words l.place l.k (combined_bit g.H.Combining.HOW) reading l.others l.other_place;
       steps : Takes l.fn.steps l.steps l.k l.k;
     }

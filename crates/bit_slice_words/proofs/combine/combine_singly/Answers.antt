@@ -8,6 +8,6 @@ loop-k-preserved g c =
     let reading = read_by g.R.BitRegister g.O.Positions.position in
     let its = read_by g.Q.BitRegister g.P.Positions.position in
     combines_more reading c.args.words.now c.loop-k.words c.write_entry.new.words c.args.place c.loop-k.k
-    (combined_bit c.args.how) its c.args.others.now c.args.other_place c.read_entry-bit.result
+    (combined_bit g.H.Combining.HOW) its c.args.others.now c.args.other_place c.read_entry-bit.result
     c.read_entry-other.result c.combined.result c.read_entry-bit.ensures.value c.read_entry-other.ensures.value
-    c.combined.ensures c.loop-k.invariant c.write_entry.ensures.written
+    (rw c.HOW.ensures at c.combined.ensures) c.loop-k.invariant c.write_entry.ensures.written

@@ -5,4 +5,4 @@ use Rattle.bit_slice_words.proofs.combine.combine_singly.Given as goal
 abbrev pub invariant-loop-k : goal.invariant-loop-k
 invariant-loop-k g l =
     Combines (read_by g.R.BitRegister g.O.Positions.position) l.fn.words l.words l.place l.k
-    (combined_bit l.how) (read_by g.Q.BitRegister g.P.Positions.position) l.others l.other_place
+    (combined_bit g.H.Combining.HOW) (read_by g.Q.BitRegister g.P.Positions.position) l.others l.other_place

@@ -9,6 +9,9 @@ use Rattle.bit_table.proofs.marks.mark_by_blocks.Given as goal
 abbrev pub invariant-loop-block : goal.invariant-loop-block
 invariant-loop-block g l =
     let bits = vec_bits (read_by g.T.BitRegister g.O.Positions.position) l.bits in
-    let rows = rows_from l.layout (length l.initial.letters) bits in
+    let rows = rows_from l.layout (length l.initial.letters.sets) bits in
     let flags = map (λ row. passes l.test (number_in_field (Some l.field) row) l.value) rows in
-    l.letters ≡ told l.letter (take (64 * l.block) flags) l.initial.letters
+    record {
+      sets : l.letters.sets ≡ told l.letter (take (64 * l.block) flags) l.initial.letters.sets;
+      space : l.letters.space ≡ l.initial.letters.space;
+    }

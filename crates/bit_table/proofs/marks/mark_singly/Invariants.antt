@@ -9,6 +9,9 @@ use Rattle.bit_table.proofs.marks.mark_singly.Given as goal
 abbrev pub invariant-loop-row : goal.invariant-loop-row
 invariant-loop-row g l =
     let bits = vec_bits (read_by g.T.BitRegister g.O.Positions.position) l.bits in
-    let rows = rows_from l.layout (length l.initial.letters) bits in
+    let rows = rows_from l.layout (length l.initial.letters.sets) bits in
     let flags = map (λ row. passes l.test (number_in_field (Some l.field) row) l.value) rows in
-    l.letters ≡ told l.letter (take l.row flags) l.initial.letters
+    record {
+      sets : l.letters.sets ≡ told l.letter (take l.row flags) l.initial.letters.sets;
+      space : l.letters.space ≡ l.initial.letters.space;
+    }

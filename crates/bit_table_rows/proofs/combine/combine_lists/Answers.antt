@@ -37,4 +37,8 @@ returns-else-other-letter-clause-changed g c =
     (λ w old new. HasBits reading (λ bits. zip2 (combined c.args.op) bits (vec_bits reading w)) old new)
     c.args.lists.now c.args.letter c.args.other c.index-lists-letter.result c.combine_alone.new.list c.requires.letter
     (omega (arith, c.if-letter-other.false, c.if-other-letter.false))
-    (record { bits = c.combine_alone.ensures.bits; head = c.combine_alone.ensures.head })
+    (record {
+      bits = c.combine_alone.ensures.bits;
+      head = c.combine_alone.ensures.head;
+      room = c.combine_alone.ensures.room;
+    })

@@ -29,6 +29,7 @@ returns-then-words_are_zero-clause-bits g c =
           ∙ ap (λ k. replicate k false) c.requires.left
           ∙ sym (none_left off xs (c.requires.flags ∙ sym c.requires.column.len) none);
       head = (c.leave_zeros.ensures.bits).head;
+      room = (c.leave_zeros.ensures.bits).room;
     }
 
 -- the bits are rows of one bit
@@ -44,4 +45,5 @@ returns-clause-bits g c =
           ∙ ap (λ flags. kept 1 flags xs) c.as_bitslice-2.ensures.bits
           ∙ rows_that_stay 1 (λ n bits. bits) bits_as_rows c.args.n off xs c.requires.flags all;
       head = c.keep_rows_of-left.ensures.head;
+      room = omega (arith, c.keep_rows_of-left.ensures.room);
     }

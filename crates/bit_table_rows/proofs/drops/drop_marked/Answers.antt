@@ -4,7 +4,7 @@ use Rattle.std.specs.List.{count_by}
 use Rattle.std.proofs.lemmas.List.{get_or_default, get_or-set_same, get_or-set_other, length-set}
 use Rattle.std.proofs.lemmas.List.Sums.{count_by-le-length}
 use Rattle.bit_addressing_memory.specs.Memory.{read_by, touched}
-use Rattle.bit_containers_vector.specs.Vector.{vec_bits, vec_head}
+use Rattle.bit_containers_vector.specs.Vector.{vec_bits, vec_head, room}
 use Rattle.bit_table_rows.specs.Lists.{HasBits, IsColumn}
 use Rattle.bit_table_rows.proofs.DropLemmas.{own_left}
 use Rattle.bit_table_rows.proofs.WalkLemmas.{holds_goes_on, walk_changes, walk_closes, walk_skips}
@@ -106,6 +106,7 @@ returns-clause-dropped g c =
           ∙ sym (own_left (vec_bits reading (get_or old x d)))
           ∙ ap (λ u. left_of (vec_bits reading (get_or old x d)) (vec_bits reading u)) (sym (here d) ∙ here e);
       head = (c.leave_zeros.ensures.bits).head ∙ ap vec_head (here e);
+      room = subst (λ u. room reading u ≤ room reading c.leave_zeros.new.list) (here e) (c.leave_zeros.ensures.bits).room;
     })
 
 pub leave_zeros-requires-clause-few : goal.leave_zeros-requires-clause-few

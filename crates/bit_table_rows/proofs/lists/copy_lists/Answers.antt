@@ -29,6 +29,7 @@ loop-i-preserved g c =
     (record {
       bits = grown.bits ∙ ap (λ u. vec_bits reading (get_or lists i v) ++ vec_bits other u) (c.index-others-i.is ∙ get_or_default others i w d there);
       head = grown.head;
+      room = (c.in_ok-extend_from_bitslice.ensures).room;
     }))
 
 pub returns : goal.returns

@@ -26,5 +26,6 @@ returns-clause-ok g c =
           is ∙ ap (λ ys. bits_edited_by 1 ys c.args.edit xs) row
           ∙ bits_edited_one c.args.edit false xs c.args.n c.requires.column.len c.requires.range;
       head = c.edit_rows.ensures.head;
+      room = c.edit_rows.ensures.room;
     })
     c.edit_rows.ensures.bits

@@ -1,19 +1,10 @@
 use Rattle.std.proofs.Common.{◌≡◌, ◌<◌, length, get_or, ◌∙◌, subst, arith}
-use Rattle.std.proofs.lemmas.Bool.{false≢true}
 use Rattle.std.proofs.lemmas.List.{get_or_default}
 use Rattle.bit_addressing_memory.specs.Memory.{read_by}
-use Rattle.bit_containers_vector.proofs.CallerLemmas.{room_holds}
 use Rattle.bit_containers_vector.specs.Vector.{HasRoomFor}
 use Rattle.bit_table_rows.specs.Lists.{HasBits}
 use Rattle.bit_table_rows.proofs.WalkLemmas.{holds_goes_on, walk_goes_on}
 use Rattle.bit_table_rows.proofs.lists.reserve_lists.Goals as goal
-
-pub returns-in_err-reserve-clause-succeeds : goal.returns-in_err-reserve-clause-succeeds
-returns-in_err-reserve-clause-succeeds g c none =
-    let reading = read_by g.T.BitRegister g.O.Positions.position in
-    let v = c.list-item.result in
-    absurd (false≢true ((c.in_err-reserve.ensures).succeeds
-    (rw none (rw (← c.list-item.is) (room_holds {g = g.T.BitRegister} g.O.Positions.position v)))))
 
 pub loop-list-preserved : goal.loop-list-preserved
 loop-list-preserved g c =
@@ -30,7 +21,11 @@ loop-list-preserved g c =
           (λ d. let was : v ≡ get_or c.args.lists.now i d =
           c.list-item.is ∙ get_or_default lists i v d low ∙ h.same.rest i d (omega arith) in
           subst (λ old. HasBits reading (λ bits. bits) old c.reserve.new.self) was
-          (record { bits = rw (← c.list-item.is) at c.reserve.ensures.same.bits; head = rw (← c.list-item.is) at c.reserve.ensures.same.head }));
+          (record {
+            bits = rw (← c.list-item.is) at c.reserve.ensures.same.bits;
+            head = rw (← c.list-item.is) at c.reserve.ensures.same.head;
+            room = rw (← c.list-item.is) at c.reserve.ensures.same.room;
+          }));
       room =
           holds_goes_on (λ v. HasRoomFor reading v c.args.more) i lists c.reserve.new.self low h.room
           (c.in_ok-reserve.ensures).ok;

@@ -22,6 +22,15 @@ returns-in-Some-clause-succeeds g c sure none =
     c.self.view_is h.0 h.1 h.2 _ c.is_some.ensures)) in
     absurd cc
 
+pub returns-in-Some-clause-within : goal.returns-in-Some-clause-within
+returns-in-Some-clause-within g c sure none =
+    let t = c.self.inside in
+    let h = c.self.invariant in
+    let e : cause_in c.args.self.now.shape c.args.command.now ≡ Some c.in-Some.cause =
+    sym (c.in-Some.ensures _ (is_table_of _ t.layout _ _ _
+    c.self.view_is h.0 h.1 h.2 _ c.is_some.ensures)) in
+    absurd cc
+
 pub returns-in-Some-clause-image : goal.returns-in-Some-clause-image
 returns-in-Some-clause-image g c =
     let t = c.self.inside in

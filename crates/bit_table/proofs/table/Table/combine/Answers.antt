@@ -9,7 +9,7 @@ pub returns-clause-shape : goal.returns-clause-shape
 returns-clause-shape g c =
     let t = c.self.inside in
     let h = c.self.invariant in
-    let letters = rw (c.index.ensures.index, c.index-2.ensures.index) at c.combine.ensures.rows in
+    let letters = rw (c.index.ensures.index, c.index-2.ensures.index) at c.combine.ensures.sets in
     shape_after _ t.layout _ _ _ c.self.view_is h.0 h.1 h.2 (Combine c.args.op c.args.x c.args.y) _ _
     (rows_decided t.layout _ h.1 c.args.x
     (λ letters. combined c.args.op (bears c.args.x letters) (bears c.args.y letters)) _ letters) refl

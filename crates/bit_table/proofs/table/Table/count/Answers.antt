@@ -12,6 +12,6 @@ returns g c =
     let t = c.self.inside in
     let h = c.self.invariant in
     let x = c.args.letter in
-    ap Count (c.count.ensures ∙ ap (λ k. count_by (bears k) t.letters) c.index.ensures.index
-    ∙ count-lettered x (rows_from t.layout t.rows _) t.letters (as_many t.layout _ h.1)
+    ap Count (c.count.ensures ∙ ap (λ k. count_by (bears k) t.letters.sets) c.index.ensures.index
+    ∙ count-lettered x (rows_from t.layout t.rows _) t.letters.sets (as_many t.layout _ h.1)
     ∙ ap (count_by (row_bears x)) (rows_are _ t.layout _ _ _ c.self.view_is h.0 h.1 h.2))

@@ -27,7 +27,17 @@ edit_rows-requires g c =
 
 pub returns-clause-succeeds : goal.returns-clause-succeeds
 returns-clause-succeeds g c few =
-    c.edit_rows.ensures.succeeds ((does_all c.args.row_edit c.args.command.now c.requires.edit).succeeds few)
+    let none = (does_all c.args.row_edit c.args.command.now c.requires.edit).succeeds few in
+    c.edit_rows.ensures.succeeds (omega (arith, none))
+
+pub returns-clause-within : goal.returns-clause-within
+returns-clause-within g c is =
+    c.edit_rows.ensures.succeeds ((does_all c.args.row_edit c.args.command.now c.requires.edit).within c.args.self.now is)
+
+pub returns-clause-room : goal.returns-clause-room
+returns-clause-room g c =
+    let d = does_all c.args.row_edit c.args.command.now c.requires.edit in
+    on_ok c.edit_rows.result (d.rooms c.args.self.now _) c.edit_rows.ensures.room
 
 pub returns-clause-ok : goal.returns-clause-ok
 returns-clause-ok g c =

@@ -28,5 +28,5 @@ returns g c =
     ap Numbers (c.new-2.ensures ∙ made
     ∙ ap (λ row. option_map_or (λ (row : Row). row.numbers) row [])
     (sym (row_read t.layout t.rows _ h.1.fits c.args.row low))
-    ∙ sym (numbers_at-lettered c.args.row (rows_from t.layout t.rows _) t.letters)
+    ∙ sym (numbers_at-lettered c.args.row (rows_from t.layout t.rows _) t.letters.sets)
     ∙ ap (numbers_at c.args.row) (rows_are _ t.layout _ _ _ c.self.view_is h.0 h.1 h.2))

@@ -9,6 +9,6 @@ returns-clause-shape g c =
     let t = c.self.inside in
     let h = c.self.invariant in
     let x = c.args.letter in
-    let letters = rw c.index.ensures.index at c.invert.ensures in
+    let letters = rw c.index.ensures.index at c.invert.ensures.sets in
     shape_after _ t.layout _ _ _ c.self.view_is h.0 h.1 h.2 (Not x) _ _
     (rows_decided t.layout _ h.1 x (λ letters. not (bears x letters)) _ letters) refl

@@ -9,6 +9,6 @@ returns-clause-bits g c =
     let t = c.self.inside in
     let h = c.self.invariant in
     let x = c.args.letter in
-    c.list.ensures.bits ∙ ap (λ k. map (bears k) t.letters) c.index.ensures.index
+    c.list.ensures.bits ∙ ap (λ k. map (bears k) t.letters.sets) c.index.ensures.index
     ∙ ap (map (bears x)) (letters_are _ t.layout _ _ _ c.self.view_is h.0 h.1 h.2)
     ∙ bears-letters x c.args.self.now.shape.rows

@@ -1,4 +1,4 @@
-use Rattle.std.proofs.Common.{Some, length, ap, ◌∙◌, refl}
+use Rattle.std.proofs.Common.{Some, length, ap, ◌∙◌, refl, arith}
 use mir.Syntax.{w128}
 use Rattle.std.proofs.lemmas.Int.{to_z-of_z}
 use Rattle.bit_table_commands.specs.Marks.{number_in_field, passes}
@@ -15,11 +15,12 @@ invariant_of-self g c =
       record {
         fits = h.1.fits;
         room = h.1.room;
-        marked = ap length c.mark_rows.ensures ∙ length-told _ _ t.letters ∙ h.1.marked;
+        marked = ap length c.mark_rows.ensures.sets ∙ length-told _ _ t.letters.sets ∙ h.1.marked;
       },
       h.2,
       h.3,
       h.4,
+      record { within = h.5.within; bits = h.5.bits; letters = omega (arith, h.5.letters, c.mark_rows.ensures.space) },
     )
 
 pub returns-clause-shape : goal.returns-clause-shape
@@ -27,7 +28,7 @@ returns-clause-shape g c =
     let t = c.self.inside in
     let h = c.self.invariant in
     let value = to_z-of_z w128 c.args.value c.ranges.value in
-    let letters = rw (c.index-letter.ensures.index, value, h.1.marked) at c.mark_rows.ensures in
+    let letters = rw (c.index-letter.ensures.index, value, h.1.marked) at c.mark_rows.ensures.sets in
     rw c.in-Some.is (shape_after _ t.layout _ _ _ c.self.view_is h.0 h.1 h.2
     (Mark c.args.letter (Some c.in-Some.field) c.args.test c.args.value) _ _
     (rows_told_by t.layout _ h.1 c.args.letter

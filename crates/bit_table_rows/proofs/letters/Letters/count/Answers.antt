@@ -5,6 +5,7 @@ use Rattle.bit_containers_vector.specs.Vector.{vec_bits}
 use Rattle.bit_table_commands.specs.LetterSets.{bears}
 use Rattle.bit_table_rows.proofs.ColumnLemmas.{column_is, column_size}
 use Rattle.bit_table_rows.proofs.MarkLemmas.{column_marked, ones_mapped}
+use Rattle.bit_table_rows.proofs.SpaceLemmas.{sets_are}
 use Rattle.bit_table_rows.proofs.letters.Letters.count.Goals as goal
 
 pub returns : goal.returns
@@ -15,8 +16,8 @@ returns g c =
     let x = c.args.letter in
     let d = c.index-self-letter.result in
     c.count_ones.ensures
-    ∙ ap (count_by (λ b. b)) (sym (column_is reading n lists c.self.invariant x d c.requires)
+    ∙ ap (count_by (λ b. b)) (sym (column_is reading n lists c.self.invariant.0 x d c.requires)
     ∙ sym (column_marked (map (vec_bits reading) lists) n x c.requires
-    (column_size reading n lists c.self.invariant x c.requires))
-    ∙ ap (map (bears x)) c.self.view_is)
-    ∙ ones_mapped (bears x) c.args.self.now
+    (column_size reading n lists c.self.invariant.0 x c.requires))
+    ∙ ap (map (bears x)) (sets_are c.self.view_is))
+    ∙ ones_mapped (bears x) c.args.self.now.sets

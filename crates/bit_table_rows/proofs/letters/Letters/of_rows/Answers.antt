@@ -4,6 +4,8 @@ use Rattle.bit_addressing_memory.specs.Memory.{read_by}
 use Rattle.bit_containers_vector.specs.Vector.{vec_bits}
 use Rattle.bit_table_rows.proofs.ColumnLemmas.{column_after, column_size, columns_after, columns_short, none_of}
 use Rattle.bit_table_rows.proofs.PutLemmas.{marks_blank}
+use Rattle.bit_table_rows.proofs.SpaceLemmas.{space_held}
+use Rattle.bit_table_rows.specs.Lists.{AreColumns}
 use Rattle.bit_table_rows.proofs.letters.Letters.of_rows.Goals as goal
 
 pub extend_lists-requires : goal.extend_lists-requires
@@ -24,12 +26,15 @@ invariant_of-result g c =
     let blank = vec_bits reading c.in_ok-blank.blank in
     let size : length blank ≡ c.args.rows =
     ap length (c.in_ok-blank.ensures).bits ∙ length-replicate c.args.rows false in
-    columns_after reading 0 c.empty_lists-lists.result c.empty_lists-lists.ensures c.extend_lists.new.lists c.args.rows
+    let lists = c.extend_lists.new.lists in
+    let are : AreColumns reading c.args.rows lists =
+    columns_after reading 0 c.empty_lists-lists.result c.empty_lists-lists.ensures lists c.args.rows
     (λ bits. bits ++ blank) c.in_ok-extend_lists.ensures c.requires
-    (λ xs none. omega (arith, length-append xs blank, none, size))
+    (λ xs none. omega (arith, length-append xs blank, none, size)) in
+    (are, space_held g.O.Positions.position c.args.rows lists are)
 
-pub returns : goal.returns
-returns g c =
+pub returns-clause-sets : goal.returns-clause-sets
+returns-clause-sets g c =
     let reading = read_by g.T.BitRegister g.O.Positions.position in
     let lists = c.empty_lists-lists.result in
     let h = c.empty_lists-lists.ensures in

@@ -1,0 +1,22 @@
+use Rattle.std.proofs.Common.{◌≡◌, ◌+◌, ◌-◌, ◌*◌, ◌/◌, ◌%◌, inr, arith}
+use Rattle.bit_addressing_memory.specs.Memory.{read_by}
+use Rattle.bit_slice_paths.proofs.RotationLemmas.{rotated_none, rotated_back_more}
+use Rattle.bit_slice_paths.proofs.rotation.move_up.Goals as goal
+
+pub loop-k-init : goal.loop-k-init
+loop-k-init g c =
+    let all : c.args.len - 0 ≡ c.args.len = omega arith in
+    rotated_none (read_by g.R.BitRegister g.O.Positions.position) c.args.words.now c.args.place c.args.len _ (inr all)
+
+pub loop-k-preserved : goal.loop-k-preserved
+loop-k-preserved g c =
+    let k = c.loop-k.k in
+    rotated_back_more (read_by g.R.BitRegister g.O.Positions.position) c.args.words.now c.loop-k.words c.hold_last.new.words
+    c.args.place c.args.len (64 * k) 64 (64 * (k + 1)) (omega arith) (omega arith) c.loop-k.invariant c.hold_last.ensures
+
+pub returns-then-rest-gt0 : goal.returns-then-rest-gt0
+returns-then-rest-gt0 g c =
+    let whole : c.loop-k.k ≡ c.args.by / 64 = omega arith in
+    rotated_back_more (read_by g.R.BitRegister g.O.Positions.position) c.args.words.now c.loop-k.words c.hold_last-then-rest-gt0.new.words
+    c.args.place c.args.len (64 * (c.args.by / 64)) (c.args.by % 64) c.args.by (omega arith) c.requires.most
+    (rw whole at c.loop-k.invariant) c.hold_last-then-rest-gt0.ensures

@@ -1,0 +1,57 @@
+//! What two bits make, as a type: a walk has it as a constant, and asks nothing of each chunk.
+
+ghost use Rattle.bit_slice_chunks.specs.declared.combination.Combination.{Combination};
+
+use bit_slice_chunks::Combination;
+
+/// What two bits make.
+pub trait Combining {
+    ghost HOW: { Combination };
+
+    /// The same as a value.
+    const HOW: Combination;
+}
+
+/// The other one: a copy.
+pub struct Taken;
+
+impl Combining for Taken {
+    ghost use Rattle.bit_slice_chunks.specs.declared.combination.Combination.TheVariants.{Take};
+
+    ghost HOW = { Take };
+
+    const HOW: Combination = Combination::Take;
+}
+
+/// A 1 where both are.
+pub struct Both;
+
+impl Combining for Both {
+    ghost use Rattle.bit_slice_chunks.specs.declared.combination.Combination.TheVariants.{And};
+
+    ghost HOW = { And };
+
+    const HOW: Combination = Combination::And;
+}
+
+/// A 1 where one of them is.
+pub struct Either;
+
+impl Combining for Either {
+    ghost use Rattle.bit_slice_chunks.specs.declared.combination.Combination.TheVariants.{Or};
+
+    ghost HOW = { Or };
+
+    const HOW: Combination = Combination::Or;
+}
+
+/// A 1 where they differ.
+pub struct Differing;
+
+impl Combining for Differing {
+    ghost use Rattle.bit_slice_chunks.specs.declared.combination.Combination.TheVariants.{Xor};
+
+    ghost HOW = { Xor };
+
+    const HOW: Combination = Combination::Xor;
+}

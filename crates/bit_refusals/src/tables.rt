@@ -1,0 +1,208 @@
+//! Calls of a table: a layout line and lines that are carried out on it, and then the line of the call.
+
+ghost use Rattle.std.specs.Prelude.{◌*◌, ◌≤◌};
+ghost use Rattle.bit_table.specs.LayoutLimits.{MAX_ROW_BITS};
+
+use crate::shown::{begin, decline, end, no_such_call, push_list, show_nothing};
+use bit_table::{
+    BitViewSized, Bits, Command, Digits, Fault, Layout, Letter, Msb0, Reply, Table, WordPaths,
+};
+use std::alloc::{AllocError, Global};
+use std::io;
+
+/// A call of the table that the lines before it make.
+pub fn table_case<A: BitViewSized, O: WordPaths<A::Store> + Digits<A::Store>>(
+    rt: &HostRuntime,
+    script: &str,
+) -> io::Result<()>
+    requires { MAX_ROW_BITS ≤ A.COUNT * A.Store.BITS }
+{
+    let (lines, call) = script.rsplit_once(';').unwrap_or(("", ""));
+    let (Some(mut twin), Some(mut table)) = (
+        table_of::<A, O>(rt.alloc(), lines)?,
+        table_of::<A, O>(rt.alloc(), lines)?,
+    ) else {
+        return no_such_call(rt);
+    };
+    show_table(rt, "before", &twin)?;
+    show_kept(rt, "before", &mut twin)?;
+    match call {
+        "!keep" => keep(rt, &mut table)?,
+        "!back" => back(rt, &mut table)?,
+        "!relay" => relay::<A, O, [u64; 16], Msb0>(rt, &table)?,
+        _ => apply(rt, &mut table, call)?,
+    }
+    show_table(rt, "after", &table)?;
+    show_kept(rt, "after", &mut table)
+}
+
+// The table that lines make.
+fn table_of<A: BitViewSized, O: WordPaths<A::Store> + Digits<A::Store>>(
+    alloc: Global,
+    script: &str,
+) -> Result<Option<Table<A, O>>, AllocError>
+    requires { MAX_ROW_BITS ≤ A.COUNT * A.Store.BITS }
+{
+    let mut lines = script.split(';');
+    let Ok(layout) = Layout::parse(alloc, lines.next().unwrap_or("").as_bytes()) else {
+        return Ok(None);
+    };
+    let mut table = Table::<A, O>::new(alloc, layout);
+    for line in lines {
+        let Ok(command) = Command::parse(alloc, table.layout(), line.as_bytes()) else {
+            return Ok(None);
+        };
+        if table.apply(&command).is_err() {
+            return Ok(None);
+        }
+    }
+    Ok(Some(table))
+}
+
+// Carries a command out, and writes the reply to it.
+fn apply<A: BitViewSized, O: WordPaths<A::Store> + Digits<A::Store>>(
+    rt: &HostRuntime,
+    table: &mut Table<A, O>,
+    line: &str,
+) -> io::Result<()> {
+    let Ok(command) = Command::parse(rt.alloc(), table.layout(), line.as_bytes()) else {
+        return no_such_call(rt);
+    };
+    begin(rt)?;
+    let outcome = table.apply(&command);
+    if let Err(Fault::Refused(cause)) = &outcome {
+        return decline(rt, cause.word());
+    }
+    end(rt, outcome.is_ok())?;
+    match outcome {
+        Ok(reply) => show_reply(rt, &reply),
+        Err(_) => show_nothing(rt),
+    }
+}
+
+// `Table::keep`.
+fn keep<A: BitViewSized, O: WordPaths<A::Store> + Digits<A::Store>>(
+    rt: &HostRuntime,
+    table: &mut Table<A, O>,
+) -> io::Result<()> {
+    begin(rt)?;
+    let outcome = table.keep();
+    end(rt, outcome.is_ok())
+}
+
+// `Table::back`.
+fn back<A: BitViewSized, O: WordPaths<A::Store> + Digits<A::Store>>(
+    rt: &HostRuntime,
+    table: &mut Table<A, O>,
+) -> io::Result<()> {
+    begin(rt)?;
+    let brought = table.back();
+    end(rt, true)?;
+    println!(rt; "made {brought}")
+}
+
+// `Table::relay`, to another storage.
+fn relay<A, O, A2, O2>(rt: &HostRuntime, table: &Table<A, O>) -> io::Result<()>
+where
+    A: BitViewSized,
+    O: WordPaths<A::Store> + Digits<A::Store>,
+    A2: BitViewSized,
+    O2: WordPaths<A2::Store> + Digits<A2::Store>,
+    requires { MAX_ROW_BITS ≤ A2.COUNT * A2.Store.BITS }
+{
+    begin(rt)?;
+    let outcome = table.relay::<A2, O2>();
+    end(rt, outcome.is_ok())?;
+    match outcome {
+        Ok(mut other) => {
+            show_table(rt, "made", &other)?;
+            show_kept(rt, "made", &mut other)
+        }
+        Err(_) => show_nothing(rt),
+    }
+}
+
+/// `Reply::line`, or `Cause::line`, of what the last line of a script is answered.
+pub fn answer_line_case<A: BitViewSized, O: WordPaths<A::Store> + Digits<A::Store>>(
+    rt: &HostRuntime,
+    script: &str,
+) -> io::Result<()>
+    requires { MAX_ROW_BITS ≤ A.COUNT * A.Store.BITS }
+{
+    let (lines, call) = script.rsplit_once(';').unwrap_or(("", ""));
+    let Some(mut table) = table_of::<A, O>(rt.alloc(), lines)? else {
+        return no_such_call(rt);
+    };
+    let Ok(command) = Command::parse(rt.alloc(), table.layout(), call.as_bytes()) else {
+        return no_such_call(rt);
+    };
+    let answer = table.apply(&command);
+    begin(rt)?;
+    let outcome = match &answer {
+        Ok(reply) => reply.line(rt.alloc()),
+        Err(Fault::Refused(cause)) => cause.line(rt.alloc()),
+        Err(Fault::Memory) => return no_such_call(rt),
+    };
+    end(rt, outcome.is_ok())?;
+    match outcome {
+        Ok(line) => show_line(rt, line.as_slice()),
+        Err(_) => show_nothing(rt),
+    }
+}
+
+// Writes a reply.
+fn show_reply(rt: &HostRuntime, reply: &Reply) -> io::Result<()> {
+    let line = reply.line(rt.alloc())?;
+    show_line(rt, line.as_slice())
+}
+
+// Writes a line that has its line end.
+fn show_line(rt: &HostRuntime, line: &[u8]) -> io::Result<()> {
+    let mut text = String::new(rt.alloc());
+    for byte in line {
+        if *byte != b'\n' {
+            text.push(char::from(*byte))?;
+        }
+    }
+    println!(rt; "made {text}")
+}
+
+// Writes a table behind a word: how many rows it has, their bits, the letters that they bear, and the words that moves
+// wrote.
+fn show_table<A: BitViewSized, O: WordPaths<A::Store> + Digits<A::Store>>(
+    rt: &HostRuntime,
+    word: &str,
+    table: &Table<A, O>,
+) -> io::Result<()> {
+    let mut text = String::new(rt.alloc());
+    push_list(&mut text, &table.row_bits())?;
+    text.push_str(" letters")?;
+    for byte in b'a'..=b'z' {
+        if let Some(letter) = Letter::new(byte) {
+            let bits = table.letter_bits(letter);
+            if bits.any() {
+                text.push(' ')?;
+                text.push(char::from(byte))?;
+                push_list(&mut text, &bits)?;
+            }
+        }
+    }
+    text.push_str(" moved")?;
+    for count in &table.moved() {
+        write!(text, " {count}")?;
+    }
+    let rows = table.rows();
+    println!(rt; "{word} {rows} {text}")
+}
+
+// Writes what a table keeps, which it does not after that.
+fn show_kept<A: BitViewSized, O: WordPaths<A::Store> + Digits<A::Store>>(
+    rt: &HostRuntime,
+    word: &str,
+    table: &mut Table<A, O>,
+) -> io::Result<()> {
+    if !table.back() {
+        return println!(rt; "{word} nothing kept");
+    }
+    show_table(rt, word, table)
+}

@@ -28,6 +28,7 @@ NEVER = {
     "into_box from_vec",
     "iter into_iter",
     "table !back",
+    "table !within",
     *(f"table {name}" for name in "delete set copy swap rotate back mark and or xor not count drop".split()),
 }
 
@@ -339,6 +340,12 @@ CALLS = [
     *("get 99", "set 0 z 1", "insert 0 9 9", "dup 0 99", "load 2 be8d", "load 9999999999999999999 00"),
 ]
 
+# Lines that want no memory where there is room for so many rows.
+WITHIN = [
+    (3, [*["insert 0 1 1"] * 3, "delete 0 2", *["insert 0 1 1"] * 2]),
+    (5, ["insert 0 7 -8", "dup 0 1", "mark z a = 7", "drop z", *["insert 0 2 2"] * 4]),
+]
+
 
 def table_of(word, script):
     layout, *lines = script.split(";")
@@ -380,6 +387,15 @@ def tables(word, script):
     table.answer(b"keep")
     case("table !keep", f"table {word} {script};!keep", before, shown_table("after", table), [unchanged])
     table = table_of(word, script)
+    for rows in (0, 3, 100):
+        told = ["room made true less false", *unchanged]
+        left = [["room made false less false", *unchanged]]
+        case("table !reserve", f"table {word} {script};reserve !{rows}", before, told, left)
+    for rows, lines in WITHIN:
+        other = copy.deepcopy(table)
+        assert all(other.answer(line.encode()) == "ok" for line in lines)
+        done = shown_table("after", other)
+        case("table !within", f"table {word} {script};{','.join(lines)}!{rows}", before, done, asks=False)
     brought = str(table.answer(b"back") == "ok").lower()
     done = [f"made {brought}", *shown_table("after", table)]
     case("table !back", f"table {word} {script};!back", before, done, asks=False)

@@ -30,7 +30,11 @@ pub fn table_case<A: BitViewSized, O: WordPaths<A::Store> + Digits<A::Store>>(
         "!keep" => keep(rt, &mut table)?,
         "!back" => back(rt, &mut table)?,
         "!relay" => relay::<A, O, [u64; 16], Msb0>(rt, &table)?,
-        _ => apply(rt, &mut table, call)?,
+        _ => match call.split_once('!') {
+            Some(("reserve ", rows)) => reserve(rt, &mut table, rows)?,
+            Some((lines, rows)) => apply_within(rt, &mut table, lines, rows)?,
+            None => apply(rt, &mut table, call)?,
+        },
     }
     show_table(rt, "after", &table)?;
     show_kept(rt, "after", &mut table)
@@ -78,6 +82,62 @@ fn apply<A: BitViewSized, O: WordPaths<A::Store> + Digits<A::Store>>(
         Ok(reply) => show_reply(rt, &reply),
         Err(_) => show_nothing(rt),
     }
+}
+
+// Makes room for some rows more, and answers whether it is there. It is asked for where the table has few rows, and few are
+// wanted.
+fn reserve_few<A: BitViewSized, O: WordPaths<A::Store> + Digits<A::Store>>(
+    table: &mut Table<A, O>,
+    rows: usize,
+) -> Option<Result<(), AllocError>> {
+    let width = table.layout().row_bits();
+    if width > 1024 || rows > 1000 || table.rows() > 1000 {
+        return None;
+    }
+    Some(table.reserve(rows))
+}
+
+// `Table::reserve`.
+fn reserve<A: BitViewSized, O: WordPaths<A::Store> + Digits<A::Store>>(
+    rt: &HostRuntime,
+    table: &mut Table<A, O>,
+    rows: &str,
+) -> io::Result<()> {
+    let rows = rows.parse::<usize>().unwrap_or(usize::MAX);
+    let room = table.room();
+    begin(rt)?;
+    let Some(outcome) = reserve_few(table, rows) else {
+        return no_such_call(rt);
+    };
+    end(rt, outcome.is_ok())?;
+    let (is_made, is_less) = (table.room() >= rows, table.room() < room);
+    println!(rt; "room made {is_made} less {is_less}")
+}
+
+// Lines that are carried out one behind the other, in room for so many rows that is made before.
+fn apply_within<A: BitViewSized, O: WordPaths<A::Store> + Digits<A::Store>>(
+    rt: &HostRuntime,
+    table: &mut Table<A, O>,
+    lines: &str,
+    rows: &str,
+) -> io::Result<()> {
+    let mut commands = Vec::new(rt.alloc());
+    for line in lines.split(',') {
+        let Ok(command) = Command::parse(rt.alloc(), table.layout(), line.as_bytes()) else {
+            return no_such_call(rt);
+        };
+        commands.push(command)?;
+    }
+    match reserve_few(table, rows.parse::<usize>().unwrap_or(usize::MAX)) {
+        Some(outcome) => outcome?,
+        None => return no_such_call(rt),
+    }
+    begin(rt)?;
+    let mut done = true;
+    for command in commands.as_slice() {
+        done = table.apply(command).is_ok() && done;
+    }
+    end(rt, done)
 }
 
 // `Table::keep`.

@@ -35,10 +35,19 @@ pub use Rattle.bit_slice_words.specs.Edits
 pub use Rattle.bit_slice_words.specs.Rotations
 pub use Rattle.bit_slice_words.specs.PathLaws
 pub use Rattle.bit_slice_words.specs.Steps
-pub use Rattle.bit_addressing_memory.specs.BitOrder
-pub use Rattle.bit_addressing_memory.specs.BitRegister
+pub use Rattle.bit_addressing_order.specs.BitIdx
+pub use Rattle.bit_addressing_order.specs.BitMask
+pub use Rattle.bit_addressing_order.specs.BitOrder
+pub use Rattle.bit_addressing_order.specs.BitRegister
+pub use Rattle.bit_addressing_order.specs.Bits
+pub use Rattle.bit_addressing_order.specs.OrderLaws
+pub use Rattle.bit_addressing_order.specs.RegisterLaws
+pub use Rattle.bit_addressing_order.specs.StepLaws
+pub use Rattle.bit_addressing_order.specs.Text
+pub use Rattle.bit_addressing_verify.specs.OrderFault
+pub use Rattle.bit_addressing_verify.specs.WordFault
+pub use Rattle.bit_addressing_span.specs.Span
 pub use Rattle.bit_addressing_memory.specs.Memory
 pub use Rattle.bit_addressing_memory.specs.Moves
-pub use Rattle.bit_addressing_memory.specs.OrderLaws
 pub use Rattle.bit_addressing_memory.specs.Sweep
 pub use Rattle.bit_addressing_memory.specs.Ways as SweepWays

@@ -10,32 +10,110 @@ mod runner;
 pub mod splitting;
 pub mod words;
 
-pub use bit_addressing_memory::{
-    BitIdx, BitOrder, BitRegister, LocalBits, Lsb0, Msb0, OrderCandidate, Positions, Sweep, Way,
-    mask_from_at, mem, move_in, select_from_at, way_for,
-};
-pub use bit_addressing_span::{BitSpanError, Domain, DomainMut, MAX_BITS, PartialElement};
-pub use bit_slice_access::{
-    BitDomainMut, BitMut, BitRangeMut, BitSliceIndexMut, BitsAccess, BitsCopy, BitsCut,
-    BitsDomains, BitsEdits, BitsFill, BitsParts, Halves, Part, WindowDomainMut,
-};
-pub use bit_slice_fields::{
-    BitField, BitFieldMut, FieldOrder, Integral, store_load_be, store_load_le,
-};
-pub use bit_slice_iterators::{
-    BitRefIter, BitValIter, BitsIter, BitsPieces, BitsPiecesMut, Chunks, ChunksExact,
-    ChunksExactMut, ChunksMut, Iter, IterMut, IterOnes, IterZeros, RChunks, RChunksExact,
-    RChunksExactMut, RChunksMut, Windows,
-};
-pub use bit_slice_splits::{
-    BitsSplits, BitsSplitsMut, RSplit, RSplitMut, RSplitN, RSplitNMut, Split, SplitInclusive,
-    SplitInclusiveMut, SplitMut, SplitN, SplitNMut,
-};
-pub use bit_slice_views::{
-    BitDomain, BitRange, BitRef, BitSlice, BitSliceIndex, BitStore, BitViewSized, Bits, ViewLimits,
-    from_ref, into_bit_domain,
-};
-pub use bit_slice_views_mut::{BitSliceMut, BitView, BitsMut, BitsWindow, Pair, from_mut};
-pub use bit_slice_words::{Steps, WordPaths, by_bits};
-pub use command::{WindowCommand, WindowReply};
+pub use bit_addressing_memory::Sweep;
+pub use bit_addressing_memory::Way;
+pub use bit_addressing_memory::move_in;
+pub use bit_addressing_memory::way_for;
+pub use bit_addressing_order::AllOrNone;
+pub use bit_addressing_order::BitEnd;
+pub use bit_addressing_order::BitIdx;
+pub use bit_addressing_order::BitIdxError;
+pub use bit_addressing_order::BitMask;
+pub use bit_addressing_order::BitOrder;
+pub use bit_addressing_order::BitPos;
+pub use bit_addressing_order::BitRegister;
+pub use bit_addressing_order::BitSel;
+pub use bit_addressing_order::Limits;
+pub use bit_addressing_order::LocalBits;
+pub use bit_addressing_order::Lsb0;
+pub use bit_addressing_order::Msb0;
+pub use bit_addressing_order::OrderCandidate;
+pub use bit_addressing_order::Positions;
+pub use bit_addressing_order::disjoint_masks;
+pub use bit_addressing_order::mask_from_at;
+pub use bit_addressing_order::mem;
+pub use bit_addressing_order::select_from_at;
+pub use bit_addressing_span::BitSpan;
+pub use bit_addressing_span::BitSpanError;
+pub use bit_addressing_span::Domain;
+pub use bit_addressing_span::DomainMut;
+pub use bit_addressing_span::DomainWords;
+pub use bit_addressing_span::MAX_BITS;
+pub use bit_addressing_span::PartialElement;
+pub use bit_addressing_verify::OrderFault;
+pub use bit_addressing_verify::WordFault;
+pub use bit_addressing_verify::verify;
+pub use bit_addressing_verify::verify_for_type;
+pub use bit_slice_access::BitDomainMut;
+pub use bit_slice_access::BitMut;
+pub use bit_slice_access::BitRangeMut;
+pub use bit_slice_access::BitSliceIndexMut;
+pub use bit_slice_access::BitsAccess;
+pub use bit_slice_access::BitsCopy;
+pub use bit_slice_access::BitsCut;
+pub use bit_slice_access::BitsDomains;
+pub use bit_slice_access::BitsEdits;
+pub use bit_slice_access::BitsFill;
+pub use bit_slice_access::BitsParts;
+pub use bit_slice_access::Halves;
+pub use bit_slice_access::Part;
+pub use bit_slice_access::WindowDomainMut;
+pub use bit_slice_fields::BitField;
+pub use bit_slice_fields::BitFieldMut;
+pub use bit_slice_fields::FieldOrder;
+pub use bit_slice_fields::Integral;
+pub use bit_slice_fields::store_load_be;
+pub use bit_slice_fields::store_load_le;
+pub use bit_slice_iterators::BitRefIter;
+pub use bit_slice_iterators::BitValIter;
+pub use bit_slice_iterators::BitsIter;
+pub use bit_slice_iterators::BitsPieces;
+pub use bit_slice_iterators::BitsPiecesMut;
+pub use bit_slice_iterators::Chunks;
+pub use bit_slice_iterators::ChunksExact;
+pub use bit_slice_iterators::ChunksExactMut;
+pub use bit_slice_iterators::ChunksMut;
+pub use bit_slice_iterators::Iter;
+pub use bit_slice_iterators::IterMut;
+pub use bit_slice_iterators::IterOnes;
+pub use bit_slice_iterators::IterZeros;
+pub use bit_slice_iterators::RChunks;
+pub use bit_slice_iterators::RChunksExact;
+pub use bit_slice_iterators::RChunksExactMut;
+pub use bit_slice_iterators::RChunksMut;
+pub use bit_slice_iterators::Windows;
+pub use bit_slice_splits::BitsSplits;
+pub use bit_slice_splits::BitsSplitsMut;
+pub use bit_slice_splits::RSplit;
+pub use bit_slice_splits::RSplitMut;
+pub use bit_slice_splits::RSplitN;
+pub use bit_slice_splits::RSplitNMut;
+pub use bit_slice_splits::Split;
+pub use bit_slice_splits::SplitInclusive;
+pub use bit_slice_splits::SplitInclusiveMut;
+pub use bit_slice_splits::SplitMut;
+pub use bit_slice_splits::SplitN;
+pub use bit_slice_splits::SplitNMut;
+pub use bit_slice_views::BitDomain;
+pub use bit_slice_views::BitRange;
+pub use bit_slice_views::BitRef;
+pub use bit_slice_views::BitSlice;
+pub use bit_slice_views::BitSliceIndex;
+pub use bit_slice_views::BitStore;
+pub use bit_slice_views::BitViewSized;
+pub use bit_slice_views::Bits;
+pub use bit_slice_views::ViewLimits;
+pub use bit_slice_views::from_ref;
+pub use bit_slice_views::into_bit_domain;
+pub use bit_slice_views_mut::BitSliceMut;
+pub use bit_slice_views_mut::BitView;
+pub use bit_slice_views_mut::BitsMut;
+pub use bit_slice_views_mut::BitsWindow;
+pub use bit_slice_views_mut::Pair;
+pub use bit_slice_views_mut::from_mut;
+pub use bit_slice_words::Steps;
+pub use bit_slice_words::WordPaths;
+pub use bit_slice_words::by_bits;
+pub use command::WindowCommand;
+pub use command::WindowReply;
 pub use runner::run_window;

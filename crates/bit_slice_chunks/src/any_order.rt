@@ -53,6 +53,32 @@ pub fn read_bits<R: BitRegister, O: BitOrder<R>>(
     }
 }
 
+/// The same by the words that these bits touch and no others: quicker than `read_bits` where few words lie behind them.
+#[inline(always)]
+pub fn read_touched<R: BitRegister, O: BitOrder<R>>(
+    direction: Direction,
+    words: &[R],
+    place: usize,
+    count: usize,
+) -> u64
+    requires some { 0 < count }
+    requires few { count ≤ 64 }
+    requires within { place + count ≤ length words.now * R.BITS }
+    requires ends { place + count < 2 ^ 64 }
+    ensures { IsChunk (read_by R.BitRegister O.position) words.now place count direction result }
+{
+    match direction_of::<R, O>() {
+        Some(way) => {
+            let chunk = transfer::read_counted::<R, O>(way, words, place, count).0;
+            faced(way, direction, chunk)
+        }
+        None => {
+            let chunk = bits_in::<R, O>(words, place, count);
+            faced(Direction::Ascending, direction, chunk)
+        }
+    }
+}
+
 /// The 64 bits of a memory from a place on, as `read_bits` has them.
 #[inline(always)]
 pub fn read_chunk<R: BitRegister, O: BitOrder<R>>(

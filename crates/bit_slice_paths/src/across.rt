@@ -3,16 +3,51 @@
 
 ghost use Rattle.std.specs.Prelude.{◌≡◌, ℕ, ◌+◌, ◌*◌, ◌^◌, ◌<◌, ◌≤◌, length};
 ghost use Rattle.bit_addressing_memory.specs.Memory.{read_by};
+ghost use Rattle.bit_slice_chunks.specs.Chunk.{IsChunk};
 ghost use Rattle.bit_slice_chunks.specs.Combined.{combined_bit, Combines};
 ghost use Rattle.bit_slice_paths.specs.Agrees.{Agrees};
 
 use crate::combining::Combining;
 use bit_addressing_memory::mem::bits_of;
-use bit_addressing_memory::{BitOrder, BitRegister};
+use bit_addressing_memory::{BitOrder, BitRegister, Direction};
 use bit_slice_chunks::any_order::{
     combine_bits, combine_chunk, direction_for, read_bits, read_chunk,
 };
 use bit_slice_chunks::first_difference;
+
+// 64 bits of a memory, read out of line.
+#[inline(never)]
+fn read_apart<R: BitRegister, O: BitOrder<R>>(
+    direction: Direction,
+    words: &[R],
+    place: usize,
+) -> u64
+    requires within { place + 64 ≤ length words.now * R.BITS }
+    requires ends { place + 64 < 2 ^ 64 }
+    ensures { IsChunk (read_by R.BitRegister O.position) words.now place 64 direction result }
+{
+    read_chunk::<R, O>(direction, words, place)
+}
+
+// 64 bits that are to be written to words of the type `R`. Where both are narrow and the positions go down, a chunk has
+// the bytes of either in reverse: of whole words, a compiler that saw it read and written would move them one by one.
+#[inline(always)]
+fn read_for<R: BitRegister, Q: BitRegister, P: BitOrder<Q>>(
+    direction: Direction,
+    others: &[Q],
+    place: usize,
+) -> u64
+    requires within { place + 64 ≤ length others.now * Q.BITS }
+    requires ends { place + 64 < 2 ^ 64 }
+    ensures { IsChunk (read_by Q.BitRegister P.position) others.now place 64 direction result }
+{
+    let are_turned = R::BITS < 64 && Q::BITS < 64 && direction == Direction::Descending;
+    if are_turned && place % bits_of::<Q>() == 0 {
+        read_apart::<Q, P>(direction, others, place)
+    } else {
+        read_chunk::<Q, P>(direction, others, place)
+    }
+}
 
 // Combines 64 bits.
 #[inline(always)]
@@ -30,7 +65,7 @@ fn combine_whole<H: Combining, R: BitRegister, O: BitOrder<R>, Q: BitRegister, P
         (combined_bit H.HOW) (read_by Q.BitRegister P.position) others.now other_place }
 {
     let direction = direction_for::<R, O>();
-    let other = read_chunk::<Q, P>(direction, others, other_place);
+    let other = read_for::<R, Q, P>(direction, others, other_place);
     combine_chunk::<R, O>(direction, H::HOW, words, place, other);
 }
 

@@ -4,7 +4,7 @@ ghost use Rattle.std.specs.Prelude.{◌+◌, ◌*◌, ◌^◌, ◌<◌, ◌≤�
 ghost use Rattle.bit_addressing_memory.specs.Memory.{read_by, Swaps};
 
 use bit_addressing_memory::{BitOrder, BitRegister, Direction};
-use bit_slice_chunks::any_order::{read_bits, read_chunk, write_bits, write_chunk};
+use bit_slice_chunks::any_order::{read_chunk, read_touched, write_bits, write_chunk};
 
 // Exchanges 64 bits with 64 behind them.
 #[inline(always)]
@@ -41,8 +41,8 @@ fn exchange_rests<R: BitRegister, O: BitOrder<R>>(
     requires ends { second + count < 2 ^ 64 }
     ensures { Swaps (read_by R.BitRegister O.position) words.old words.new first second count }
 {
-    let front = read_bits::<R, O>(direction, words, first, count);
-    let back = read_bits::<R, O>(direction, words, second, count);
+    let front = read_touched::<R, O>(direction, words, first, count);
+    let back = read_touched::<R, O>(direction, words, second, count);
     write_bits::<R, O>(direction, words, first, count, back);
     write_bits::<R, O>(direction, words, second, count, front);
 }

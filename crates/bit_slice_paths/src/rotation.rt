@@ -2,7 +2,7 @@
 //! others are moved, and so again until all have left; of many more the shorter part is first exchanged with as many at the
 //! other end, and is in place.
 
-ghost use Rattle.std.specs.Prelude.{◌+◌, ◌-◌, ◌*◌, ◌^◌, ◌<◌, ◌≤◌, length};
+ghost use Rattle.std.specs.Prelude.{◌≡◌, ◌+◌, ◌-◌, ◌*◌, ◌^◌, ◌<◌, ◌≤◌, length, true};
 ghost use Rattle.bit_addressing_memory.specs.Memory.{entry, read_by, Overwrites};
 ghost use Rattle.bit_slice_paths.specs.Rotations.{rotated_from};
 
@@ -59,8 +59,20 @@ fn hold_last<R: BitRegister, O: BitOrder<R>>(
 // How many bits are held aside at most.
 const HELD: usize = 64;
 
-// Up to how many bits go by moves alone: of more, exchanges take less time.
+// Up to how many bits of the shorter part go by moves alone: of more, exchanges take less time.
 const MOVED: usize = 256;
+
+// Whether the shorter of two parts of a rotation is exchanged. Else all bits are moved, once for each 64 that it has, which
+// takes less time where the other is over twice as long.
+#[inline(always)]
+fn are_exchanged(left: usize, right: usize) -> bool
+    ensures some_left { result ≡ true → 0 < left }
+    ensures some_right { result ≡ true → 0 < right }
+{
+    let few = left.min(right);
+    let many = left.max(right);
+    few > MOVED || few > HELD && many <= 2 * few
+}
 
 // Moves each of `len` bits towards the first of them; those that leave become the last.
 #[inline(always)]
@@ -130,7 +142,7 @@ pub fn rotate<R: BitRegister, O: BitOrder<R>>(
     let mut first = place;
     let mut left = by;
     let mut right = len - by;
-    while left > MOVED && right > MOVED {
+    while are_exchanged(left, right) {
         if left <= right {
             right -= left;
             exchange::<R, O>(direction, words, first, first + left + right, left);

@@ -29,6 +29,8 @@ mod numbers;
 #[cfg(test)]
 mod orders;
 #[cfg(test)]
+mod queue;
+#[cfg(test)]
 mod replies;
 #[cfg(test)]
 mod room;

@@ -1,9 +1,12 @@
-//! Four nibbles packed into two bytes, and the window of their bits printed.
+//! Four nibbles packed into two bytes, and the window of their bits printed, in an order of the program's own too.
 //!
 //! It stands on `bit_slice` alone.
 #![tactic(auto)]
 
+mod order;
+
 use bit_slice::*;
+use order::UpperNibbleFirst;
 use std::io;
 
 fn main(rt: HostRuntime) -> io::Result<()> {
@@ -24,5 +27,8 @@ fn main(rt: HostRuntime) -> io::Result<()> {
         bits.count_ones(),
         bits.first_one()
     )?;
-    println!(rt; "{:02x} {:02x}", bytes[0], bytes[1])
+    println!(rt; "{:02x} {:02x}", bytes[0], bytes[1])?;
+    let lawful = verify_for_type::<u8, UpperNibbleFirst>().is_ok();
+    let other = BitSlice::<u8, UpperNibbleFirst>::from_slice(&bytes);
+    println!(rt; "{other} from the upper nibble on, lawful {lawful}")
 }

@@ -8,5 +8,5 @@ returns g c =
     let reading = read_by g.R.BitRegister g.O.Positions.position in
     let its = read_by g.Q.BitRegister g.P.Positions.position in
     combines_chunk reading its c.args.words.now c.combine_chunk.new.words c.args.others.now c.args.place 64
-    c.args.other_place (combined_bit g.H.Combining.HOW) c.direction_for-direction.result c.read_chunk-other.result
-    c.read_chunk-other.ensures (rw c.HOW.ensures at c.combine_chunk.ensures)
+    c.args.other_place (combined_bit g.H.Combining.HOW) c.direction_for-direction.result c.read_for-other.result
+    c.read_for-other.ensures (rw c.HOW.ensures at c.combine_chunk.ensures)

@@ -3,8 +3,8 @@ use Rattle.bit_addressing_memory.specs.Memory.{read_by}
 use Rattle.bit_slice_paths.proofs.RotationLemmas.{exchanged_front, exchanged_back}
 use Rattle.bit_slice_paths.proofs.rotation.rotate.Goals as goal
 
-pub loop-left-init : goal.loop-left-init
-loop-left-init g c =
+pub loop-right-init : goal.loop-right-init
+loop-right-init g c =
     let all : c.args.by + (c.args.len - c.args.by) ≡ c.args.len = omega (arith, c.requires.most) in
     record {
       rest = λ after turned. rw all at turned;
@@ -12,39 +12,39 @@ loop-left-init g c =
       words = refl;
     }
 
-pub loop-left-preserved-then-left-right : goal.loop-left-preserved-then-left-right
-loop-left-preserved-then-left-right g c =
+pub loop-right-preserved-then-left-right : goal.loop-right-preserved-then-left-right
+loop-right-preserved-then-left-right g c =
     let reading = read_by g.R.BitRegister g.O.Positions.position in
-    let left = c.loop-left.left in
-    let right = c.loop-left.right in
+    let left = c.loop-right.left in
+    let right = c.loop-right.right in
     record {
       rest = λ after turned.
-          c.loop-left.invariant.rest after
-          (exchanged_front reading c.loop-left.words c.exchange.new.words after c.loop-left.first left right _ _ _
+          c.loop-right.invariant.rest after
+          (exchanged_front reading c.loop-right.words c.exchange.new.words after c.loop-right.first left right _ _ _
           c.if-left-right.true (omega arith) (omega arith) refl c.exchange.ensures turned);
-      inside = omega (arith, c.loop-left.invariant.inside);
-      words = c.exchange.ensures.words ∙ c.loop-left.invariant.words;
+      inside = omega (arith, c.loop-right.invariant.inside);
+      words = c.exchange.ensures.words ∙ c.loop-right.invariant.words;
     }
 
-pub loop-left-preserved : goal.loop-left-preserved
-loop-left-preserved g c =
+pub loop-right-preserved : goal.loop-right-preserved
+loop-right-preserved g c =
     let reading = read_by g.R.BitRegister g.O.Positions.position in
-    let left = c.loop-left.left in
-    let right = c.loop-left.right in
+    let left = c.loop-right.left in
+    let right = c.loop-right.right in
     let swapped = c.exchange-else-left-right in
     record {
       rest = λ after turned.
-          c.loop-left.invariant.rest after
-          (exchanged_back reading c.loop-left.words swapped.new.words after c.loop-left.first left right _ _ _ _ _
+          c.loop-right.invariant.rest after
+          (exchanged_back reading c.loop-right.words swapped.new.words after c.loop-right.first left right _ _ _ _ _
           (omega (arith, c.if-left-right.false)) refl refl (omega (arith, c.if-left-right.false)) refl refl
           swapped.ensures turned);
-      inside = omega (arith, c.loop-left.invariant.inside);
-      words = swapped.ensures.words ∙ c.loop-left.invariant.words;
+      inside = omega (arith, c.loop-right.invariant.inside);
+      words = swapped.ensures.words ∙ c.loop-right.invariant.words;
     }
 
 pub returns-else-left-right-2 : goal.returns-else-left-right-2
 returns-else-left-right-2 g c =
-    let left = c.loop-left.left in
-    let right = c.loop-left.right in
+    let left = c.loop-right.left in
+    let right = c.loop-right.right in
     let by : left + right - right ≡ left = omega arith in
-    c.loop-left.invariant.rest c.move_up.new.words (rw by at c.move_up.ensures)
+    c.loop-right.invariant.rest c.move_up.new.words (rw by at c.move_up.ensures)

@@ -4,8 +4,8 @@ use Rattle.bit_slice_paths.proofs.RotationLemmas.{Rotates}
 use Rattle.bit_slice_paths.proofs.rotation.rotate.Given as goal
 
 -- what rotates the bits that are left rotates all
-abbrev pub invariant-loop-left : goal.invariant-loop-left
-invariant-loop-left g l =
+abbrev pub invariant-loop-right : goal.invariant-loop-right
+invariant-loop-right g l =
     let reading = read_by g.R.BitRegister g.O.Positions.position in
     record {
       rest : (after : _) → Rotates reading l.words after l.first (l.left + l.right) l.left
@@ -14,5 +14,5 @@ invariant-loop-left g l =
       words : length l.words ≡ length l.fn.words;
     }
 
-abbrev pub decreases-loop-left : goal.decreases-loop-left
-decreases-loop-left g l = l.left + l.right
+abbrev pub decreases-loop-right : goal.decreases-loop-right
+decreases-loop-right g l = l.left + l.right

@@ -1,0 +1,6 @@
+mod WidthLemmas
+mod ListLemmas
+mod CommandLemmas
+mod SelectLemmas
+mod PackedLemmas
+mod AnswerLemmas

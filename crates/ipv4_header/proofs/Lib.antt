@@ -1,0 +1,5 @@
+pub mod NetworkLemmas
+pub mod ChecksumLemmas
+pub mod HeaderLemmas
+pub mod FieldLemmas
+pub mod LawLemmas

@@ -1,0 +1,3 @@
+pub mod Checksum
+pub mod Header
+pub mod Network

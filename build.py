@@ -1,11 +1,13 @@
 #!/usr/bin/env python3
-"""Builds the program where its sources have changed: what bit-table calls. Each crate that it stands on is proved.
+"""Builds the program, or the library for C, where its sources have changed: what bit-table and bits-lib call. Each crate
+that it stands on is proved.
 
 rt proves a crate by several jobs, but keeps about two of four processors busy, and it locks the folders of the crate
 and of all below it until it ends. So the crate with the most above it is proved where it stands, and one that does not wait
 for it beside it: in a copy of what it reads, and on what the first one leaves of the processors.
 
-usage: build.py [--stamp]   with --stamp it builds nothing, and notes that the program is that of these sources
+usage: build.py [--stamp] [CRATE]   the program where no crate is named; with --stamp it builds nothing, and notes that
+what is there was built of these sources
 """
 
 import contextlib
@@ -20,27 +22,31 @@ import time
 
 HERE = os.path.dirname(os.path.realpath(__file__))
 PROGRAM = "bit_table_program"
-OUT = f"{HERE}/crates/{PROGRAM}/out"
-BUILT, STAMP, BESIDE = f"{OUT}/{PROGRAM}", f"{OUT}/sources", f"{OUT}/beside"
+TARGET = next((word for word in sys.argv[1:] if not word.startswith("-")), PROGRAM)
+CALLER, WHAT = ("bit-table", "the program") if TARGET == PROGRAM else ("bits-lib", "the library")
+OUT = f"{HERE}/crates/{TARGET}/out"
+BUILT = f"{OUT}/{TARGET}" if TARGET == PROGRAM else f"{OUT}/lib{TARGET}.a"
+STAMP, BESIDE = f"{OUT}/sources", f"{OUT}/beside"
 START = time.monotonic()
 
 
 def tell(text):
-    print(f"bit-table: {text}", file=sys.stderr, flush=True)
+    print(f"{CALLER}: {text}", file=sys.stderr, flush=True)
 
 
 class Crates:
-    """The crates that the program stands on, and itself, each after those that it uses."""
+    """The crates that what is built stands on, and itself, each after those that it uses."""
 
     def __init__(self):
-        self.lines = {}
+        self.lines, self.heads = {}, {}
         with open(f"{HERE}/crates.txt", encoding="utf-8") as lines:
             for line in lines:
-                crate, colon, uses = line.partition("#")[0].partition(":")
+                head, colon, uses = line.partition("#")[0].partition(":")
                 if colon:
-                    self.lines[crate.split()[0]] = uses.split()
+                    crate = head.split()[0]
+                    self.lines[crate], self.heads[crate] = uses.split(), head.strip()
         self.names = []
-        self.add(PROGRAM)
+        self.add(TARGET)
         # How many bytes of sources wait for a crate, in the longest chain of crates that stand on one another.
         self.chain = {it: sum(map(os.path.getsize, self.sources(it))) for it in self.names}
         for crate in reversed(self.names):
@@ -64,14 +70,14 @@ class Crates:
                     yield f"{folder}/{file}"
 
     def stamp(self):
-        """What tells of the program that it was built of these sources: their sum, and its own."""
+        """What tells of what is built that these are its sources: their sum, and its own."""
         version = subprocess.run(["rt", "version"], stdin=subprocess.DEVNULL, stdout=subprocess.PIPE, check=True)
         sources = hashlib.sha256(version.stdout)
         for crate in self.names:
-            sources.update(f"{crate}: {self.lines[crate]}\n".encode())
+            sources.update(f"{self.heads[crate]}: {self.lines[crate]}\n".encode())
             for file in self.sources(crate):
                 sources.update(f"{os.path.relpath(file, HERE)} {sum_of(file)}\n".encode())
-        return f"{sources.hexdigest()} {sum_of(BUILT)}\n" if os.access(BUILT, os.X_OK) else ""
+        return f"{sources.hexdigest()} {sum_of(BUILT)}\n" if os.path.isfile(BUILT) else ""
 
 
 def sum_of(file):
@@ -107,7 +113,7 @@ def lay_out(crate, crates, proved):
     os.makedirs(BESIDE)
     shutil.copy(f"{HERE}/HANDLES", BESIDE)
     with open(f"{BESIDE}/crates.txt", "w", encoding="utf-8") as lines:
-        lines.writelines(f"{it}: {' '.join(crates.lines[it])}\n" for it in [*proved, crate])
+        lines.writelines(f"{crates.heads[it]}: {' '.join(crates.lines[it])}\n" for it in [*proved, crate])
     for other in [*proved, crate]:
         for part in ("src", "specs", "proofs", "out" if other == crate else "out/rlib"):
             here, beside = [f"{it}/crates/{other}/{part}" for it in (HERE, BESIDE)]
@@ -182,21 +188,21 @@ def build(crates):
 def main():
     crates = Crates()
     os.makedirs(OUT, exist_ok=True)
-    if sys.argv[1:] == ["--stamp"]:
+    if "--stamp" in sys.argv[1:]:
         put_stamp(crates)
         return 0
     if is_current(crates):
         return 0
-    # A second start waits for the first one.
-    turn = os.open(OUT, os.O_RDONLY)
+    # A second start waits for the first one, one of the other target too, since both prove the same crates.
+    turn = os.open(f"{HERE}/crates", os.O_RDONLY)
     try:
         fcntl.flock(turn, fcntl.LOCK_EX | fcntl.LOCK_NB)
     except BlockingIOError:
-        tell("another start builds the program; waiting for it")
+        tell("another start builds these crates; waiting for it")
         fcntl.flock(turn, fcntl.LOCK_EX)
     if is_current(crates):
         return 0
-    tell(f"the program is built once each of its {len(crates.names)} crates is proved: from nothing in some 27 minutes")
+    tell(f"{WHAT} is built once each of its {len(crates.names)} crates is proved: from nothing in some 27 minutes")
     tell("on four processors, after that only what has changed. What is proved stays if this is cut off")
     status = build(crates)
     if status == 0:

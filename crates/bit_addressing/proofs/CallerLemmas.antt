@@ -1,17 +1,18 @@
 -- What a caller reads off a whole run: the bits and the replies of one span, by its own commands alone; and `parts`,
 -- for those who read what they wrote into a part of a word.
 --
--- One span's commands among all: `run_bit`, `run_replies`. Commands with their numbers in range, on a list:
--- `list_of_one`, `list_in_range`, `answer_of_one`, `answer_in_range`. A reply that is seen as a bit is that bit:
--- `seen_bit`.
+-- One span's commands among all: `run_bit`, `run_replies`; none: `run_kept`. A run of one command: `run_of_one` at its
+-- span, `run_beside_one` at another. Bits of one span written by other calls: `overwritten_beside`.
+-- Commands with their numbers in range, on a list: `list_of_one`, `list_in_range`, `answer_of_one`,
+-- `answer_in_range`. A reply that is seen as a bit is that bit: `seen_bit`.
 -- The word that a domain gives first: `first_masked`.
 -- From `a <= b` of pointers to their places: `places_ordered`.
-use Rattle.std.proofs.Common.{◌≡◌, ℕ, ◌+◌, ◌<◌, Bool, true, false, List, [], ◌∷◌, length, map, get_or, refl}
+use Rattle.std.proofs.Common.{◌≡◌, ◌≢◌, ℕ, ◌+◌, ◌<◌, inl, inr, Bool, true, false, List, [], ◌∷◌, length, map, get_or, refl}
 use Rattle.std.proofs.Common.{suc, Option, Some, None, IfSome, MatchOption, sym, ap, ◌∙◌, arith}
 use Rattle.std.proofs.Common.{◌*◌, ◌≤◌}
 use Rattle.std.proofs.Math.IntN.{pos, ◌-ℤ◌, ◌*ℤ◌}
 use Rattle.std.proofs.Math.Nat.{mul-le-mul_right}
-use Rattle.std.proofs.lemmas.Bool.{false≢true}
+use Rattle.std.proofs.lemmas.Bool.{cases_lt, eq-eqb, ne_eqb, false≢true}
 use Rattle.std.proofs.lemmas.Int.{ints}
 use Rattle.std.proofs.lemmas.Map.Keys.{le_from_is_le}
 use Rattle.std.specs.Cmp.{int_ranks}
@@ -21,7 +22,7 @@ use Rattle.std.specs.Ordering.{MatchOrdering, int_cmp, nat_cmp, is_le, is_some_a
 use Rattle.std.specs.Ordering.{partial_le, partial_ordering_then}
 use Rattle.std.specs.Int.RustNames.{unsigned_abs}
 use lib.Signed.{◌≤ℤ◌, ◌<ℤ◌}
-use Rattle.bit_addressing_memory.specs.Memory.{Reading, entry, reading_in, touched}
+use Rattle.bit_addressing_memory.specs.Memory.{Reading, entry, reading_in, touched, Overwrites}
 use Rattle.bit_addressing_memory.proofs.PartsLemmas.{stored_back, stored_then_read}
 use Rattle.bit_addressing_span.specs.Parts.{AreMasked, part_from, part_upto}
 use Rattle.bit_addressing_memory.specs.Partial.{ReadsPart}
@@ -30,9 +31,10 @@ use Rattle.bit_addressing.specs.declared.command.SpanCommand.{SpanCommand}
 use Rattle.bit_addressing.specs.declared.command.SpanReply.{SpanReply}
 use Rattle.bit_addressing.specs.declared.command.SpanReply.TheVariants.{Word, Bit, Done, Refused}
 use Rattle.bit_addressing.specs.Own.{lies_in, own_after, own_answer, own_answers, own_edit, own_list, own_reading, seen}
-use Rattle.bit_addressing.specs.Runs.{Runs, commands_of, replies_of, span_at}
+use Rattle.bit_addressing.specs.Runs.{AreDisjoint, Runs, commands_of, replies_of, span_at}
 use Rattle.bit_addressing.specs.Pointer.{Pointer, whole_place}
 use Rattle.bit_addressing.proofs.CommandLemmas.{span_bit}
+use Rattle.bit_addressing.proofs.RunLemmas.{outside_other, span_bits_same}
 use Rattle.bit_addressing.proofs.PointerLemmas.{times_difference}
 
 -- bit i of the span of number s is afterwards that of the list which the span's own commands leave
@@ -47,6 +49,53 @@ run_bit reading before after spans commands replies s i own some number low mine
     sym (span_bit reading after span i some low)
     ∙ ap (λ bits. get_or bits i false) (runs.lists s number)
     ∙ ap (λ cs. get_or (own_list reading span.head cs (span_bits reading before span)) i false) mine
+
+-- a span without commands has the bits that it had
+pub run_kept : {R : Type 0} (reading : Reading R) (before after : List R) (spans : List Extent)
+    (commands : List (ℕ × SpanCommand R)) (replies : List (SpanReply R)) (s : ℕ)
+    → s < length spans → commands_of s commands ≡ [] → Runs reading before after spans commands replies
+    → span_bits reading after (span_at spans s) ≡ span_bits reading before (span_at spans s)
+unfolding own_list
+run_kept reading before after spans commands replies s number none runs =
+    runs.lists s number
+    ∙ ap (λ cs. own_list reading (span_at spans s).head cs (span_bits reading before (span_at spans s))) none
+
+-- after one command its span's list is as the command makes it
+pub run_of_one : {R : Type 0} (reading : Reading R) (before after : List R) (spans : List Extent) (s : ℕ)
+    (command : SpanCommand R) (replies : List (SpanReply R)) → s < length spans
+    → Runs reading before after spans ((s, command) ∷ []) replies
+    → span_bits reading after (span_at spans s)
+    ≡ own_after reading (span_at spans s).head command (span_bits reading before (span_at spans s))
+unfolding commands_of own_list
+run_of_one reading before after spans s command replies number runs =
+    let its : commands_of s ((s, command) ∷ []) ≡ command ∷ [] = rw (eq-eqb s s refl) refl in
+    runs.lists s number
+    ∙ ap (λ cs. own_list reading (span_at spans s).head cs (span_bits reading before (span_at spans s))) its
+
+-- and each other span's as it was
+pub run_beside_one : {R : Type 0} (reading : Reading R) (before after : List R) (spans : List Extent) (s : ℕ)
+    (command : SpanCommand R) (replies : List (SpanReply R)) (t : ℕ) → t < length spans → t ≢ s
+    → Runs reading before after spans ((s, command) ∷ []) replies
+    → span_bits reading after (span_at spans t) ≡ span_bits reading before (span_at spans t)
+unfolding commands_of
+run_beside_one reading before after spans s command replies t number other runs =
+    let none : commands_of t ((s, command) ∷ []) ≡ [] = rw (ne_eqb s t (λ same. other (sym same))) refl in
+    run_kept reading before after spans ((s, command) ∷ []) replies t number none runs
+
+-- where bits of one span are written, each other span has the bits that it had
+pub overwritten_beside : {R : Type 0} (reading : Reading R) (before after : List R) (spans : List Extent)
+    (s t place n : ℕ) (now : ℕ → Bool) → 0 < reading.bits → AreDisjoint reading.bits spans
+    → s < length spans → t < length spans → t ≢ s → span_place reading.bits (span_at spans s) ≤ place
+    → place + n ≤ span_place reading.bits (span_at spans s) + (span_at spans s).len
+    → Overwrites reading before after place n now
+    → span_bits reading after (span_at spans t) ≡ span_bits reading before (span_at spans t)
+overwritten_beside reading before after spans s t place n now some apart in_s in_t other low high writes =
+    span_bits_same reading before after (span_at spans t) some writes.words (λ p inside.
+    let out = outside_other reading.bits spans s t p apart in_s in_t (λ same. other (sym same)) inside in
+    elim (cases_lt p place) [
+      | inl below ↦ writes.below p below
+      | inr up ↦ let past = out (omega arith) in writes.above p (omega arith)
+    ])
 
 -- the replies to the span's own commands are the answers that its list gives to them
 pub run_replies : {R : Type 0} (reading : Reading R) (before after : List R) (spans : List Extent)

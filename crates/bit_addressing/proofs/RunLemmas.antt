@@ -140,7 +140,7 @@ span_entries reading one other span p some same inside =
     ∙ ap (entry reading other) at
 
 -- no place is in two spans of other numbers
-outside_other : (b : ℕ) (spans : List Extent) (s t p : ℕ) → AreDisjoint b spans → s < length spans
+pub outside_other : (b : ℕ) (spans : List Extent) (s t p : ℕ) → AreDisjoint b spans → s < length spans
     → t < length spans → s ≢ t → IsInside b (span_at spans t) p → IsOutside b (span_at spans s) p
 unfolding AreDisjoint
 outside_other b spans s t p apart in_s in_t ne inside = elim (cases_lt t s) [

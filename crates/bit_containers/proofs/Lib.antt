@@ -6,3 +6,7 @@ pub mod RetainLemmas
 pub use Rattle.bit_containers_vector.proofs.CountLemmas
 pub use Rattle.bit_containers_vector.proofs.LendLemmas
 pub use Rattle.bit_containers_vector.proofs.VectorLemmas
+-- and what proofs of those who keep bits cite
+pub use Rattle.bit_slice.proofs.BitLemmas
+pub use Rattle.bit_slice.proofs.IndexLemmas
+pub use Rattle.bit_slice.proofs.OnesLemmas

@@ -35,6 +35,7 @@ pub use Rattle.bit_slice_access.specs.PartLender
 pub use Rattle.bit_slice_access.specs.Shows
 pub use Rattle.bit_slice_iterators.specs.Indices
 pub use Rattle.bit_slice_splits.specs.Ways
+pub use Rattle.bit_slice_words.specs.Found
 pub use Rattle.bit_slice_words.specs.PathLaws
 pub use Rattle.bit_slice_words.specs.Steps
 pub use Rattle.bit_addressing_memory.specs.BitOrder

@@ -17,7 +17,6 @@ mod kept;
 mod made;
 #[cfg(test)]
 mod memory;
-pub mod numbers;
 #[cfg(test)]
 mod readme;
 #[cfg(test)]

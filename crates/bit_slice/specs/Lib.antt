@@ -1,4 +1,5 @@
 pub mod Commands
+pub mod Network
 -- what public clauses cite of the crates below
 pub use Rattle.bit_slice_views.specs.BitRef
 pub use Rattle.bit_slice_views.specs.Compare

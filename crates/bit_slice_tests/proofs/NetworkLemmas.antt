@@ -22,7 +22,7 @@ use Rattle.bit_slice_views_mut.specs.Frame.{KeepsBeside}
 use Rattle.bit_slice_fields.specs.Whole.{low_digits}
 use Rattle.bit_slice_fields.proofs.DigitsLemmas.{low_digit, same_digit}
 use Rattle.bit_slice_tests.specs.Header.{bytes_of, header_number, header_bytes}
-use Rattle.bit_slice_tests.specs.Network.{network, network_bits}
+use Rattle.bit_slice.specs.Network.{network, network_bits}
 
 -- the n bits from a place on are the digits of a number, the highest first
 pub record HoldsNumber (bytes : List ℕ) (place n number : ℕ) : Type 0 where

@@ -2,7 +2,7 @@
 
 ghost use Rattle.std.specs.Prelude.{◌≡◌, ◌+◌, ◌*◌, ◌^◌, ◌<◌, ◌≤◌, length};
 ghost use Rattle.bit_addressing_memory.specs.Memory.{memory, piece};
-ghost use Rattle.bit_slice_tests.specs.Network.{network, network_bits};
+ghost use Rattle.bit_slice.specs.Network.{network, network_bits};
 ghost use Rattle.bit_slice_fields.specs.Whole.{FitsIn};
 ghost use Rattle.bit_slice_views_mut.specs.Frame.{KeepsBeside};
 

@@ -2,7 +2,7 @@
 
 ghost use Rattle.std.specs.Prelude.{◌≡◌, ◌+◌, ◌%◌, ◌<◌, ◌≤◌, false, length};
 ghost use Rattle.bit_addressing_memory.specs.Memory.{with_piece};
-ghost use Rattle.bit_slice_tests.specs.Network.{network_bits};
+ghost use Rattle.bit_slice.specs.Network.{network_bits};
 ghost use Rattle.bit_slice_fields.specs.Number.{field_bits};
 ghost use Rattle.bit_slice_fields.specs.Whole.{FitsIn};
 

@@ -1,3 +1,4 @@
+pub mod AcceptedLemmas
 pub mod LetteredLemmas
 pub mod MarkedLemmas
 pub mod NumberLemmas
@@ -16,3 +17,5 @@ pub mod AnswerLemmas
 pub mod SessionLemmas
 pub mod CallerLemmas
 mod KnownRows
+-- what proofs of callers cite of the crates below
+pub use Rattle.bit_table_layout.proofs.LoadLemmas

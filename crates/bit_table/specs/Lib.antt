@@ -26,6 +26,14 @@ pub use Rattle.bit_table_layout.specs.Readings
 pub use Rattle.bit_table_layout.specs.Rows
 pub use Rattle.bit_table_layout.specs.CauseWords
 pub use Rattle.bit_table_layout.specs.declared.layout.TheConstants as LayoutLimits
+pub use Rattle.bit_table_layout.specs.declared.cause.Cause.TheVariants as CauseVariants
+pub use Rattle.bit_table_commands.specs.declared.command.Command
+pub use Rattle.bit_table_commands.specs.declared.command.Command.TheVariants as CommandVariants
+pub use Rattle.bit_table_commands.specs.declared.reply.Reply.TheVariants as ReplyVariants
+pub use Rattle.bit_table_commands.specs.declared.bool_op.BoolOp
+pub use Rattle.bit_table_commands.specs.declared.bool_op.BoolOp.TheVariants as BoolOpVariants
+pub use Rattle.bit_table_commands.specs.declared.test.Test
+pub use Rattle.bit_table_commands.specs.declared.test.Test.TheVariants as TestVariants
 pub use Rattle.bit_table_commands.specs.Tables
 pub use Rattle.bit_table_commands.specs.Causes
 pub use Rattle.bit_table_commands.specs.Edits

@@ -28,8 +28,8 @@ pub use bit_table_fields::{Digits, HiLo, digits_by_bits};
 pub use bit_table_image as image;
 pub use bit_table_layout::image::{is_image, loads_take_images};
 pub use bit_table_layout::{
-    Cause, Fault, Field, Layout, LayoutError, MAX_BITS, MAX_ROW_BITS, Rule, Words, is_number,
-    is_separator, number_up_to,
+    Cause, Fault, Field, Layout, LayoutError, MAX_BITS, MAX_ROW_BITS, Rule, Words, is_name,
+    is_number, is_separator, number_up_to,
 };
 pub use bit_table_rows::{keep_rows, move_rows};
 pub use machine::{LineMachine, drive};

@@ -1,7 +1,7 @@
 //! A table: rows of a layout, packed bit by bit in words of any width and order.
 
 ghost use Rattle.std.specs.Prelude.{◌≡◌, ◌≢◌, ◌+◌, ◌*◌, ◌≤◌, ◌∷◌, Bool, false, true, length, map, replicate, take, None};
-ghost use Rattle.std.specs.Prelude.{ℤ, List};
+ghost use Rattle.std.specs.Prelude.{ℤ, List, option_map, slice_get};
 ghost use Rattle.std.specs.Prelude.{is_some, IfOk, IsOk, OnOk, OnErr, IsOkUnless, IsTrue, MatchOption};
 ghost use Rattle.bit_addressing_memory.specs.Memory.{read_by};
 ghost use Rattle.bit_containers_array.specs.Array.{array_bits};
@@ -10,11 +10,11 @@ ghost use Rattle.bit_slice_views.specs.View.{view_bits, view_head};
 ghost use Rattle.bit_table_layout.specs.Images.{image_bytes, HasOnlyNumbers};
 ghost use Rattle.bit_table_layout.specs.declared.layout.TheConstants.{MAX_BITS, MAX_ROW_BITS};
 ghost use Rattle.bit_table_layout.specs.Layouts.{row_width};
-ghost use Rattle.bit_table_layout.specs.Rows.{new_row, numbers_bits, table_bits, take_all};
+ghost use Rattle.bit_table_layout.specs.Rows.{new_row, numbers_bits, table_bits, take_all, Row};
 ghost use Rattle.bit_table_commands.specs.Accepted.{IsAccepted};
 ghost use Rattle.bit_table_commands.specs.Causes.{cause_in};
 ghost use Rattle.bit_table_commands.specs.Edits.{edit, reply_to};
-ghost use Rattle.bit_table_commands.specs.Marks.{row_bears};
+ghost use Rattle.bit_table_commands.specs.Marks.{row_bears, rows_passing};
 ghost use Rattle.bit_table_commands.specs.declared.reply.Reply.TheVariants.{Done};
 ghost use Rattle.bit_table_commands.specs.Tables.{new_table, IsTable};
 ghost use Rattle.bit_table_rows.specs.RowEdit.{added, edited_by, moves_rows, taken_out, LiesIn, WhereNew};
@@ -149,6 +149,28 @@ impl<A: BitViewSized, O: WordPaths<A::Store> + Digits<A::Store>> Table<A, O> {
         ensures head { view_head result ≡ 0 }
     {
         self.letters.list(letter.index())
+    }
+
+    /// The numbers of a row, one a field, in order; `None` where there is no such row.
+    pub fn row(&self, row: u64) -> Result<Option<Numbers>, AllocError>
+        ensures { IfOk result (λ found. found
+            ≡ option_map (λ (row : Row). row.numbers) (slice_get self.now.shape.rows row)) }
+    {
+        if row >= self.rows() as u64 {
+            return Ok(None);
+        }
+        match self.get(row)? {
+            Reply::Numbers(numbers) => Ok(Some(numbers)),
+            // It is numbers that a row is told by.
+            _ => Ok(None),
+        }
+    }
+
+    /// Which rows bear the letter, ascending.
+    pub fn marked(&self, letter: Letter) -> Result<RowNumbers, AllocError>
+        ensures { IfOk result (λ rows. rows ≡ rows_passing (row_bears letter) 0 self.now.shape.rows) }
+    {
+        Ok(RowNumbers::new(places_of_ones(self.alloc, self.letter_bits(letter))?))
     }
 
     /// How many words the moves of the last edit that moved rows wrote: those of the rows' list first, then those of
@@ -570,8 +592,7 @@ impl<A: BitViewSized, O: WordPaths<A::Store> + Digits<A::Store>> Table<A, O> {
     fn list(&self, letter: Letter) -> Result<Reply, AllocError>
         ensures { IfOk result (λ reply. reply ≡ reply_to self.now.shape (Command.List letter)) }
     {
-        let rows = places_of_ones(self.alloc, self.letter_bits(letter))?;
-        Ok(Reply::Rows(RowNumbers::new(rows)))
+        Ok(Reply::Rows(self.marked(letter)?))
     }
 
     fn drop_marked(&mut self, letter: Letter) -> Reply

@@ -94,10 +94,9 @@ fn load_chunk<R: BitRegister, O: BitOrder<R>>(
     number_at::<R, O>(rule, words, place, width, signed)
 }
 
-/// The number that `Digits::load_low_at` or `Digits::load_high_at` loads, as the rule says, with no count of steps: where
-/// many are read. It is quick where the positions of the order go straight with the indices.
+// The number that `Digits::load_low_at` or `Digits::load_high_at` loads, as the rule says.
 #[inline(always)]
-pub fn number_at<R: BitRegister, O: BitOrder<R>>(
+fn number_at<R: BitRegister, O: BitOrder<R>>(
     rule: Rule,
     words: &[R],
     place: usize,

@@ -10,7 +10,6 @@ mod numbers;
 mod rows;
 
 pub use digits::Digits;
-pub use digits_by_chunks::number_at;
 pub use hi_lo::HiLo;
 pub use numbers::{load_number, store_number};
 pub use rows::{bits_before, load_row, store_row};

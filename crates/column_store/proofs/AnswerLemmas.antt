@@ -1,5 +1,6 @@
 -- Lines of CSV, and what is told of the rows that are selected.
-use Rattle.std.proofs.Common.{◌≡◌, ℕ, ◌+◌, ◌<◌, ◌≤◌, Bool, true, false, cond, List, [], ◌∷◌, ◌++◌, map, take, length, refl, sym, ap, ap₂, ◌∙◌}
+use Rattle.std.proofs.Common.{◌≡◌, ℕ, ◌+◌, ◌<◌, ◌≤◌, Bool, true, false, cond, List, [], ◌∷◌, ◌++◌, map, take}
+use Rattle.std.proofs.Common.{length, refl, sym, ap, ap₂, ◌∙◌}
 use Rattle.std.proofs.Common.{append-nil, take_all, append_assoc, length-append, ℤ, get_or}
 use Rattle.std.specs.Prelude.{count_by, filter, slice_get, Some, Result, Ok, Err, IfOk}
 use Rattle.std.specs.List.{join_with_byte, flat_map}

@@ -1,6 +1,5 @@
 mod WidthLemmas
 mod ListLemmas
-mod CommandLemmas
 mod SelectLemmas
 mod PackedLemmas
 mod AnswerLemmas

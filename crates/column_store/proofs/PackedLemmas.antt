@@ -1,14 +1,17 @@
 -- Tables that are filled, and read back.
-use Rattle.std.proofs.Common.{◌≡◌, ℕ, ℤ, ◌+◌, ◌*◌, ◌/◌, ◌≤◌, List, [], ◌∷◌, ◌++◌, length, sym, ap, ap₂, subst, ◌∙◌, arith, mul-le-mul_right}
-use Rattle.std.specs.Prelude.{Some}
+use Rattle.std.proofs.Common.{◌≡◌, ℕ, ℤ, ◌+◌, ◌*◌, ◌/◌, ◌≤◌, List, [], ◌∷◌, ◌++◌, length, sym, ap, ap₂, subst, ◌∙◌}
+use Rattle.std.proofs.Common.{arith, mul-le-mul_right}
+use Rattle.std.specs.Prelude.{Some, None}
+use Rattle.bit_table.specs.Causes.{cause_in}
 use Rattle.bit_table.specs.Edits.{edit}
 use Rattle.bit_table.specs.Images.{image_bytes}
 use Rattle.bit_table.specs.LayoutLimits.{MAX_BITS}
 use Rattle.bit_table.specs.Layouts.{LayoutShape, layout_of, row_width}
 use Rattle.bit_table.specs.Rows.{all_numbers}
 use Rattle.bit_table.specs.Tables.{TableShape, IsTable, new_table}
-use Rattle.bit_table_commands.specs.declared.command.Command.TheVariants.{Load}
-use Rattle.bit_table_layout.proofs.LoadLemmas.{all_numbers-rows_in_bytes}
+use Rattle.bit_table.specs.CommandVariants.{Load}
+use Rattle.bit_table.proofs.AcceptedLemmas.{load-accepted}
+use Rattle.bit_table.proofs.LoadLemmas.{all_numbers-rows_in_bytes}
 use Rattle.column_store.specs.Packed.{AreOf, HasRows}
 
 -- what a table loads from the line, the row count and the image of another
@@ -25,6 +28,17 @@ loaded t start new l line n image lawful are spelled fresh is =
       numbers = ap (λ s. all_numbers s.rows) whole
           ∙ all_numbers-rows_in_bytes t.layout t.rows lawful.layout lawful.rows.lawful;
     }
+
+-- and no cause refuses it
+pub not_refused : (t start : TableShape) (l : LayoutShape) (line : List ℕ) (n : ℕ) (image bytes : List ℕ) → IsTable t
+    → AreOf t line n image → layout_of line ≡ Some l → start ≡ new_table l → bytes ≡ image
+    → cause_in start (Load n bytes) ≡ None
+not_refused t start l line n image bytes lawful are spelled fresh is =
+    let same : l ≡ t.layout = let e = are.layout in cc in
+    ap (λ b. cause_in start (Load n b)) is
+    ∙ ap (λ s. cause_in s (Load n image)) (fresh ∙ ap new_table same)
+    ∙ ap₂ (λ k b. cause_in (new_table t.layout) (Load k b)) are.count are.bytes
+    ∙ load-accepted t lawful
 
 -- a new table has no rows
 pub none_packed : (l : LayoutShape) (start new : TableShape) → new ≡ start → start ≡ new_table l → HasRows l [] new

@@ -1,5 +1,6 @@
 -- What becomes of the letter of the rows that are selected.
-use Rattle.std.proofs.Common.{◌≡◌, ◌≢◌, ℕ, ◌+◌, ◌-◌, ◌^◌, ◌<◌, ◌≤◌, ◌&&◌, not, zero, suc, Bool, true, false, ℤ, pos, ◌≤ℤ◌, ◌<ℤ◌, List, [], ◌∷◌}
+use Rattle.std.proofs.Common.{◌≡◌, ◌≢◌, ℕ, ◌+◌, ◌-◌, ◌^◌, ◌<◌, ◌≤◌, ◌&&◌, not, zero, suc, Bool, true, false, ℤ, pos}
+use Rattle.std.proofs.Common.{◌≤ℤ◌, ◌<ℤ◌, List, [], ◌∷◌}
 use Rattle.std.proofs.Common.{length, map, take, get_or, refl, sym, ap, ap₂, ◌∙◌, arith, subst}
 use Rattle.std.specs.Prelude.{Option, Some, int_le, int_lt}
 use Rattle.std.specs.List.{list_all}
@@ -13,12 +14,12 @@ use Rattle.bit_table.specs.Marks.{passes, row_bears, number_in_field}
 use Rattle.bit_table.specs.Rows.{Row, all_numbers, take_all}
 use Rattle.bit_table.specs.Tables.{TableShape, IsTable}
 use Rattle.bit_table.specs.Edits.{edit}
-use Rattle.bit_table_commands.specs.declared.command.Command.TheVariants.{Mark, Combine, Not}
-use Rattle.bit_table_commands.specs.declared.bool_op.BoolOp.{BoolOp}
-use Rattle.bit_table_commands.specs.declared.bool_op.BoolOp.TheVariants.{And, Xor}
-use Rattle.bit_table_commands.specs.declared.test.Test.{Test}
-use Rattle.bit_table_commands.specs.declared.test.Test.TheVariants.{Below, Equal, Above}
-use Rattle.bit_table_commands.proofs.CallerLemmas.{row_bears-marked, row_bears-other, marked-numbers}
+use Rattle.bit_table.specs.CommandVariants.{Mark, Combine, Not}
+use Rattle.bit_table.specs.BoolOp.{BoolOp}
+use Rattle.bit_table.specs.BoolOpVariants.{And, Xor}
+use Rattle.bit_table.specs.Test.{Test}
+use Rattle.bit_table.specs.TestVariants.{Below, Equal, Above}
+use Rattle.bit_table.proofs.CallerLemmas.{row_bears-marked, row_bears-other, marked-numbers}
 use Rattle.column_store.specs.declared.condition.Condition.{Condition}
 use Rattle.column_store.specs.Conditions.{meets, meets_one}
 use Rattle.column_store.specs.Selections.{letter, is_selected, AreSelected, IsNarrowed, NoneSelected, SameNumbers}

@@ -1,5 +1,6 @@
 -- What fields take, by the least number and the greatest.
-use Rattle.std.proofs.Common.{◌≡◌, ℕ, ◌≤◌, ◌^◌, ◌-◌, ◌&&◌, Bool, true, false, ℤ, pos, ◌≤ℤ◌, ◌<ℤ◌, List, [], length, get_or}
+use Rattle.std.proofs.Common.{◌≡◌, ℕ, ◌≤◌, ◌^◌, ◌-◌, ◌&&◌, Bool, true, false, ℤ, pos, ◌≤ℤ◌, ◌<ℤ◌, List, [], length}
+use Rattle.std.proofs.Common.{get_or}
 use Rattle.std.proofs.Common.{refl, sym, subst, cond, ◌∙◌, ap, arith, inl, inr, ◌+◌, below_more}
 use Rattle.std.specs.Prelude.{int_le, int_lt, ◌⊎◌, ◌↔◌, Option, Some, None, IfSome, IsNone}
 use Rattle.std.proofs.lemmas.Int.{ints}

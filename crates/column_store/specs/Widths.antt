@@ -1,5 +1,6 @@
 -- The narrowest field of a column.
-use Rattle.std.specs.Prelude.{◌≡◌, ℕ, ◌≤◌, ◌<◌, ◌&&◌, ℤ, pos, int_lt, ◌≤ℤ◌, Bool, true, false, List, [], length, get_or}
+use Rattle.std.specs.Prelude.{◌≡◌, ℕ, ◌≤◌, ◌<◌, ◌&&◌, ℤ, pos, int_lt, ◌≤ℤ◌, Bool, true, false, List, [], length}
+use Rattle.std.specs.Prelude.{get_or}
 use Rattle.std.specs.Prelude.{◌⊎◌, ◌↔◌}
 use Rattle.bit_table.specs.Fields.{takes}
 use Rattle.column_store.specs.declared.width.Kind.{Kind}

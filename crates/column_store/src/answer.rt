@@ -2,16 +2,14 @@
 
 ghost use Rattle.std.specs.Prelude.{◌≡◌, ◌++◌, List, map, string_bytes, IfOk, OnOk};
 ghost use Rattle.bit_table.specs.Edits.{numbers_at, reply_to};
-ghost use Rattle.bit_table.specs.Marks.{rows_passing};
 ghost use Rattle.bit_table.specs.Replies.{reply_text};
-ghost use Rattle.bit_table.specs.Rows.{all_numbers};
 ghost use Rattle.column_store.specs.declared.condition.Condition.{Condition};
 ghost use Rattle.column_store.specs.Answers.{answer_text, csv_line, row_line, selected_text};
-ghost use Rattle.column_store.specs.Selections.{is_selected, AreSelected};
+ghost use Rattle.column_store.specs.Selections.{AreSelected};
 
 use crate::select::selected;
 use crate::store::Store;
-use bit_table::{BitViewSized, Command, Digits, Field, Reply, RowNumbers, Table, WordPaths};
+use bit_table::{BitViewSized, Command, Digits, Field, Table, WordPaths};
 use itoa::Buffer;
 use std::alloc::{AllocError, Global};
 
@@ -43,7 +41,7 @@ pub fn answer<A: BitViewSized, O: WordPaths<A::Store> + Digits<A::Store>>(
     match question {
         Question::Count => reply_line(alloc, &mut store.table, &Command::Count(selected())),
         Question::List => reply_line(alloc, &mut store.table, &Command::List(selected())),
-        Question::Rows => selected_rows(alloc, &mut store.table),
+        Question::Rows => selected_rows(alloc, &store.table),
         Question::Image => reply_line(alloc, &mut store.table, &Command::Image),
         Question::Layout => {
             let mut text = Vec::from_slice(alloc, store.line.as_bytes())?;
@@ -70,44 +68,30 @@ fn reply_line<A: BitViewSized, O: WordPaths<A::Store> + Digits<A::Store>>(
 // The selected rows as CSV with the header.
 fn selected_rows<A: BitViewSized, O: WordPaths<A::Store> + Digits<A::Store>>(
     alloc: Global,
-    table: &mut Table<A, O>,
+    table: &Table<A, O>,
 ) -> Result<Vec<u8>, AllocError>
-    ensures { IfOk result (λ text. text.items ≡ selected_text table.old.shape) }
+    ensures { IfOk result (λ text. text.items ≡ selected_text table.now.shape) }
 {
     let mut text = Vec::new(alloc);
     push_names(&mut text, table.layout().fields())?;
-    let places = places(table)?;
+    let places = table.marked(selected())?;
     for place in places.as_slice() {
         push_row(&mut text, table, *place as u64)?;
     }
     Ok(text)
 }
 
-// The places of the selected rows.
-fn places<A: BitViewSized, O: WordPaths<A::Store> + Digits<A::Store>>(
-    table: &mut Table<A, O>,
-) -> Result<RowNumbers, AllocError>
-    ensures places { IfOk result (λ places. places ≡ rows_passing is_selected 0 table.old.shape.rows) }
-    ensures same { table.new.shape ≡ table.old.shape }
-{
-    match table.apply(&Command::List(selected())) {
-        Ok(Reply::Rows(places)) => Ok(places),
-        _ => Err(AllocError),
-    }
-}
-
 // Adds the line of a row.
 fn push_row<A: BitViewSized, O: WordPaths<A::Store> + Digits<A::Store>>(
     text: &mut Vec<u8>,
-    table: &mut Table<A, O>,
+    table: &Table<A, O>,
     row: u64,
 ) -> Result<(), AllocError>
-    ensures text { OnOk result (text.new.items ≡ text.old.items ++ row_line (numbers_at row table.old.shape.rows)) }
-    ensures same { table.new.shape ≡ table.old.shape }
+    ensures { OnOk result (text.new.items ≡ text.old.items ++ row_line (numbers_at row table.now.shape.rows)) }
 {
-    match table.apply(&Command::Get { row }) {
-        Ok(Reply::Numbers(numbers)) => push_numbers(text, numbers.as_slice()),
-        _ => Err(AllocError),
+    match table.row(row)? {
+        Some(numbers) => push_numbers(text, numbers.as_slice()),
+        None => push_numbers(text, &[]),
     }
 }
 

@@ -1,8 +1,7 @@
 //! A table of whole numbers, read from CSV.
 
 use crate::number::number_of_64_bits;
-use bit_table::MAX_ROW_BITS;
-use bit_table_layout::is_name;
+use bit_table::{MAX_ROW_BITS, is_name};
 use csv::{ByteRecord, ErrorKind, Reader, ReaderBuilder};
 use std::alloc::{AllocError, Global};
 use std::io::Read;

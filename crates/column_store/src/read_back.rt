@@ -1,10 +1,10 @@
 //! A table read back from its layout line and its image.
 
-ghost use Rattle.std.specs.Prelude.{◌*◌, ◌≤◌, IfOk};
+ghost use Rattle.std.specs.Prelude.{◌*◌, ◌≤◌, IfErr, IfOk};
 ghost use Rattle.bit_table.specs.LayoutLimits.{MAX_ROW_BITS};
 ghost use Rattle.bit_table.specs.Rows.{all_numbers};
 ghost use Rattle.bit_table.specs.Tables.{TableShape, IsTable};
-ghost use Rattle.column_store.specs.Packed.{AreOf, HasRows};
+ghost use Rattle.column_store.specs.Packed.{AreOf, HasRows, IsMemory};
 
 use crate::store::StoreError;
 use bit_table::{
@@ -13,7 +13,7 @@ use bit_table::{
 use std::alloc::{AllocError, Global};
 
 /// The table that a layout line, a row count and image bytes tell: where they are those of a table, one of its layout with
-/// its rows' numbers.
+/// its rows' numbers, and nothing but want of memory refuses it.
 pub fn read_back<A: BitViewSized, O: WordPaths<A::Store> + Digits<A::Store>>(
     alloc: Global,
     line: &[u8],
@@ -21,8 +21,9 @@ pub fn read_back<A: BitViewSized, O: WordPaths<A::Store> + Digits<A::Store>>(
     bytes: Vec<u8>,
 ) -> Result<Table<A, O>, StoreError>
     requires { MAX_ROW_BITS ≤ A.COUNT * A.Store.BITS }
-    ensures { (t : TableShape) → IsTable t → AreOf t line.now rows bytes.items
+    ensures rows { (t : TableShape) → IsTable t → AreOf t line.now rows bytes.items
         → IfOk result (λ table. HasRows t.layout (all_numbers t.rows) table.shape) }
+    ensures err { (t : TableShape) → IsTable t → AreOf t line.now rows bytes.items → IfErr result IsMemory }
 {
     let layout = match Layout::parse(alloc, line) {
         Ok(layout) => layout,

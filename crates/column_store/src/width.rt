@@ -1,7 +1,8 @@
 //! The narrowest field of a column.
 
 ghost use Rattle.std.specs.Prelude.{◌≡◌, ◌≤◌, ℕ, pos, int_lt, false, length, IfSome, IsNone};
-ghost use Rattle.column_store.specs.Widths.{kind_takes, take_both, IsNarrowest, IsNarrowestBetween, IsRange, NoneTakes};
+ghost use Rattle.column_store.specs.Widths.{kind_takes, take_both, IsNarrowest, IsNarrowestBetween, IsRange};
+ghost use Rattle.column_store.specs.Widths.{NoneTakes};
 
 use std::fmt;
 

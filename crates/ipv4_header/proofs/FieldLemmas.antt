@@ -6,9 +6,11 @@ use Rattle.std.proofs.Common.{◌≡◌, ℕ, ◌+◌, ◌/◌, ◌^◌, ◌<◌
 use Rattle.std.proofs.Common.{refl, sym, ap, ◌∙◌, arith, lit<, length-append}
 use Rattle.std.specs.Prelude.{pos}
 use Rattle.ipv4_header.specs.Header.{header_len, fields_of}
-use Rattle.ipv4_header.specs.Network.{network_bits, fields_bits}
+use Rattle.bit_slice.specs.Network.{network_bits}
+use Rattle.ipv4_header.specs.Fields.{fields_bits}
 use Rattle.ipv4_header.specs.declared.header.Header.{Header}
-use Rattle.ipv4_header.proofs.NetworkLemmas.{same_number, same_front, same_rest, length-network_bits}
+use Rattle.bit_slice.proofs.NetworkLemmas.{same_number, length-network_bits}
+use Rattle.ipv4_header.proofs.ByteLemmas.{same_front, same_rest}
 
 -- how many bits fields have
 abbrev pub width_of : List (ℕ × ℕ) → ℕ

@@ -9,11 +9,15 @@ use Rattle.std.proofs.lemmas.List.{take_at, drop_at, drop-drop, same_lists, plac
 use Rattle.bit_slice.specs.Memory.{memory, piece}
 use Rattle.ipv4_header.specs.Header.{header_len, fields_with, fields_of, BeginsWith, HasField, IsFault, IsChecksumOf}
 use Rattle.ipv4_header.specs.Checksum.{checksum_of}
-use Rattle.ipv4_header.specs.Network.{network, network_bits, fields_bits, AreBytes}
+use Rattle.bit_slice.specs.Network.{network, network_bits}
+use Rattle.ipv4_header.specs.Fields.{fields_bits, AreBytes}
 use Rattle.ipv4_header.specs.declared.header.Header.{Header}
 use Rattle.ipv4_header.specs.declared.header.HeaderError.{HeaderError}
-use Rattle.ipv4_header.specs.declared.header.HeaderError.TheVariants.{TooFewBytes, NotVersion4, HeaderTooShort, HeaderCutOff, TotalTooSmall}
-use Rattle.ipv4_header.proofs.NetworkLemmas.{same_number, same_rest, same_bytes, length-network_bits, memory-take}
+use Rattle.ipv4_header.specs.declared.header.HeaderError.TheVariants.{TooFewBytes, NotVersion4, HeaderTooShort}
+use Rattle.ipv4_header.specs.declared.header.HeaderError.TheVariants.{HeaderCutOff, TotalTooSmall}
+use Rattle.bit_slice.proofs.MemoryLemmas.{memory-take}
+use Rattle.bit_slice.proofs.NetworkLemmas.{same_number, length-network_bits}
+use Rattle.ipv4_header.proofs.ByteLemmas.{same_rest, same_bytes}
 use Rattle.ipv4_header.proofs.FieldLemmas.{fields_fit, same_fields, length-fields_bits}
 
 -- the number of the second field
@@ -40,7 +44,7 @@ fields_begin bytes h is =
     let fields = fields_bits (fields_of h) in
     let front : piece (take n m) 0 160 ≡ piece m 0 160 = piece_front m n 0 160 (omega arith) in
     sym front
-    ∙ ap (take 160) (sym (memory-take (header_len h) bytes is.fits) ∙ is.bits)
+    ∙ ap (take 160) (sym (memory-take network bytes (header_len h) is.fits) ∙ is.bits)
     ∙ take_at fields (memory network h.options.now) 160 (length-fields_bits (fields_of h))
 
 -- the same bytes begin with one header

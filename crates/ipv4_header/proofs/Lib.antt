@@ -1,4 +1,4 @@
-pub mod NetworkLemmas
+pub mod ByteLemmas
 pub mod ChecksumLemmas
 pub mod HeaderLemmas
 pub mod FieldLemmas

@@ -3,10 +3,12 @@ use Rattle.std.specs.Prelude.{◌≡◌, ◌≢◌, ℕ, pos, ◌+◌, ◌*◌, 
 use Rattle.std.specs.Net.Addr.{ipv4_bits}
 use Rattle.bit_slice.specs.Memory.{memory, piece}
 use Rattle.ipv4_header.specs.Checksum.{checksum_of}
-use Rattle.ipv4_header.specs.Network.{network, network_bits, fields_bits, AreBytes}
+use Rattle.bit_slice.specs.Network.{network, network_bits}
+use Rattle.ipv4_header.specs.Fields.{fields_bits, AreBytes}
 use Rattle.ipv4_header.specs.declared.header.Header.{Header}
 use Rattle.ipv4_header.specs.declared.header.HeaderError.{HeaderError}
-use Rattle.ipv4_header.specs.declared.header.HeaderError.TheVariants.{TooFewBytes, NotVersion4, HeaderTooShort, HeaderCutOff, TotalTooSmall}
+use Rattle.ipv4_header.specs.declared.header.HeaderError.TheVariants.{TooFewBytes, NotVersion4, HeaderTooShort}
+use Rattle.ipv4_header.specs.declared.header.HeaderError.TheVariants.{HeaderCutOff, TotalTooSmall}
 
 -- how many bytes a header has
 abbrev pub header_len : Header → ℕ

@@ -1,3 +1,3 @@
 pub mod Checksum
+pub mod Fields
 pub mod Header
-pub mod Network

@@ -2,7 +2,7 @@
 
 ghost use Rattle.std.specs.Prelude.{◌≡◌, ℕ, ◌+◌, ◌↔◌, IsTrue};
 ghost use Rattle.ipv4_header.specs.Checksum.{carried_around, checksum_of, ones_sum};
-ghost use Rattle.ipv4_header.specs.Network.{AreBytes};
+ghost use Rattle.ipv4_header.specs.Fields.{AreBytes};
 
 use crate::header::{Header, MAX_LEN};
 

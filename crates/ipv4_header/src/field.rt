@@ -3,12 +3,12 @@
 ghost use Rattle.std.specs.Prelude.{◌≡◌, ◌+◌, ◌*◌, ◌^◌, ◌<◌, ◌≤◌, length};
 ghost use Rattle.bit_slice.specs.Memory.{memory, piece, with_piece};
 ghost use Rattle.bit_slice.specs.Whole.{FitsIn};
-ghost use Rattle.ipv4_header.specs.Network.{network, network_bits};
+ghost use Rattle.bit_slice.specs.Network.{network, network_bits};
 
 use bit_slice::{BitField, BitFieldMut, BitSlice, BitSliceMut, Integral, Msb0};
 
 /// The number in the `width` bits from bit `at` on. They are 1 up to `M::BITS` bits of these bytes.
-#[tactic(auto, using(crate::proofs::NetworkLemmas::field_network))]
+#[tactic(auto, using(bit_slice::proofs::NetworkLemmas::field_network))]
 pub fn load<M: Integral>(bytes: &[u8], at: usize, width: usize) -> M
     requires some { 0 < width }
     requires room { width ≤ M.BITS }
@@ -22,7 +22,7 @@ pub fn load<M: Integral>(bytes: &[u8], at: usize, width: usize) -> M
 
 /// Stores a number's lowest digits in the `width` bits from bit `at` on, and leaves every bit beside them. They are 1 up
 /// to `M::BITS` bits of these bytes.
-#[tactic(auto, using(crate::proofs::NetworkLemmas::field_network, bit_slice_views_mut::proofs::FrameLemmas::frames))]
+#[tactic(auto, using(bit_slice::proofs::NetworkLemmas::field_network, bit_slice::proofs::WrittenLemmas::frames))]
 pub fn store<M: Integral>(bytes: &mut [u8], at: usize, width: usize, value: M)
     requires some { 0 < width }
     requires room { width ≤ M.BITS }

@@ -3,7 +3,8 @@
 ghost use Rattle.std.specs.Prelude.{◌≡◌, ◌+◌, ◌%◌, ◌^◌, ◌<◌, ◌≤◌, IfOk, IfErr, length, take, drop};
 ghost use Rattle.bit_slice.specs.Memory.{memory};
 ghost use Rattle.std.specs.Net.Addr.{ipv4_bits};
-ghost use Rattle.ipv4_header.specs.Network.{network, AreBytes};
+ghost use Rattle.bit_slice.specs.Network.{network};
+ghost use Rattle.ipv4_header.specs.Fields.{AreBytes};
 
 use crate::field::{load, store};
 use std::net::Ipv4Addr;
@@ -82,7 +83,7 @@ pub enum HeaderError {
 
 impl<'a> Header<'a> {
     ghost use Rattle.ipv4_header.specs.Header.{fields_of, header_len, BeginsWith, IsFault};
-    ghost use Rattle.ipv4_header.specs.Network.{fields_bits};
+    ghost use Rattle.ipv4_header.specs.Fields.{fields_bits};
 
     /// The header that some bytes begin with.
     ///

@@ -20,9 +20,10 @@ use Rattle.bit_containers.specs.Indices.{indices}
 use Rattle.bit_containers.specs.Memory.{piece}
 use Rattle.number_set.specs.Held.{held}
 use Rattle.number_set.specs.Numbers.{rank, Lists}
-use Rattle.number_set.proofs.BitLemmas.{bit, bit-set, bit-padded, bit-combined, length-combined, bit-take, bit-moved}
-use Rattle.number_set.proofs.BitLemmas.{bit-ones, bit-none, none-bit, first_part}
-use Rattle.number_set.proofs.IndexLemmas.{ones, in_indices, len-indices, indices_ascend}
+use Rattle.bit_containers.proofs.BitLemmas.{bit, bit-set, bit-padded, bit-combined, length-combined, bit-take}
+use Rattle.bit_containers.proofs.BitLemmas.{bit-moved}
+use Rattle.bit_containers.proofs.BitLemmas.{bit-ones, bit-none, none-bit, first_part}
+use Rattle.bit_containers.proofs.IndexLemmas.{ones, in_indices, len-indices, indices_ascend}
 
 -- a number is in the set where its bit is 1
 contains-held : (bits : List Bool) (n : ℕ) → contains (held bits) n ≡ bit bits n

@@ -1,83 +1,51 @@
-//! A register map: three devices whose registers share two words of `u32`, under an order of their own.
+//! A register map: three devices whose bits share two words of `u32`, under an order of their own, and what a driver does
+//! with one of them, which no other notices.
 //!
-//! It stands on `bit_addressing` alone. Each device is a span of the memory, and a command at one never reaches another.
+//! It stands on `bit_addressing`, with `thiserror` of the kit.
 #![tactic(auto)]
 
-ghost use Rattle.std.specs.Prelude.{◌<◌};
-
+mod commands;
+mod device;
+mod errors;
+mod map;
 mod order;
+mod sheet;
+mod show;
 
-use bit_addressing::{
-    BitEnd, BitIdx, BitSpan, BitSpanError, OrderCandidate, SpanCommand, SpanReply, all_fit,
-    disjoint, run, verify_for_type,
-};
-use order::UpperHalfFirst;
+use device::Device;
+use map::RegisterMap;
 use std::io;
 
-type Device = BitSpan<u32, UpperHalfFirst>;
+/// How many words the devices share.
+pub const WORDS: usize = 2;
 
 // The numbers of the devices.
-const TIMER: usize = 0;
+pub const TIMER: usize = 0;
 
-const PORT: usize = 1;
+pub const PORT: usize = 1;
 
-const COUNTER: usize = 2;
+pub const COUNTER: usize = 2;
 
 fn main(rt: HostRuntime) -> io::Result<()> {
-    let mut memory = [0u32; 2];
-    let Ok(devices) = devices() else {
-        return println!(rt; "a device lies too high");
-    };
-    let commands = [
-        (TIMER, SpanCommand::Store(0, 0x1234_5678)),
-        (PORT, SpanCommand::Set(0)),
-        (PORT, SpanCommand::Replace(3, false)),
-        (COUNTER, SpanCommand::Invert(1)),
-        (COUNTER, SpanCommand::Read(12)),
-        (TIMER, SpanCommand::Copy(0, 4, 8)),
-        (TIMER, SpanCommand::Load(0)),
-    ];
-    let mut replies = [SpanReply::Done; 7];
-    if !disjoint(&devices) || !all_fit(&devices, memory.len()) {
-        return println!(rt; "the devices do not fit");
-    }
-    run(&mut memory, &devices, &commands, &mut replies);
-    for (device, reply) in commands.iter().map(|command| command.0).zip(replies.iter()) {
-        match *reply {
-            SpanReply::Word(word) => println!(rt; "device {device}: word {word:08x}")?,
-            SpanReply::Bit(bit) => println!(rt; "device {device}: bit {bit}")?,
-            SpanReply::Done => println!(rt; "device {device}: done")?,
-            SpanReply::Refused => println!(rt; "device {device}: refused")?,
+    let devices = devices();
+    match RegisterMap::<3>::new(&devices, WORDS) {
+        Err(error) => println!(rt; "refused: {error}"),
+        Ok(map) => {
+            show::print_devices(&rt, &devices)?;
+            show::print_owners(&rt, &devices, &map)?;
+            show::print_session(&rt, &devices, &map)?;
+            show::print_refused_maps(&rt)?;
+            commands::print_commands(&rt, &map)?;
+            commands::print_order(&rt)
         }
     }
-    println!(rt; "memory {:08x} {:08x}", memory[0], memory[1])?;
-    show_order(&rt)
 }
 
-// Shows whether the devices' order is lawful, its mask of the first half of a word, and where four indices lie.
-fn show_order(rt: &HostRuntime) -> io::Result<()> {
-    let lawful = verify_for_type::<u32, UpperHalfFirst>().is_ok();
-    let half = UpperHalfFirst::mask(None, Some(BitEnd::new_unchecked(16))).into_inner();
-    let (first, last) = (position_of(0), position_of(31));
-    let (below, above) = (position_of(15), position_of(16));
-    println!(rt;
-        "order: lawful {lawful}, first half {half:08x}, indices 0 15 16 31 at {first} {below} {above} {last}"
-    )
-}
-
-// The position of an index in a word, by the devices' order.
-fn position_of(index: u8) -> u8
-    requires { index < 32 }
-{
-    BitIdx::<u32>::new_unchecked(index)
-        .position::<UpperHalfFirst>()
-        .into_inner()
-}
-
-// The timer has 20 bits, the port the next 8, and the counter 12 more, which begin in the first word and end in the second.
-fn devices() -> Result<[Device; 3], BitSpanError> {
-    let timer = BitSpan::new(0, BitIdx::new_unchecked(0), 20)?;
-    let port = BitSpan::new(0, BitIdx::new_unchecked(20), 8)?;
-    let counter = BitSpan::new(0, BitIdx::new_unchecked(28), 12)?;
-    Ok([timer, port, counter])
+// The data sheet: the counter begins in the first word and ends in the second.
+fn devices() -> [Device; 3] {
+    [
+        Device::new("timer", 0, 20),
+        Device::new("port", 20, 8),
+        Device::new("counter", 28, 12),
+    ]
 }

@@ -2,6 +2,7 @@
 
 ghost use Rattle.std.specs.Prelude.{◌+◌, ◌*◌, ◌%◌};
 ghost use Rattle.bit_addressing.specs.BitOrder.{selectors_from, masks_from};
+ghost use Rattle.register_map.specs.Words.{upper_half_first};
 
 use bit_addressing::{BitOrder, OrderCandidate, Positions, mask_from_at, select_from_at};
 
@@ -10,7 +11,7 @@ use bit_addressing::{BitOrder, OrderCandidate, Positions, mask_from_at, select_f
 pub struct UpperHalfFirst;
 
 impl Positions<u32> for UpperHalfFirst {
-    ghost position = { λ i. (1 * i + 16) % 32 };
+    ghost position = { upper_half_first };
 
     fn position_of(index: u8) -> u8 {
         (index + 16) % 32
@@ -18,9 +19,9 @@ impl Positions<u32> for UpperHalfFirst {
 }
 
 impl OrderCandidate<u32> for UpperHalfFirst {
-    ghost selector = { selectors_from (λ i. (1 * i + 16) % 32) };
+    ghost selector = { selectors_from upper_half_first };
 
-    ghost masked = { masks_from 32 (λ i. (1 * i + 16) % 32) };
+    ghost masked = { masks_from 32 upper_half_first };
 
     fn selector_of(index: u8) -> u32 {
         select_from_at::<u32, UpperHalfFirst>(index)

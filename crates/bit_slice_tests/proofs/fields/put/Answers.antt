@@ -2,7 +2,7 @@ use Rattle.std.proofs.Common.{lit<, length, rules}
 use Rattle.bit_slice_views_mut.specs.Frame.{KeepsBeside}
 use Rattle.bit_slice_views_mut.specs.ViewMut.{lent_bits}
 use Rattle.bit_slice_views_mut.proofs.FrameLemmas.{frame_beside}
-use Rattle.bit_slice_tests.specs.Network.{network}
+use Rattle.bit_slice.specs.Network.{network}
 use Rattle.bit_slice_tests.proofs.fields.put.Goals as goal
 
 pub returns-clause-beside : goal.returns-clause-beside

@@ -3,7 +3,8 @@ use Rattle.bit_table_commands.specs.Edits.{edit}
 use Rattle.bit_table_commands.specs.Tables.{IsTable, TableShape}
 use Rattle.bit_table_commands.specs.declared.command.Command.TheVariants.{Delete}
 use Rattle.bit_table_commands.proofs.CallerLemmas.{edit-is_table}
-use Rattle.bit_table_tests.proofs.QueueLemmas.{first-goes, one_less, one_more}
+use Rattle.bit_table.proofs.AcceptedLemmas.{delete-accepted}
+use Rattle.bit_table_tests.proofs.QueueLemmas.{one_less, one_more}
 use Rattle.bit_table_tests.proofs.queue.pass_one.Goals as goal
 
 pub unwrap-requires-2 : goal.unwrap-requires-2
@@ -15,7 +16,7 @@ unwrap-requires-2 g c =
     rw after (edit-is_table t c.rows-rows.ensures.lawful insertion c.requires.accepted) in
     let count : length c.apply.new.self.shape.rows ≡ length t.rows + 1 =
     rw after (one_more t insertion c.requires.insertion) in
-    c.apply-2.ensures.succeeds refl (first-goes c.apply.new.self.shape lawful (omega arith))
+    c.apply-2.ensures.succeeds refl (delete-accepted c.apply.new.self.shape 0 1 lawful (omega arith) (omega arith))
 
 pub returns-clause-rows : goal.returns-clause-rows
 returns-clause-rows g c =

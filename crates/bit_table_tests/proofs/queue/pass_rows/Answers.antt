@@ -1,7 +1,8 @@
 use Rattle.std.proofs.Common.{◌≡◌, None, ap, ◌∙◌, arith}
 use Rattle.bit_table_commands.specs.Causes.{cause_in}
 use Rattle.bit_table_commands.specs.declared.command.Command.TheVariants.{Insert}
-use Rattle.bit_table_tests.proofs.QueueLemmas.{accepted-unkept, fits-one_more}
+use Rattle.bit_table.proofs.AcceptedLemmas.{insert-unkept}
+use Rattle.bit_table_tests.proofs.QueueLemmas.{fits-one_more}
 use Rattle.bit_table_tests.proofs.queue.pass_rows.Goals as goal
 
 pub reserve-requires : goal.reserve-requires
@@ -9,7 +10,7 @@ reserve-requires g c =
     let t = c.args.table.now.shape in
     let insertion = Insert c.rows-place.result c.args.values in
     let none : cause_in t insertion ≡ None =
-    accepted-unkept t _ _ insertion _ tt c.rows.ensures.lawful c.layout.ensures.layout c.rows.ensures.rows c.in_default.is
+    insert-unkept t _ _ c.rows-place.result c.args.values _ c.rows.ensures.lawful c.layout.ensures.layout c.rows.ensures.rows c.in_default.is
     c.cause.ensures in
     (omega arith, fits-one_more t insertion tt none)
 
@@ -18,7 +19,7 @@ pass_through-requires g c =
     let t = c.args.table.now.shape in
     let insertion = Insert c.rows-place.result c.args.values in
     let none : cause_in t insertion ≡ None =
-    accepted-unkept t _ _ insertion _ tt c.rows.ensures.lawful c.layout.ensures.layout c.rows.ensures.rows c.in_default.is
+    insert-unkept t _ _ c.rows-place.result c.args.values _ c.rows.ensures.lawful c.layout.ensures.layout c.rows.ensures.rows c.in_default.is
     c.cause.ensures in (
       omega arith,
       (tt, (ap (λ u. cause_in u insertion) c.reserve.ensures.shape ∙ none, (c.in_ok-reserve.ensures).ok)),

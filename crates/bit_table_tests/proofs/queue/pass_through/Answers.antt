@@ -1,5 +1,5 @@
 use Rattle.std.proofs.Common.{◌≡◌, ◌≤◌, refl, ◌∙◌, arith}
-use Rattle.bit_table_tests.proofs.QueueLemmas.{insert-same}
+use Rattle.bit_table_tests.proofs.QueueLemmas.{insertion-same}
 use Rattle.bit_table_tests.proofs.queue.pass_through.Goals as goal
 
 pub loop-turn-init : goal.loop-turn-init
@@ -8,7 +8,7 @@ loop-turn-init g c = record { layout = refl; rows = refl; room = omega arith }
 pub pass_one-requires : goal.pass_one-requires
 pass_one-requires g c =
     let had = c.loop-turn.invariant in
-    let same = insert-same c.loop-turn.table.shape c.args.table.now.shape c.args.insertion.now c.requires.insertion
+    let same = insertion-same c.loop-turn.table.shape c.args.table.now.shape c.args.insertion.now c.requires.insertion
     had.layout had.rows in
     (omega arith, (c.requires.insertion, (same ∙ c.requires.accepted, omega (arith, had.room, c.requires.room))))
 

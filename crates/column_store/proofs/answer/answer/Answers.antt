@@ -2,8 +2,8 @@ use Rattle.std.proofs.Common.{◌∙◌, ◌++◌, ap, sym, string_bytes}
 use Rattle.std.specs.Prelude.{codes, decimal}
 use Rattle.bit_table.specs.Edits.{reply_to}
 use Rattle.bit_table.specs.Replies.{reply_text, row_numbers}
-use Rattle.bit_table_commands.specs.declared.command.Command.TheVariants.{Count}
-use Rattle.bit_table_commands.specs.declared.command.Command.TheVariants.{List as Listing}
+use Rattle.bit_table.specs.CommandVariants.{Count}
+use Rattle.bit_table.specs.CommandVariants.{List as Listing}
 use Rattle.column_store.specs.Answers.{answer_text, csv_text}
 use Rattle.column_store.proofs.AnswerLemmas.{count_same, places_same, rows_same, if_ok_along}
 use Rattle.column_store.proofs.answer.answer.Goals as goal

@@ -6,8 +6,6 @@ use Rattle.column_store.proofs.answer.selected_rows.Given as goal
 
 -- behind the header come the rows at the places so far
 abbrev pub invariant-loop-place : goal.invariant-loop-place
-invariant-loop-place g l = record {
-  same : l.table.shape ≡ l.fn.table.shape;
-  text : l.text.items ≡ l.initial.text.items
-      ++ flat_map (λ p. row_line (numbers_at p l.fn.table.shape.rows)) (take l.place-index l.place-items);
-}
+invariant-loop-place g l =
+    l.text.items ≡ l.initial.text.items
+    ++ flat_map (λ p. row_line (numbers_at p l.fn.table.shape.rows)) (take l.place-index l.place-items)

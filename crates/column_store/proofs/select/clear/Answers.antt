@@ -1,7 +1,7 @@
 use Rattle.std.proofs.Common.{◌≡◌, ◌∙◌, ap₂}
 use Rattle.bit_table.specs.Edits.{edit}
-use Rattle.bit_table_commands.specs.declared.command.Command.TheVariants.{Combine}
-use Rattle.bit_table_commands.specs.declared.bool_op.BoolOp.TheVariants.{Xor}
+use Rattle.bit_table.specs.CommandVariants.{Combine}
+use Rattle.bit_table.specs.BoolOpVariants.{Xor}
 use Rattle.column_store.specs.Selections.{letter}
 use Rattle.column_store.proofs.SelectLemmas.{cleared, combined-same}
 use Rattle.column_store.proofs.select.clear.Goals as goal

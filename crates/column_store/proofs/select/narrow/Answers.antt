@@ -3,10 +3,10 @@ use Rattle.std.proofs.Common.{◌≡◌, ◌∙◌, true, false, ap, ap₂, sym,
 use Rattle.std.specs.Int.{w128}
 use Rattle.std.proofs.lemmas.Int.{to_z-of_z}
 use Rattle.bit_table.specs.Edits.{edit}
-use Rattle.bit_table_commands.specs.declared.command.Command.TheVariants.{Mark, Combine}
-use Rattle.bit_table_commands.specs.declared.bool_op.BoolOp.TheVariants.{And}
+use Rattle.bit_table.specs.CommandVariants.{Mark, Combine}
+use Rattle.bit_table.specs.BoolOpVariants.{And}
 use Rattle.column_store.specs.Selections.{letter}
-use Rattle.column_store.proofs.CommandLemmas.{mark-accepted, carried_out}
+use Rattle.bit_table.proofs.AcceptedLemmas.{mark-accepted, carried_out}
 use Rattle.column_store.proofs.SelectLemmas.{narrowed, narrowed_to_none, narrowed_to_all, mark-same, combined-same}
 use Rattle.column_store.proofs.SelectLemmas.{same_then, taken_by}
 use Rattle.column_store.proofs.select.narrow.Goals as goal

@@ -1,8 +1,8 @@
 use Rattle.std.proofs.Common.{◌≡◌, ◌∙◌, ap, refl, IsOk}
 use Rattle.bit_table.specs.Edits.{edit}
-use Rattle.bit_table_commands.specs.declared.command.Command.TheVariants.{Not}
+use Rattle.bit_table.specs.CommandVariants.{Not}
 use Rattle.column_store.specs.Selections.{letter}
-use Rattle.column_store.proofs.CommandLemmas.{not-accepted, carried_out}
+use Rattle.bit_table.proofs.AcceptedLemmas.{not-accepted, carried_out}
 use Rattle.column_store.proofs.SelectLemmas.{all_selected, not-same, same_then}
 use Rattle.column_store.proofs.select.select_all.Goals as goal
 

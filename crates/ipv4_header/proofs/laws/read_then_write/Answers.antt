@@ -1,7 +1,7 @@
 use Rattle.std.proofs.Common.{ℕ, take, sym, ◌∙◌}
 use Rattle.ipv4_header.specs.Header.{header_len}
-use Rattle.ipv4_header.specs.Network.{AreBytes}
-use Rattle.ipv4_header.proofs.NetworkLemmas.{same_bytes, bytes_take}
+use Rattle.ipv4_header.specs.Fields.{AreBytes}
+use Rattle.ipv4_header.proofs.ByteLemmas.{same_bytes, bytes_take}
 use Rattle.ipv4_header.proofs.laws.read_then_write.Goals as goal
 
 pub returns-clause-ok : goal.returns-clause-ok

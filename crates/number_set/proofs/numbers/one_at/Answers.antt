@@ -1,7 +1,7 @@
 use Rattle.std.proofs.Common.{◌≡◌, ◌+◌, ◌-◌, ◌/◌, ◌∙◌, ap, arith, count_by}
 use Rattle.number_set.specs.Held.{words}
 use Rattle.bit_containers.specs.View.{view_bits}
-use Rattle.number_set.proofs.CountLemmas.{ones-piece, last_left}
+use Rattle.bit_containers.proofs.OnesLemmas.{ones-piece, last_left}
 use Rattle.number_set.proofs.numbers.one_at.Goals as goal
 
 pub loop-len-preserved-then-left-passed : goal.loop-len-preserved-then-left-passed

@@ -1,7 +1,7 @@
 use Rattle.std.proofs.Common.{◌≡◌, ◌+◌, ◌<◌, ◌≤◌, length}
 use Rattle.number_set.specs.Held.{words}
 use Rattle.bit_containers.specs.View.{view_bits}
-use Rattle.number_set.proofs.CountLemmas.{ones_in}
+use Rattle.bit_containers.proofs.OnesLemmas.{ones_in}
 use Rattle.number_set.proofs.numbers.one_at.Given as goal
 
 abbrev pub invariant-loop-len : goal.invariant-loop-len

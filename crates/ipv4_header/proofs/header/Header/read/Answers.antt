@@ -1,8 +1,9 @@
 use Rattle.std.proofs.Common.{◌≡◌, ℕ, ◌+◌, ◌-◌, ◌*◌, ◌/◌, ◌≤◌, length, take, drop, refl, sym, arith}
 use Rattle.std.proofs.lemmas.List.{length-take-le, length-drop}
 use Rattle.bit_slice.specs.Memory.{memory}
-use Rattle.ipv4_header.specs.Network.{network, AreBytes}
-use Rattle.ipv4_header.proofs.NetworkLemmas.{has_none, has_more, bytes_take, bytes_drop}
+use Rattle.bit_slice.specs.Network.{network}
+use Rattle.ipv4_header.specs.Fields.{AreBytes}
+use Rattle.ipv4_header.proofs.ByteLemmas.{has_none, has_more, bytes_take, bytes_drop}
 use Rattle.ipv4_header.proofs.HeaderLemmas.{address_bits, address_small, bits_read}
 use Rattle.ipv4_header.proofs.header.Header.read.Goals as goal
 

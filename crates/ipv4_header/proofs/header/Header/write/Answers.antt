@@ -1,8 +1,8 @@
 use Rattle.std.proofs.Common.{◌≡◌, ℕ, ◌+◌, ◌++◌, length, take, drop, ap, ◌∙◌, rules}
 use Rattle.std.proofs.lemmas.List.{drop-drop}
 use Rattle.bit_slice.specs.Memory.{memory}
-use Rattle.ipv4_header.specs.Network.{network}
-use Rattle.ipv4_header.proofs.NetworkLemmas.{memory-append}
+use Rattle.bit_slice.specs.Network.{network}
+use Rattle.bit_slice.proofs.MemoryLemmas.{memory-append}
 use Rattle.ipv4_header.proofs.HeaderLemmas.{front_written, rest_written}
 use Rattle.ipv4_header.proofs.header.Header.write.Goals as goal
 
@@ -15,7 +15,7 @@ returns-clause-written c =
     let bits =
     ap (λ xs. memory network (take (20 + length options) (fields ++ (xs ++ rest)))) c.copy_from_slice.ensures.after
     ∙ ap (memory network) (front_written fields options rest size)
-    ∙ memory-append fields options
+    ∙ memory-append network fields options
     ∙ ap (λ xs. xs ++ memory network options) c.write_fields.ensures.bits in
     record { fits = search rules; bits = bits }
 

@@ -1,5 +1,5 @@
 use Rattle.std.proofs.Common.{◌/◌, refl, lit≤, ap}
-use Rattle.ipv4_header.proofs.NetworkLemmas.{begins_none, begins_more, begins_all}
+use Rattle.ipv4_header.proofs.ByteLemmas.{begins_none, begins_more, begins_all}
 use Rattle.ipv4_header.proofs.header.Header.write_fields.Goals as goal
 
 -- field by field, in the order of the stores

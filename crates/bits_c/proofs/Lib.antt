@@ -1,0 +1,4 @@
+pub mod WroteLemmas
+pub mod NumberLemmas
+pub mod RunLemmas
+pub mod TableLemmas

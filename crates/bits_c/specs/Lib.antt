@@ -1,0 +1,3 @@
+pub mod Windows
+pub mod Outcomes
+pub mod Table

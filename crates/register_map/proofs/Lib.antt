@@ -1,0 +1,4 @@
+pub mod DeviceLemmas
+pub mod KnownRows
+pub mod NumberLemmas
+pub mod RegisterLemmas

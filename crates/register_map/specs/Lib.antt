@@ -1,0 +1,3 @@
+pub mod Words
+pub mod Registers
+pub mod Devices

@@ -1,8 +1,10 @@
 -- What the calls of the layer, which overwrite a window's entries, write of its list.
 --
--- Any of them: `wrote` (by entries), `wrote_beside` (by what stays beside), `window_wrote` (by a window's frame). One each: `set`, `filled`, `inverted`,
--- `reversed`, `rotated_left`, `rotated_right`, `moved`, `copied`, `and_done`, `or_done`, `xor_done`.
-use Rattle.std.proofs.Common.{◌≡◌, ℕ, ◌+◌, ◌-◌, ◌*◌, ◌<◌, ◌≤◌, Bool, false, not, List, [], ◌∷◌, ◌++◌, length, map, take, drop}
+-- Any of them: `wrote` (by entries), `wrote_beside` (by what stays beside), `window_wrote` (by a window's frame). One
+-- each: `set`, `filled`, `inverted`, `reversed`, `rotated_left`, `rotated_right`, `moved`, `copied`, `and_done`,
+-- `or_done`, `xor_done`.
+use Rattle.std.proofs.Common.{◌≡◌, ℕ, ◌+◌, ◌-◌, ◌*◌, ◌<◌, ◌≤◌, Bool, false, not, List, [], ◌∷◌, ◌++◌, length, map}
+use Rattle.std.proofs.Common.{take, drop}
 use Rattle.std.proofs.Common.{reverse, replicate, get_or, refl, sym, ap, ◌∙◌}
 use Rattle.std.specs.Prelude.{◌&&◌, ◌||◌}
 use Rattle.std.specs.Bool.{xor}
@@ -15,7 +17,8 @@ use Rattle.bit_slice_views_mut.specs.Frame.{KeepsBeside, frame_of}
 use Rattle.bit_slice_views_mut.proofs.FrameLemmas.{frame_beside}
 use Rattle.bit_slice_words.specs.Rotations.{rotated_from}
 use Rattle.bit_slice_words.proofs.ListLemmas.{filled_list, inverted_list, reversed_list, rotated_left_list}
-use Rattle.bit_slice_words.proofs.ListLemmas.{rotated_right_list, moved_list, copied_list, and_list, or_list, xor_list}
+use Rattle.bit_slice_words.proofs.ListLemmas.{rotated_right_list, moved_list, copied_list, and_list, or_list}
+use Rattle.bit_slice_words.proofs.ListLemmas.{xor_list}
 use Rattle.bits_c.specs.Windows.{Wrote, window}
 
 module _ {R : Type 0} (reading : Reading R) (before after : List R) (start len : ℕ) (some : 0 < reading.bits)

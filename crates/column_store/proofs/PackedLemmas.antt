@@ -1,5 +1,6 @@
 -- Tables that are filled, and read back.
-use Rattle.std.proofs.Common.{◌≡◌, ℕ, ℤ, ◌+◌, ◌*◌, ◌/◌, ◌≤◌, List, [], ◌∷◌, ◌++◌, length, sym, ap, ap₂, subst, ◌∙◌}
+use Rattle.std.proofs.Common.{◌≡◌, ℕ, ℤ, ◌+◌, ◌*◌, ◌/◌, ◌≤◌, List, [], ◌∷◌, ◌++◌}
+use Rattle.std.proofs.Common.{length, sym, ap, ap₂, subst, ◌∙◌}
 use Rattle.std.proofs.Common.{arith, mul-le-mul_right}
 use Rattle.std.specs.Prelude.{Some, None}
 use Rattle.bit_table.specs.Causes.{cause_in}

@@ -1,5 +1,6 @@
 -- The layout of a header (RFC 791, section 3.1), and what bytes without one are refused for.
-use Rattle.std.specs.Prelude.{◌≡◌, ◌≢◌, ℕ, pos, ◌+◌, ◌*◌, ◌/◌, ◌^◌, ◌<◌, ◌≤◌, Bool, List, [], ◌∷◌, ◌++◌, length, take}
+use Rattle.std.specs.Prelude.{◌≡◌, ◌≢◌, ℕ, pos, ◌+◌, ◌*◌, ◌/◌, ◌^◌, ◌<◌, ◌≤◌, Bool}
+use Rattle.std.specs.Prelude.{List, [], ◌∷◌, ◌++◌, length, take}
 use Rattle.std.specs.Net.Addr.{ipv4_bits}
 use Rattle.bit_slice.specs.Memory.{memory, piece}
 use Rattle.ipv4_header.specs.Checksum.{checksum_of}

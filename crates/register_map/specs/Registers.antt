@@ -3,7 +3,8 @@
 -- A map: `Registers`, `IsMap`. A device: `HasDevice`, `width_of`, `IsOwn`; no device: `IsFree`. What it has: `bits_of`,
 -- as a number `number_of`; a flag: `HasFlag`, `flag_of`; room for a number: `HasRoom`. What a command leaves:
 -- `KeepsOthers`. Why one is refused: `IsNoFlag`, `IsNoNumber`.
-use Rattle.std.specs.Prelude.{◌≡◌, ◌≢◌, ℕ, ◌+◌, ◌*◌, ◌^◌, ◌<◌, ◌≤◌, Bool, false, List, [], ◌∷◌, length, slice_index_or}
+use Rattle.std.specs.Prelude.{◌≡◌, ◌≢◌, ℕ, ◌+◌, ◌*◌, ◌^◌, ◌<◌, ◌≤◌, Bool, false}
+use Rattle.std.specs.Prelude.{List, [], ◌∷◌, length, slice_index_or}
 use Rattle.std.specs.Prelude.{if◌then◌else◌}
 use Rattle.bit_addressing.specs.Memory.{entry}
 use Rattle.bit_addressing.specs.Span.{Extent, span_bits, span_place}

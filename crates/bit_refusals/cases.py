@@ -391,6 +391,13 @@ def tables(word, script):
         told = ["room made true less false", *unchanged]
         left = [["room made false less false", *unchanged]]
         case("table !reserve", f"table {word} {script};reserve !{rows}", before, told, left)
+    refused = [["made nothing", *unchanged]]
+    for row in (0, 99):
+        answer = table.answer(f"get {row}".encode())
+        told = "no row" if answer.startswith("refused ") else answer
+        case("table !row", f"table {word} {script};row !{row}", before, [f"made {told}", *unchanged], refused)
+    told = table.answer(b"list x")
+    case("table !marked", f"table {word} {script};marked !x", before, [f"made {told}", *unchanged], refused)
     for rows, lines in WITHIN:
         other = copy.deepcopy(table)
         assert all(other.answer(line.encode()) == "ok" for line in lines)

@@ -18,26 +18,46 @@ pub fn table_case<A: BitViewSized, O: WordPaths<A::Store> + Digits<A::Store>>(
     requires { MAX_ROW_BITS ≤ A.COUNT * A.Store.BITS }
 {
     let (lines, call) = script.rsplit_once(';').unwrap_or(("", ""));
-    let (Some(mut twin), Some(mut table)) = (
-        table_of::<A, O>(rt.alloc(), lines)?,
-        table_of::<A, O>(rt.alloc(), lines)?,
-    ) else {
+    let Some(mut twin) = table_of::<A, O>(rt.alloc(), lines)? else {
+        return no_such_call(rt);
+    };
+    let Some(mut table) = table_of::<A, O>(rt.alloc(), lines)? else {
         return no_such_call(rt);
     };
     show_table(rt, "before", &twin)?;
     show_kept(rt, "before", &mut twin)?;
-    match call {
-        "!keep" => keep(rt, &mut table)?,
-        "!back" => back(rt, &mut table)?,
-        "!relay" => relay::<A, O, [u64; 16], Msb0>(rt, &table)?,
-        _ => match call.split_once('!') {
-            Some(("reserve ", rows)) => reserve(rt, &mut table, rows)?,
-            Some((lines, rows)) => apply_within(rt, &mut table, lines, rows)?,
-            None => apply(rt, &mut table, call)?,
-        },
-    }
+    call_on(rt, &mut table, call)?;
     show_table(rt, "after", &table)?;
     show_kept(rt, "after", &mut table)
+}
+
+// Makes a call: a command, or one that is told by a `!`.
+fn call_on<A: BitViewSized, O: WordPaths<A::Store> + Digits<A::Store>>(
+    rt: &HostRuntime,
+    table: &mut Table<A, O>,
+    call: &str,
+) -> io::Result<()> {
+    match call {
+        "!keep" => keep(rt, table),
+        "!back" => back(rt, table),
+        "!relay" => relay::<A, O, [u64; 16], Msb0>(rt, table),
+        _ => told_call(rt, table, call),
+    }
+}
+
+// A command, or a call that has words before or behind its `!`.
+fn told_call<A: BitViewSized, O: WordPaths<A::Store> + Digits<A::Store>>(
+    rt: &HostRuntime,
+    table: &mut Table<A, O>,
+    call: &str,
+) -> io::Result<()> {
+    match call.split_once('!') {
+        Some(("reserve ", rows)) => reserve(rt, table, rows),
+        Some(("row ", row)) => numbers_of(rt, table, row),
+        Some(("marked ", letter)) => marked(rt, table, letter),
+        Some((lines, rows)) => apply_within(rt, table, lines, rows),
+        None => apply(rt, table, call),
+    }
 }
 
 // The table that lines make.
@@ -80,6 +100,41 @@ fn apply<A: BitViewSized, O: WordPaths<A::Store> + Digits<A::Store>>(
     end(rt, outcome.is_ok())?;
     match outcome {
         Ok(reply) => show_reply(rt, &reply),
+        Err(_) => show_nothing(rt),
+    }
+}
+
+// `Table::row`.
+fn numbers_of<A: BitViewSized, O: WordPaths<A::Store> + Digits<A::Store>>(
+    rt: &HostRuntime,
+    table: &Table<A, O>,
+    row: &str,
+) -> io::Result<()> {
+    let row = row.parse::<u64>().unwrap_or(u64::MAX);
+    begin(rt)?;
+    let outcome = table.row(row);
+    end(rt, outcome.is_ok())?;
+    match outcome {
+        Ok(Some(numbers)) => show_reply(rt, &Reply::Numbers(numbers)),
+        Ok(None) => println!(rt; "made no row"),
+        Err(_) => show_nothing(rt),
+    }
+}
+
+// `Table::marked`.
+fn marked<A: BitViewSized, O: WordPaths<A::Store> + Digits<A::Store>>(
+    rt: &HostRuntime,
+    table: &Table<A, O>,
+    letter: &str,
+) -> io::Result<()> {
+    let Some(letter) = letter.bytes().next().and_then(Letter::new) else {
+        return no_such_call(rt);
+    };
+    begin(rt)?;
+    let outcome = table.marked(letter);
+    end(rt, outcome.is_ok())?;
+    match outcome {
+        Ok(rows) => show_reply(rt, &Reply::Rows(rows)),
         Err(_) => show_nothing(rt),
     }
 }

@@ -53,11 +53,25 @@ word_begins b bits k size most is low =
     omega (arith, words_of_64 b bits size most is)
 
 -- so is the word behind them, where the chunk goes on in it
+pub next_word : (b bits first by words : ℕ) → IsRegisterSize b → b ≤ 64 → bits ≡ b → 0 < by
+    → first * b + by + 64 ≤ words * b → first + 64 / bits < words
+next_word b bits first by words size most is some within =
+    less_words (first + 64 / bits) words b (omega (arith, words_of_64 b bits size most is))
+
+-- which has it behind a place
 pub word_behind : (b bits place words : ℕ) → IsRegisterSize b → b ≤ 64 → bits ≡ b → 0 < place % bits
     → place + 64 ≤ words * b → place / bits + 64 / bits < words
 word_behind b bits place words size most is some within =
     let start : place / bits * b + place % bits ≡ place = first_word b bits place is in
-    less_words (place / bits + 64 / bits) words b (omega (arith, words_of_64 b bits size most is))
+    next_word b bits (place / bits) (place % bits) words size most is some (omega arith)
+
+-- the word in which chunk k behind a place begins
+pub nth_word : (b bits place k : ℕ) → IsRegisterSize b → b ≤ 64 → bits ≡ b
+    → (place / bits + k * (64 / bits)) * b + place % bits ≡ place + 64 * k
+nth_word b bits place k size most is =
+    let start : place / bits * b + place % bits ≡ place = first_word b bits place is in
+    let row : k * (64 / bits * b) ≡ k * 64 = ap (λ n. k * n) (words_of_64 b bits size most is) in
+    omega arith
 
 -- and with it the memory has 64 bits from the place on
 pub chunk_within : (b bits place words : ℕ) → IsRegisterSize b → b ≤ 64 → bits ≡ b → 0 < b

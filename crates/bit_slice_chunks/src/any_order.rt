@@ -90,13 +90,28 @@ pub fn read_chunk<R: BitRegister, O: BitOrder<R>>(
     requires ends { place + 64 < 2 ^ 64 }
     ensures { IsChunk (read_by R.BitRegister O.position) words.now place 64 direction result }
 {
+    read_nth_chunk::<R, O>(direction, words, place, 0)
+}
+
+/// The 64 bits `64 * k` behind a place. A loop over `k` finds the word and the index of the place once.
+#[inline(always)]
+pub fn read_nth_chunk<R: BitRegister, O: BitOrder<R>>(
+    direction: Direction,
+    words: &[R],
+    place: usize,
+    k: usize,
+) -> u64
+    requires within { place + 64 * k + 64 ≤ length words.now * R.BITS }
+    requires ends { place + 64 * k + 64 < 2 ^ 64 }
+    ensures { IsChunk (read_by R.BitRegister O.position) words.now (place + 64 * k) 64 direction result }
+{
     match direction_of::<R, O>() {
         Some(way) => {
-            let chunk = whole::read_chunk::<R, O>(way, words, place);
+            let chunk = whole::read_nth_chunk::<R, O>(way, words, place, k);
             faced(way, direction, chunk)
         }
         None => {
-            let chunk = bits_in::<R, O>(words, place, 64);
+            let chunk = bits_in::<R, O>(words, place + 64 * k, 64);
             faced(Direction::Ascending, direction, chunk)
         }
     }

@@ -23,17 +23,51 @@ pub fn read_chunk<R: BitRegister, O: BitOrder<R>>(
     requires ends { place + 64 < 2 ^ 64 }
     ensures { IsChunk (read_by R.BitRegister O.position) words.now place 64 direction result }
 {
+    read_nth_chunk::<R, O>(direction, words, place, 0)
+}
+
+/// The 64 bits `64 * k` behind a place. A loop over `k` finds the word and the index of the place once.
+#[inline(always)]
+pub fn read_nth_chunk<R: BitRegister, O: BitOrder<R>>(
+    direction: Direction,
+    words: &[R],
+    place: usize,
+    k: usize,
+) -> u64
+    requires goes { Goes R.BITS O.position direction }
+    requires within { place + 64 * k + 64 ≤ length words.now * R.BITS }
+    requires ends { place + 64 * k + 64 < 2 ^ 64 }
+    ensures { IsChunk (read_by R.BitRegister O.position) words.now (place + 64 * k) 64 direction result }
+{
     if R::BITS > 64 {
-        return read_counted::<R, O>(direction, words, place, 64).0;
+        return read_counted::<R, O>(direction, words, place + 64 * k, 64).0;
     }
     let bits = bits_of::<R>();
-    let first = place / bits;
-    let by = (place % bits) as u8;
+    let first = place / bits + k * (64 / bits);
+    read_from::<R, O>(direction, words, first, (place % bits) as u8)
+}
+
+// The 64 bits from an index of a word on.
+#[inline(always)]
+fn read_from<R: BitRegister, O: BitOrder<R>>(
+    direction: Direction,
+    words: &[R],
+    first: usize,
+    by: u8,
+) -> u64
+    requires goes { Goes R.BITS O.position direction }
+    requires narrow { R.BITS ≤ 64 }
+    requires index { by < R.BITS }
+    requires within { first * R.BITS + by + 64 ≤ length words.now * R.BITS }
+    requires ends { first * R.BITS + by + 64 < 2 ^ 64 }
+    ensures { IsChunk (read_by R.BitRegister O.position) words.now (first * R.BITS + by) 64 direction result }
+{
     let low = gathered::<R, O>(direction, words, first);
     if by == 0 {
         return low;
     }
-    let next = part::<R>(direction, words[first + 64 / bits], 0);
+    let behind = first + 64 / bits_of::<R>();
+    let next = part::<R>(direction, words[behind], 0);
     lowered(direction, low, by) | raised(direction, next, 64 - by)
 }
 

@@ -11,7 +11,7 @@ use crate::combining::Combining;
 use bit_addressing_memory::mem::bits_of;
 use bit_addressing_memory::{BitOrder, BitRegister, Direction};
 use bit_slice_chunks::any_order::{
-    combine_bits, combine_chunk, direction_for, read_bits, read_chunk,
+    combine_bits, combine_chunk, direction_for, read_bits, read_chunk, read_nth_chunk,
 };
 use bit_slice_chunks::first_difference;
 
@@ -166,24 +166,25 @@ fn combine_chunks<H: Combining, R: BitRegister, O: BitOrder<R>, Q: BitRegister, 
     }
 }
 
-// The first of 64 bits that differ.
+// The first of the 64 bits behind `64 * k` others that differ.
 #[inline(always)]
 fn difference_of_whole<R: BitRegister, O: BitOrder<R>, Q: BitRegister, P: BitOrder<Q>>(
     words: &[R],
     place: usize,
     others: &[Q],
     other_place: usize,
+    k: usize,
 ) -> usize
-    requires within { place + 64 ≤ length words.now * R.BITS }
-    requires ends { place + 64 < 2 ^ 64 }
-    requires other_within { other_place + 64 ≤ length others.now * Q.BITS }
-    requires other_ends { other_place + 64 < 2 ^ 64 }
-    ensures { Agrees (read_by R.BitRegister O.position) words.now place
-        (read_by Q.BitRegister P.position) others.now other_place 64 result }
+    requires within { place + 64 * k + 64 ≤ length words.now * R.BITS }
+    requires ends { place + 64 * k + 64 < 2 ^ 64 }
+    requires other_within { other_place + 64 * k + 64 ≤ length others.now * Q.BITS }
+    requires other_ends { other_place + 64 * k + 64 < 2 ^ 64 }
+    ensures { Agrees (read_by R.BitRegister O.position) words.now (place + 64 * k)
+        (read_by Q.BitRegister P.position) others.now (other_place + 64 * k) 64 result }
 {
     let direction = direction_for::<R, O>();
-    let chunk = read_chunk::<R, O>(direction, words, place);
-    let other = read_chunk::<Q, P>(direction, others, other_place);
+    let chunk = read_nth_chunk::<R, O>(direction, words, place, k);
+    let other = read_nth_chunk::<Q, P>(direction, others, other_place, k);
     first_difference(direction, chunk, other)
 }
 
@@ -263,15 +264,9 @@ fn difference_of_chunks<R: BitRegister, O: BitOrder<R>, Q: BitRegister, P: BitOr
     let whole = len / 64;
     let rest = len % 64;
     for k in 0..whole {
-        let done = 64 * k;
-        let same = difference_of_whole::<R, O, Q, P>(
-            words,
-            place + done,
-            others,
-            other_place + done,
-        );
+        let same = difference_of_whole::<R, O, Q, P>(words, place, others, other_place, k);
         if same < 64 {
-            return done + same;
+            return 64 * k + same;
         }
     }
     if rest == 0 {

@@ -14,7 +14,8 @@ ghost use Rattle.bit_slice_paths.specs.Steps.{groups, Takes};
 use crate::steps::Steps;
 use bit_addressing_memory::{BitOrder, BitRegister, Direction};
 use bit_slice_chunks::{
-    Combination, combine_bits, combine_chunk, read_bits, read_chunk, write_bits, write_chunk,
+    Combination, combine_bits, combine_chunk, read_bits, read_chunk, read_nth_chunk, write_bits,
+    write_chunk,
 };
 use std::mem;
 
@@ -441,7 +442,7 @@ fn swap_counted<R: BitRegister, O: BitOrder<R>>(
     steps
 }
 
-// Whether two stretches of 64 bits have the same bits.
+// Whether the 64 bits behind `64 * k` others are the same in two stretches.
 #[inline(always)]
 fn equal_chunk<R: BitRegister, O: BitOrder<R>>(
     direction: Direction,
@@ -449,18 +450,19 @@ fn equal_chunk<R: BitRegister, O: BitOrder<R>>(
     place: usize,
     others: &[R],
     other_place: usize,
+    k: usize,
 ) -> bool
     requires goes { Goes R.BITS O.position direction }
-    requires within { place + 64 ≤ length words.now * R.BITS }
-    requires ends { place + 64 < 2 ^ 64 }
-    requires other_within { other_place + 64 ≤ length others.now * R.BITS }
-    requires other_ends { other_place + 64 < 2 ^ 64 }
-    ensures { IsTrue result ↔ ((k : ℕ) → k < 64
-        → entry (read_by R.BitRegister O.position) words.now (place + k)
-        ≡ entry (read_by R.BitRegister O.position) others.now (other_place + k)) }
+    requires within { place + 64 * k + 64 ≤ length words.now * R.BITS }
+    requires ends { place + 64 * k + 64 < 2 ^ 64 }
+    requires other_within { other_place + 64 * k + 64 ≤ length others.now * R.BITS }
+    requires other_ends { other_place + 64 * k + 64 < 2 ^ 64 }
+    ensures { IsTrue result ↔ ((i : ℕ) → i < 64
+        → entry (read_by R.BitRegister O.position) words.now (place + 64 * k + i)
+        ≡ entry (read_by R.BitRegister O.position) others.now (other_place + 64 * k + i)) }
 {
-    let chunk = read_chunk::<R, O>(direction, words, place);
-    let other = read_chunk::<R, O>(direction, others, other_place);
+    let chunk = read_nth_chunk::<R, O>(direction, words, place, k);
+    let other = read_nth_chunk::<R, O>(direction, others, other_place, k);
     chunk == other
 }
 
@@ -552,9 +554,8 @@ fn equal_counted<R: BitRegister, O: BitOrder<R>>(
     let whole = len / 64;
     let rest = len % 64;
     for k in 0..whole {
-        let done = 64 * k;
         steps.step();
-        if !equal_chunk::<R, O>(direction, words, place + done, others, other_place + done) {
+        if !equal_chunk::<R, O>(direction, words, place, others, other_place, k) {
             return (false, steps);
         }
     }

@@ -1,7 +1,6 @@
 //! A script's lines, answered one after another.
-ghost use Rattle.std.specs.Prelude.{◌≡◌, ◌*◌, ◌≤◌, IfOk, OnOk, None, Some, IsTrue};
+ghost use Rattle.std.specs.Prelude.{◌≡◌, ◌*◌, ◌≤◌, IfOk, OnOk, None, Some};
 ghost use Rattle.bit_table_layout.specs.declared.layout.TheConstants.{MAX_ROW_BITS};
-ghost use Rattle.bit_table_layout.specs.LineWords.{words};
 ghost use Rattle.bit_table_commands.specs.Causes.{line_cause};
 ghost use Rattle.bit_table.specs.Scripts.{has_word, answer_by, after_by, state_of};
 ghost use Rattle.bit_table.specs.Shapes.{shape_in};

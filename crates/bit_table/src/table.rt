@@ -1,6 +1,6 @@
 //! A table: rows of a layout, packed bit by bit in words of any width and order.
 
-ghost use Rattle.std.specs.Prelude.{◌≡◌, ◌≢◌, ◌+◌, ◌*◌, ◌≤◌, ◌∷◌, Bool, false, true, length, map, replicate, take, None};
+ghost use Rattle.std.specs.Prelude.{◌≡◌, ◌≢◌, ◌+◌, ◌*◌, ◌≤◌, ◌∷◌, false, true, length, map, replicate, take, None};
 ghost use Rattle.std.specs.Prelude.{ℤ, List, option_map, slice_get};
 ghost use Rattle.std.specs.Prelude.{is_some, IfOk, IsOk, OnOk, OnErr, IsOkUnless, IsTrue, MatchOption};
 ghost use Rattle.bit_addressing_memory.specs.Memory.{read_by};

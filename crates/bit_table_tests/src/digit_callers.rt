@@ -1,6 +1,6 @@
 //! What a user of `Digits` proves from its contracts alone.
 
-ghost use Rattle.std.specs.Prelude.{◌≡◌, ℕ, ◌+◌, ◌-◌, ◌*◌, ◌^◌, ◌<◌, ◌≤◌, true, length};
+ghost use Rattle.std.specs.Prelude.{◌≡◌, ◌+◌, ◌-◌, ◌*◌, ◌^◌, ◌<◌, ◌≤◌, true, length};
 ghost use Rattle.bit_addressing_memory.specs.Memory.{memory, piece, read_by, with_piece};
 ghost use Rattle.bit_slice_views_mut.specs.Frame.{KeepsBeside};
 ghost use Rattle.bit_table_fields.specs.Windows.{is_held};

@@ -4,7 +4,7 @@ use bit_addressing_memory::{BitOrder, Lsb0, Msb0};
 use bit_containers_vector::BitVec;
 use bit_slice_views::{BitSlice, BitStore, Bits};
 use bit_table_rows::{delete_rows, dup_rows, insert_row};
-use std::alloc::{AllocError, Global};
+use std::alloc::AllocError;
 
 // Puts so many rows of seven bits in at the end, and answers how often the capacity changed.
 fn put_at_end<T: BitStore, O: BitOrder<T>>(

@@ -1,4 +1,4 @@
-use Rattle.std.proofs.Common.{arith}
+use Rattle.std.proofs.Common.{◌+◌, ◌*◌, arith}
 use Rattle.bit_addressing_memory.specs.Memory.{read_by}
 use Rattle.bit_slice_paths.proofs.AcrossLemmas.{agrees_chunk}
 use Rattle.bit_slice_paths.proofs.across.difference_of_whole.Goals as goal
@@ -7,6 +7,7 @@ pub returns : goal.returns
 returns g c =
     let reading = read_by g.R.BitRegister g.O.Positions.position in
     let its = read_by g.Q.BitRegister g.P.Positions.position in
-    agrees_chunk reading its c.args.words.now c.args.others.now c.args.place c.args.other_place 64 c.direction_for-direction.result
-    c.read_chunk-chunk.result c.read_chunk-other.result c.first_difference.result _ (omega arith) c.read_chunk-chunk.ensures
-    c.read_chunk-other.ensures c.first_difference.ensures (omega (arith, c.first_difference.ensures.most))
+    agrees_chunk reading its c.args.words.now c.args.others.now (c.args.place + 64 * c.args.k)
+    (c.args.other_place + 64 * c.args.k) 64 c.direction_for-direction.result
+    c.read_nth_chunk-chunk.result c.read_nth_chunk-other.result c.first_difference.result _ (omega arith) c.read_nth_chunk-chunk.ensures
+    c.read_nth_chunk-other.ensures c.first_difference.ensures (omega (arith, c.first_difference.ensures.most))

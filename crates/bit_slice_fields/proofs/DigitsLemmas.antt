@@ -16,19 +16,13 @@ use Rattle.std.proofs.lemmas.Nat.Bits.{bit_at_or, bit_at-pow_same, bit_at-pow_ot
 use Rattle.std.proofs.lemmas.Nat.Bits.{bit_at_cat_low, same_from_bits_below}
 use Rattle.bit_addressing_memory.specs.Bits.{digit_at, bits_in_order}
 use Rattle.bit_addressing_memory.proofs.OrderCallerLemmas.{get_or-bits_in_order, length-bits_in_order}
-use Rattle.bit_slice_fields.specs.Digits.{HasDigits}
+use Rattle.bit_slice_fields.specs.Digits.{Gathered, HasDigits}
 use Rattle.bit_slice_fields.specs.Number.{weight, field_bits}
 use Rattle.bit_slice_fields.specs.Whole.{low_digits}
 use Rattle.bit_slice_fields.proofs.WeightLemmas.{weight_within, weights_apart, weight_onto}
 use Rattle.bit_slice_fields.proofs.WholeLemmas.{low_mod, low_digits-lt}
 
 -- ---- gathered bit by bit
-
--- the bits below i are digits of d at their weights, and the weights of the others are free
-pub record Gathered (weighs : ℕ → ℕ) (bits : List Bool) (i d : ℕ) : Type 0 where
-  pub below : (k : ℕ) → k < i → digit_at d (weighs k) ≡ get_or bits k false
-  pub above : (k : ℕ) → i ≤ k → k < length bits → bit_at d (weighs k) ≡ 0
-  pub small : d < 2 ^ length bits
 
 pub gathered_none : (weighs : ℕ → ℕ) (bits : List Bool) → Gathered weighs bits 0 0
 gathered_none weighs bits = record {

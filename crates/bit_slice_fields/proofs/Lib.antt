@@ -1,5 +1,6 @@
 pub mod WeightLemmas
 mod PieceLemmas
+mod SegmentLemmas
 pub mod WholeLemmas
 pub mod DigitsLemmas
 pub mod CallerLemmas

@@ -1,11 +1,11 @@
 -- Pieces of a window whose bits weigh in turn: what a piece is, gathered, and written.
 --
 -- A piece: `piece_is`. Its digits as a chunk has them: `piece_digits`, `chunk_up`, `chunk_down`. One piece more:
--- `gathered_piece`, `scattered_piece`. A window that is one piece: `whole_piece`, `whole_digits`.
+-- `gathered_piece`, `written_piece`, `scattered_piece`. A window that is one piece: `whole_piece`, `whole_digits`.
 use Rattle.std.proofs.Common.{◌≡◌, ◌⊎◌, ℕ, ◌+◌, ◌-◌, ◌*◌, ◌/◌, ◌%◌, ◌^◌, ◌==◌, ◌<◌, ◌≤◌}
 use Rattle.std.proofs.Common.{Bool, true, false, List, get_or, length, min, bit_or, arith, refl, sym, ap, ◌∙◌, inl, inr}
 use Rattle.std.specs.Int.{bit_at}
-use Rattle.std.proofs.Math.Nat.{div-eq_of_lt, mul-le-mul_right, suc-mul}
+use Rattle.std.proofs.Math.Nat.{div-eq_of_lt, mod-le, mul-le-mul_right, suc-mul}
 use Rattle.std.proofs.Math.Pow.{pow_mono, pow_pos}
 use Rattle.std.proofs.lemmas.Bool.{cases_lt}
 use Rattle.std.proofs.lemmas.Nat.{or_lt, pow-add}
@@ -20,10 +20,9 @@ use Rattle.bit_addressing_memory.specs.Straight.{straight, Goes}
 use Rattle.bit_addressing_memory.proofs.OverwriteLemmas.{overwrites_join}
 use Rattle.bit_addressing_memory.proofs.LimbLemmas.{no_digit}
 use Rattle.bit_slice_chunks.specs.Chunk.{chunk_bit, IsChunk}
-use Rattle.bit_slice_fields.specs.Digits.{HasDigits}
+use Rattle.bit_slice_fields.specs.Digits.{Gathered, HasDigits}
 use Rattle.bit_slice_fields.specs.Number.{segment_start, segment_end, weight, CountsFrom}
 use Rattle.bit_slice_fields.specs.Pieces.{way_for, digits_in, least_bit, ChunkOf, IsPiece}
-use Rattle.bit_slice_fields.proofs.DigitsLemmas.{Gathered}
 use Rattle.bit_slice_fields.proofs.WeightLemmas.{of_bit, same_segment, weight_up, weight_down, weight_within}
 use Rattle.bit_slice_fields.proofs.WeightLemmas.{weights_apart}
 
@@ -213,46 +212,46 @@ whole_digits weighs n v bits way size is has = record {
 
 -- ---- one piece more
 
--- the digits of a number of m digits that is put in from digit w on
-put_low : (v w p : ℕ) → p < 128 → p < w → bit_at (v * 2 ^ w % 2 ^ 128) p ≡ 0
-put_low v w p small low = bit_at_cut (v * 2 ^ w) 128 p small ∙ bit_at_shl_low v w p low
+-- the digits of a number of m digits that is put in from digit w on, of t that there are
+put_low : (t v w p : ℕ) → p < t → p < w → bit_at (v * 2 ^ w % 2 ^ t) p ≡ 0
+put_low t v w p small low = bit_at_cut (v * 2 ^ w) t p small ∙ bit_at_shl_low v w p low
 
-put_high : (v w p : ℕ) → p < 128 → w ≤ p → bit_at (v * 2 ^ w % 2 ^ 128) p ≡ bit_at v (p - w)
-put_high v w p small high = bit_at_cut (v * 2 ^ w) 128 p small ∙ bit_at_shl_high v w p high
+put_high : (t v w p : ℕ) → p < t → w ≤ p → bit_at (v * 2 ^ w % 2 ^ t) p ≡ bit_at v (p - w)
+put_high t v w p small high = bit_at_cut (v * 2 ^ w) t p small ∙ bit_at_shl_high v w p high
 
-put_small : (v w m n : ℕ) → v < 2 ^ m → w + m ≤ n → v * 2 ^ w % 2 ^ 128 < 2 ^ n
-put_small v w m n fits room =
+put_small : (t v w m n : ℕ) → v < 2 ^ m → w + m ≤ n → v * 2 ^ w % 2 ^ t < 2 ^ n
+put_small t v w m n fits room =
     let times : (v + 1) * 2 ^ w ≤ 2 ^ m * 2 ^ w = mul-le-mul_right (2 ^ w) (omega arith) in
     let next : (v + 1) * 2 ^ w ≡ v * 2 ^ w + 2 ^ w = omega (arith, suc-mul v (2 ^ w)) in
     let both : 2 ^ (m + w) ≡ 2 ^ m * 2 ^ w = pow-add 2 m w in
     let grows : 2 ^ (m + w) ≤ 2 ^ n = pow_mono {i = m + w} {j = n} (omega arith) in
     let some : 0 < 2 ^ w = pow_pos w in
-    omega arith
+    omega (arith, mod-le (v * 2 ^ w) (2 ^ t))
 
-module _ (weighs : ℕ → ℕ) (n : ℕ) (bits : List Bool) (way : Direction) (s m w d v : ℕ) (few : n ≤ 128)
+module _ (weighs : ℕ → ℕ) (n : ℕ) (bits : List Bool) (way : Direction) (t s m w d v : ℕ) (few : n ≤ t)
     (size : n ≡ length bits) (apart : (j k : ℕ) → j < n → k < n → weighs j ≡ weighs k → j ≡ k)
     (is : IsPiece weighs n way s m w) (has : HasPiece way bits s m v) where
   -- the weight of a bit of the piece has that bit
   own_digit : ((k : ℕ) → k < n → weighs k < n) → (k : ℕ) → s ≤ k → k < s + m
-      → digit_at (v * 2 ^ w % 2 ^ 128) (weighs k) ≡ get_or bits k false
+      → digit_at (v * 2 ^ w % 2 ^ t) (weighs k) ≡ get_or bits k false
   own_digit within k from upto =
       let i : ℕ = k - s in
       let here : s + i ≡ k = omega arith in
       let at : weighs k ≡ w + straight m way i = ap weighs (sym here) ∙ is.turns i (omega arith) in
       let low = within k (omega (arith, is.inside)) in
       let back : weighs k - w ≡ straight m way i = omega arith in
-      ap (λ x. x == 1) (put_high v w (weighs k) (omega arith) (omega arith) ∙ ap (bit_at v) back)
+      ap (λ x. x == 1) (put_high t v w (weighs k) (omega arith) (omega arith) ∙ ap (bit_at v) back)
       ∙ has.digits i (omega arith)
       ∙ ap (λ j. get_or bits j false) here
 
   -- that of another bit has none
   no_other : ((k : ℕ) → k < n → weighs k < n) → (k : ℕ) → k < n → (k < s) ⊎ (s + m ≤ k)
-      → bit_at (v * 2 ^ w % 2 ^ 128) (weighs k) ≡ 0
+      → bit_at (v * 2 ^ w % 2 ^ t) (weighs k) ≡ 0
   no_other within k inside beside =
       let p : ℕ = weighs k in
       let low = within k inside in
       elim (cases_lt p w) [
-        | inl under ↦ put_low v w p (omega arith) under
+        | inl under ↦ put_low t v w p (omega arith) under
         | inr over ↦ elim (cases_lt (p - w) m) [
           | inl hit ↦
               let i = straight m way (p - w) in
@@ -264,14 +263,14 @@ module _ (weighs : ℕ → ℕ) (n : ℕ) (bits : List Bool) (way : Direction) (
                 | inl before ↦ absurd (omega arith)
                 | inr behind ↦ absurd (omega arith)
               ]
-          | inr past ↦ put_high v w p (omega arith) over ∙ bit_at_above v m (p - w) has.small past
+          | inr past ↦ put_high t v w p (omega arith) over ∙ bit_at_above v m (p - w) has.small past
         ]
       ]
 
-  pub gathered_piece : ((k : ℕ) → k < n → weighs k < n) → (e next : ℕ) → e ≡ bit_or d (v * 2 ^ w % 2 ^ 128)
+  pub gathered_piece : ((k : ℕ) → k < n → weighs k < n) → (e next : ℕ) → e ≡ bit_or d (v * 2 ^ w % 2 ^ t)
       → next ≡ s + m → Gathered weighs bits s d → Gathered weighs bits next e
   gathered_piece within e next made upto had =
-      let u : ℕ = v * 2 ^ w % 2 ^ 128 in
+      let u : ℕ = v * 2 ^ w % 2 ^ t in
       rw (made, upto) (record {
         below = λ k lower. elim (cases_lt k s) [
           | inl before ↦
@@ -286,19 +285,33 @@ module _ (weighs : ℕ → ℕ) (n : ℕ) (bits : List Bool) (way : Direction) (
             let one : bit_at u (weighs k) ≡ 0 = no_other within k (omega arith) (inr higher) in
             let two : bit_at d (weighs k) ≡ 0 = had.above k (omega arith) lower in
             omega (arith, bit_at_or d u (weighs k));
-        small = or_lt (length bits) d u had.small (rw (← size) (put_small v w m n has.small is.fits));
+        small = or_lt (length bits) d u had.small (rw (← size) (put_small t v w m n has.small is.fits));
       })
 
 -- the same of a window's weights
-pub gathered_more : (low le : Bool) (b c h n l s m w d v e next : ℕ) (bits : List Bool) (way : Direction) → 0 < b
-    → n ≤ 128 → c ≡ b → l ≡ n → n ≡ length bits → IsPiece (weight low le c h l) l way s m w
-    → HasPiece way bits s m v → e ≡ bit_or d (v * 2 ^ w % 2 ^ 128) → next ≡ s + m
+pub gathered_more : (low le : Bool) (t b c h n l s m w d v e next : ℕ) (bits : List Bool) (way : Direction) → 0 < b
+    → n ≤ t → c ≡ b → l ≡ n → n ≡ length bits → IsPiece (weight low le c h l) l way s m w
+    → HasPiece way bits s m v → e ≡ bit_or d (v * 2 ^ w % 2 ^ t) → next ≡ s + m
     → Gathered (weight low le b h n) bits s d → Gathered (weight low le b h n) bits next e
-gathered_more low le b c h n l s m w d v e next bits way some few same_b same_n size is has made upto had =
+gathered_more low le t b c h n l s m w d v e next bits way some few same_b same_n size is has made upto had =
     let here = rw (same_b, same_n) at is in
-    gathered_piece (weight low le b h n) n bits way s m w d v few size
+    gathered_piece (weight low le b h n) n bits way t s m w d v few size
     (λ j k in_j in_k same. weights_apart low le b h n j k some in_j in_k same) here has
     (λ k inside. weight_within low le b h n k some inside) e next made upto had
+
+-- a piece written by itself
+pub written_piece : {R : Type 0} (reading : Reading R) (before after : List R) (weighs : ℕ → ℕ)
+    (n s m w d chunk at place : ℕ) (way : Direction) → IsPiece weighs n way s m w → ChunkOf way d w m chunk
+    → at ≡ place → Overwrites reading before after at m (chunk_bit way chunk)
+    → Overwrites reading before after place m (λ k. digit_at d (weighs (s + k)))
+written_piece reading before after weighs n s m w d chunk at place way is of here wrote =
+    let there = rw here at wrote in
+    record {
+      there = λ k low. there.there k low ∙ of k low ∙ ap (digit_at d) (sym (is.turns k low));
+      below = there.below;
+      above = there.above;
+      words = there.words;
+    }
 
 -- one piece more written
 pub scattered_piece : {R : Type 0} (reading : Reading R) (before mid after : List R) (weighs : ℕ → ℕ)

@@ -1,6 +1,7 @@
 pub mod Digits
 pub mod Number
 pub mod Pieces
+pub mod Segments
 pub mod Whole
 -- what public clauses cite of the crates below
 pub use Rattle.bit_addressing_memory.specs.BitOrder

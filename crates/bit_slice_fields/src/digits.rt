@@ -2,22 +2,24 @@
 //! where all its bits weigh in turn, and is read and written as a chunk.
 
 ghost use Rattle.std.specs.Prelude.{◌≡◌, ℕ, ◌+◌, ◌-◌, ◌*◌, ◌%◌, ◌^◌, ◌<◌, ◌≤◌, true, length, bit_or};
+ghost use Rattle.std.specs.Prelude.{if◌then◌else◌};
 ghost use Rattle.bit_addressing_memory.specs.Bits.{bits_in_order, digit_at};
-ghost use Rattle.bit_addressing_memory.specs.Memory.{memory, piece, read_by};
+ghost use Rattle.bit_addressing_memory.specs.Memory.{memory, piece, read_by, Overwrites};
 ghost use Rattle.bit_addressing_memory.specs.Straight.{Goes};
 ghost use Rattle.bit_slice_chunks.specs.Chunk.{IsChunk};
-ghost use Rattle.bit_slice_fields.specs.Digits.{cut_weight, HasDigits};
+ghost use Rattle.bit_slice_fields.specs.Digits.{cut_weight, Gathered, HasDigits};
 ghost use Rattle.bit_slice_fields.specs.Number.{field_bits, segment_end, CountsFrom};
 ghost use Rattle.bit_slice_fields.specs.Pieces.{way_for, digits_in, least_bit, ChunkOf, IsPiece};
+ghost use Rattle.bit_slice_fields.specs.Segments.{IsSegment};
 ghost use Rattle.bit_slice_fields.specs.Whole.{FitsIn};
-ghost use Rattle.bit_slice_views.specs.View.{view_bits};
+ghost use Rattle.bit_slice_views.specs.View.{view_bits, view_head};
 ghost use Rattle.bit_slice_views_mut.specs.Frame.{KeepsBeside};
 
 use crate::integral::Integral;
 use bit_addressing_memory::{
     BitOrder, BitRegister, Direction, Walk, mem, most_singly, write_entry,
 };
-use bit_slice_chunks::{read_bits, read_counted, read_part, write_bits};
+use bit_slice_chunks::{read_bits, read_counted, read_part, write_bits, write_counted};
 use bit_slice_views::{BitSlice, Bits};
 
 // How the bits of a window weigh: which end of a word counts lowest, whether the first segment does, and the index of
@@ -34,6 +36,16 @@ pub(crate) struct Cut {
 struct Piece {
     len: usize,
     weight: usize,
+}
+
+// The bits of a window in one of its words: which word that is, where in it they begin, which of the window's bits is the
+// first of them, and how many they are.
+#[derive(Clone, Copy)]
+struct Segment {
+    word: usize,
+    index: usize,
+    from: usize,
+    len: usize,
 }
 
 // The weight of bit i, of n bits in words of `bits` bits.
@@ -157,16 +169,12 @@ fn way_of(low: bool) -> Direction
 
 // The digits that the first bits of a chunk are, and zeros behind them.
 #[inline(always)]
-fn digits_of(chunk: u64, low: bool, len: usize) -> u128
+fn digits_of(chunk: u64, low: bool, len: usize) -> u64
     requires some { 0 < len }
     requires few { len ≤ 64 }
     ensures { result ≡ digits_in (way_for low) len chunk }
 {
-    if low {
-        u128::from(chunk)
-    } else {
-        u128::from(chunk >> (64 - len))
-    }
+    if low { chunk } else { chunk >> (64 - len) }
 }
 
 // The chunk whose first bits are the digits of a number from the digit `weight` on.
@@ -183,9 +191,18 @@ fn chunk_of(digits: u128, low: bool, weight: usize, len: usize) -> u64
 
 // A number with the digits of a piece put in.
 #[inline(always)]
-fn with_piece(digits: u128, piece: u128, weight: usize) -> u128
+fn with_piece(digits: u128, piece: u64, weight: usize) -> u128
     requires { weight < 128 }
     ensures { result ≡ bit_or digits (piece * 2 ^ weight % 2 ^ 128) }
+{
+    digits | u128::from(piece) << weight
+}
+
+// The same of 64 digits.
+#[inline(always)]
+fn with_few(digits: u64, piece: u64, weight: usize) -> u64
+    requires { weight < 64 }
+    ensures { result ≡ bit_or digits (piece * 2 ^ weight % 2 ^ 64) }
 {
     digits | piece << weight
 }
@@ -218,11 +235,115 @@ fn piece_bits<T: BitRegister, O: BitOrder<T>>(
     read_bits::<T, O>(way, words, place, len)
 }
 
+// Whether a window has 64 bits at most, in more than one word of no more, and they weigh in turn in each word alone.
+#[inline(always)]
+fn goes_by_words(cut: Cut, bits: usize, n: usize) -> bool
+    requires head { cut.head < bits }
+    requires few { bits ≤ 128 }
+    requires short { n ≤ 128 }
+    ensures mirrored { result ≡ true → cut.low ≡ cut.le → ⊥ }
+    ensures narrow { result ≡ true → bits ≤ 64 }
+    ensures few { result ≡ true → n ≤ 64 }
+    ensures more { result ≡ true → bits < cut.head + n }
+{
+    cut.low != cut.le && bits <= 64 && n <= 64 && bits < cut.head + n
+}
+
+// What the least bit of a segment weighs, of a window that goes by words.
+#[inline(always)]
+fn weight_of_segment(low: bool, n: usize, from: usize, len: usize) -> usize
+    requires some { 0 < len }
+    requires inside { from + len ≤ n }
+    ensures value { result ≡ if low then n - (from + len) else from }
+    ensures within { result + len ≤ n }
+{
+    if low { n - (from + len) } else { from }
+}
+
+// A number with the digits of a segment put in.
+#[inline(always)]
+fn with_segment<T: BitRegister, O: BitOrder<T>>(
+    digits: u64,
+    words: &[T],
+    segment: Segment,
+    n: usize,
+    cut: Cut,
+) -> u64
+    requires counts { CountsFrom cut.low T.BITS O.position }
+    requires mirrored { cut.low ≡ cut.le → ⊥ }
+    requires narrow { T.BITS ≤ 64 }
+    requires head { cut.head < T.BITS }
+    requires few { n ≤ 64 }
+    requires fits { cut.head + n ≤ length words.now * T.BITS }
+    requires is { IsSegment T.BITS cut.head n segment }
+    requires had { Gathered (cut_weight cut T.BITS n)
+        (piece (memory (read_by T.BitRegister O.position) words.now) cut.head n) segment.from digits }
+    ensures { Gathered (cut_weight cut T.BITS n)
+        (piece (memory (read_by T.BitRegister O.position) words.now) cut.head n) (segment.from + segment.len) result }
+{
+    let Segment {
+        word,
+        index,
+        from,
+        len,
+    } = segment;
+    let weight = weight_of_segment(cut.low, n, from, len);
+    let chunk = read_part::<T, O>(way_of(cut.low), words, word, index as u8, len as u8);
+    with_few(digits, digits_of(chunk, cut.low, len), weight)
+}
+
+// The number of a window that goes by words, from the first word on.
+#[inline(always)]
+fn gathered_by_words<T: BitRegister, O: BitOrder<T>>(words: &[T], n: usize, cut: Cut) -> u64
+    requires counts { CountsFrom cut.low T.BITS O.position }
+    requires mirrored { cut.low ≡ cut.le → ⊥ }
+    requires narrow { T.BITS ≤ 64 }
+    requires head { cut.head < T.BITS }
+    requires few { n ≤ 64 }
+    requires more { T.BITS < cut.head + n }
+    requires fits { cut.head + n ≤ length words.now * T.BITS }
+    ensures { HasDigits (cut_weight cut T.BITS n)
+        (piece (memory (read_by T.BitRegister O.position) words.now) cut.head n) result }
+{
+    let bits = mem::bits_of::<T>();
+    let mut from = bits - cut.head;
+    let mut word = 1;
+    let first = Segment {
+        word: 0,
+        index: cut.head,
+        from: 0,
+        len: from,
+    };
+    let mut digits = with_segment::<T, O>(0, words, first, n, cut);
+    while from + bits <= n {
+        let whole = Segment {
+            word,
+            index: 0,
+            from,
+            len: bits,
+        };
+        digits = with_segment::<T, O>(digits, words, whole, n, cut);
+        from += bits;
+        word += 1;
+    }
+    if from == n {
+        return digits;
+    }
+    let last = Segment {
+        word,
+        index: 0,
+        from,
+        len: n - from,
+    };
+    with_segment::<T, O>(digits, words, last, n, cut)
+}
+
 // The number that a window holds.
 #[inline(always)]
 pub(crate) fn gathered<T: BitRegister, O: BitOrder<T>>(view: BitSlice<'_, T, O>, cut: Cut) -> u128
     requires counts { CountsFrom cut.low T.BITS O.position }
     requires head { cut.head < T.BITS }
+    requires begins { view_head view ≡ cut.head }
     requires short { length (view_bits (read_by T.BitRegister O.position) view) ≤ 128 }
     ensures { HasDigits (cut_weight cut T.BITS (length (view_bits (read_by T.BitRegister O.position) view.entry)))
         (view_bits (read_by T.BitRegister O.position) view.entry) result }
@@ -232,7 +353,10 @@ pub(crate) fn gathered<T: BitRegister, O: BitOrder<T>>(view: BitSlice<'_, T, O>,
     let (words, head, len) = view.parts();
     if is_one_piece(cut, bits, len) {
         let all = piece_bits::<T, O>(way, words, head as usize, len);
-        return digits_of(all, cut.low, len);
+        return u128::from(digits_of(all, cut.low, len));
+    }
+    if goes_by_words(cut, bits, len) {
+        return u128::from(gathered_by_words::<T, O>(words, len, cut));
     }
     let mut digits = 0u128;
     let mut from = 0;
@@ -259,6 +383,7 @@ pub(crate) fn scatter<T: BitRegister, O: BitOrder<T>>(
     requires within { place + len ≤ length words.old * T.BITS }
     requires ends { place + len < 2 ^ 63 }
     requires head { cut.head < T.BITS }
+    requires begins { place % T.BITS ≡ cut.head }
     requires short { len ≤ 128 }
     ensures list { piece (memory (read_by T.BitRegister O.position) words.new) place len
         ≡ bits_in_order (cut_weight cut T.BITS len) len digits }
@@ -317,6 +442,7 @@ fn scatter_by_pieces<T: BitRegister, O: BitOrder<T>>(
     requires within { place + len ≤ length words.old * T.BITS }
     requires ends { place + len < 2 ^ 63 }
     requires head { cut.head < T.BITS }
+    requires begins { place % T.BITS ≡ cut.head }
     requires short { len ≤ 128 }
     ensures list { piece (memory (read_by T.BitRegister O.position) words.new) place len
         ≡ bits_in_order (cut_weight cut T.BITS len) len digits }
@@ -329,12 +455,102 @@ fn scatter_by_pieces<T: BitRegister, O: BitOrder<T>>(
         write_bits::<T, O>(way, words, place, len, all);
         return;
     }
+    if goes_by_words(cut, bits, len) {
+        scatter_by_words::<T, O>(words, place, len, digits, cut);
+        return;
+    }
     let mut from = 0;
     while from < len {
         let piece = piece_of(cut, bits, len, from);
         let chunk = chunk_of(digits, cut.low, piece.weight, piece.len);
         write_bits::<T, O>(way, words, place + from, piece.len, chunk);
         from += piece.len;
+    }
+}
+
+// Puts the digits that a segment has, of those of a number in the window from a place on, into its word.
+#[inline(always)]
+fn put_segment<T: BitRegister, O: BitOrder<T>>(
+    words: &mut [T],
+    place: usize,
+    n: usize,
+    digits: u128,
+    cut: Cut,
+    segment: Segment,
+)
+    requires counts { CountsFrom cut.low T.BITS O.position }
+    requires mirrored { cut.low ≡ cut.le → ⊥ }
+    requires head { cut.head < T.BITS }
+    requires begins { place % T.BITS ≡ cut.head }
+    requires few { n ≤ 64 }
+    requires within { place + n ≤ length words.old * T.BITS }
+    requires ends { place + n < 2 ^ 63 }
+    requires is { IsSegment T.BITS place n segment }
+    ensures { Overwrites (read_by T.BitRegister O.position) words.old words.new (place + segment.from) segment.len
+        (λ k. digit_at digits (cut_weight cut T.BITS n (segment.from + k))) }
+{
+    let Segment {
+        word,
+        index,
+        from,
+        len,
+    } = segment;
+    let weight = weight_of_segment(cut.low, n, from, len);
+    let chunk = chunk_of(digits, cut.low, weight, len);
+    let at = word * mem::bits_of::<T>() + index;
+    write_counted::<T, O>(way_of(cut.low), words, at, len, chunk);
+}
+
+// The same as `scatter_by_pieces` of a window that goes by words, from the first word on.
+#[inline(always)]
+fn scatter_by_words<T: BitRegister, O: BitOrder<T>>(
+    words: &mut [T],
+    place: usize,
+    n: usize,
+    digits: u128,
+    cut: Cut,
+)
+    requires counts { CountsFrom cut.low T.BITS O.position }
+    requires mirrored { cut.low ≡ cut.le → ⊥ }
+    requires head { cut.head < T.BITS }
+    requires begins { place % T.BITS ≡ cut.head }
+    requires few { n ≤ 64 }
+    requires more { T.BITS < cut.head + n }
+    requires within { place + n ≤ length words.old * T.BITS }
+    requires ends { place + n < 2 ^ 63 }
+    ensures { Overwrites (read_by T.BitRegister O.position) words.old words.new place n
+        (λ k. digit_at digits (cut_weight cut T.BITS n k)) }
+{
+    let bits = mem::bits_of::<T>();
+    let word = place / bits;
+    let mut from = bits - cut.head;
+    let mut at = word + 1;
+    let first = Segment {
+        word,
+        index: cut.head,
+        from: 0,
+        len: from,
+    };
+    put_segment::<T, O>(words, place, n, digits, cut, first);
+    while from + bits <= n {
+        let whole = Segment {
+            word: at,
+            index: 0,
+            from,
+            len: bits,
+        };
+        put_segment::<T, O>(words, place, n, digits, cut, whole);
+        from += bits;
+        at += 1;
+    }
+    if from < n {
+        let last = Segment {
+            word: at,
+            index: 0,
+            from,
+            len: n - from,
+        };
+        put_segment::<T, O>(words, place, n, digits, cut, last);
     }
 }
 
@@ -346,6 +562,7 @@ pub(crate) fn load_window<T: BitRegister, O: BitOrder<T>, M: Integral>(
 ) -> M
     requires counts { CountsFrom cut.low T.BITS O.position }
     requires head { cut.head < T.BITS }
+    requires begins { view_head view ≡ cut.head }
     requires some { 0 < length (view_bits (read_by T.BitRegister O.position) view) }
     requires room { length (view_bits (read_by T.BitRegister O.position) view) ≤ M.BITS }
     ensures bits { view_bits (read_by T.BitRegister O.position) view.entry ≡ field_bits cut.low cut.le T.BITS cut.head
@@ -369,6 +586,7 @@ pub(crate) fn store_window<T: BitRegister, O: BitOrder<T>, M: Integral>(
     requires within { place + len ≤ length words.old * T.BITS }
     requires ends { place + len < 2 ^ 63 }
     requires head { cut.head < T.BITS }
+    requires begins { place % T.BITS ≡ cut.head }
     requires room { len ≤ M.BITS }
     ensures list { piece (memory (read_by T.BitRegister O.position) words.new) place len
         ≡ field_bits cut.low cut.le T.BITS cut.head len (M.whole value) }

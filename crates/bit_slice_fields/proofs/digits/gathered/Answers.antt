@@ -1,5 +1,5 @@
-use Rattle.std.proofs.Common.{◌≡◌, ◌+◌, ◌<◌, length, refl, arith}
-use Rattle.bit_addressing_memory.specs.Memory.{read_by}
+use Rattle.std.proofs.Common.{◌≡◌, ◌+◌, ◌<◌, length, refl, ap, ◌∙◌, arith}
+use Rattle.bit_addressing_memory.specs.Memory.{memory, piece, read_by}
 use Rattle.bit_slice_views.specs.View.{view_bits}
 use Rattle.bit_slice_fields.specs.Digits.{cut_weight}
 use Rattle.bit_slice_fields.specs.Pieces.{way_for}
@@ -26,9 +26,22 @@ returns-then-is_one_piece g c =
     piece_digits (way_for cut.low) reading c.parts-head.result.0.now head len 0 len head c.piece_bits-all.result
     c.digits_of.result shown some (omega arith) is.some is.few (omega arith) c.parts-head.ensures.bits
     c.piece_bits-all.type_inv c.digits_of.ensures chunk in
-    whole_digits (cut_weight cut g.T.BitRegister.BITS (length shown)) (length shown) c.digits_of.result shown
+    rw c.from.ensures
+    (whole_digits (cut_weight cut g.T.BitRegister.BITS (length shown)) (length shown) c.digits_of.result shown
     (way_for cut.low) refl (rw (c.bits_of-bits.ensures, c.parts-head.ensures.len) at is)
-    (rw c.parts-head.ensures.len at has)
+    (rw c.parts-head.ensures.len at has))
+
+pub gathered_by_words-requires-clause-fits : goal.gathered_by_words-requires-clause-fits
+gathered_by_words-requires-clause-fits g c =
+    omega (arith, c.requires.begins, c.parts-head.ensures.head, c.parts-head.ensures.fits)
+
+pub returns-then-goes_by_words : goal.returns-then-goes_by_words
+returns-then-goes_by_words g c =
+    let reading = read_by g.T.BitRegister g.O.Positions.position in
+    let parts = c.parts-head in
+    let head = parts.ensures.head ∙ c.requires.begins in
+    let shows = ap (λ h. piece (memory reading parts.result.0.now) h parts.result.2) head in
+    rw c.from-then-goes_by_words.ensures (rw (← shows, ← parts.ensures.bits, parts.ensures.len) at c.gathered_by_words.ensures)
 
 pub loop-from-init : goal.loop-from-init
 loop-from-init g c =
@@ -61,7 +74,7 @@ loop-from-preserved g c =
     c.parts-head.ensures.bits c.piece_bits-chunk.type_inv c.digits_of-more.ensures chunk in
     record {
       digits =
-          gathered_more cut.low cut.le g.T.BitRegister.BITS c.bits_of-bits.result cut.head (length shown) len from
+          gathered_more cut.low cut.le 128 g.T.BitRegister.BITS c.bits_of-bits.result cut.head (length shown) len from
           piece.len piece.weight c.loop-from.digits c.digits_of-more.result c.with_piece-digits.result
           (from + piece.len) shown (way_for cut.low) some c.requires.short c.bits_of-bits.ensures c.parts-head.ensures.len refl is has
           c.with_piece-digits.ensures refl c.loop-from.invariant.digits;

@@ -1,8 +1,7 @@
 use Rattle.std.proofs.Common.{◌-◌, ◌≤◌, length}
 use Rattle.bit_addressing_memory.specs.Memory.{read_by}
 use Rattle.bit_slice_views.specs.View.{view_bits}
-use Rattle.bit_slice_fields.specs.Digits.{cut_weight}
-use Rattle.bit_slice_fields.proofs.DigitsLemmas.{Gathered}
+use Rattle.bit_slice_fields.specs.Digits.{cut_weight, Gathered}
 use Rattle.bit_slice_fields.proofs.digits.gathered.Given as goal
 
 abbrev pub invariant-loop-from : goal.invariant-loop-from

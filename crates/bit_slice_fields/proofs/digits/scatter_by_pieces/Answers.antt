@@ -27,6 +27,23 @@ returns-then-is_one_piece-clause-list g c =
     c.chunk_of-all.ensures (omega arith) (omega arith)
     (write_none reading c.args.words.now c.args.place 0 digits refl) wrote)
 
+pub returns-then-goes_by_words-clause-list : goal.returns-then-goes_by_words-clause-list
+returns-then-goes_by_words-clause-list g c =
+    let reading = read_by g.T.BitRegister g.O.Positions.position in
+    let weighs = cut_weight c.args.cut g.T.BitRegister.BITS c.args.len in
+    let some : 0 < g.T.BitRegister.BITS = omega (arith, g.met.T.BitRegister.least_bits) in
+    overwritten_list reading c.args.words.now c.scatter_by_words.new.words c.args.place c.args.len some
+    c.requires.within (λ k. digit_at c.args.digits (weighs k)) (bits_in_order weighs c.args.len c.args.digits)
+    (length-bits_in_order weighs c.args.len c.args.digits)
+    (λ k low. sym (get_or-bits_in_order weighs c.args.len c.args.digits k false low)) c.scatter_by_words.ensures
+
+pub returns-then-goes_by_words-clause-beside : goal.returns-then-goes_by_words-clause-beside
+returns-then-goes_by_words-clause-beside g c =
+    overwritten_beside (read_by g.T.BitRegister g.O.Positions.position) c.args.words.now
+    c.scatter_by_words.new.words c.args.place c.args.len c.args.place c.args.len
+    (λ k. digit_at c.args.digits (cut_weight c.args.cut g.T.BitRegister.BITS c.args.len k)) (omega arith)
+    (omega arith) c.scatter_by_words.ensures
+
 pub loop-from-init : goal.loop-from-init
 loop-from-init g c = record {
   written =

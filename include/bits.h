@@ -24,13 +24,15 @@
  *
  * What a caller upholds. No call can see whether these hold:
  *
- *  - A pointer to words is aligned for them and points to at least `count` words. It may be null where `count` is 0. A
- *    pointer for an answer is not null.
+ *  - A pointer to words is aligned for them and points to at least `count` words, all of them initialized. It is not
+ *    null, also where `count` is 0; nor is a pointer for an answer.
  *  - Words that a call writes are no other argument of it: `words` and `other` of copy, and, or and xor share no byte
  *    (`move` is the call for one memory; equal and compare only read, so theirs may be one), and answers lie elsewhere.
  *  - While a call runs, no other thread writes what it reads, or reads or writes what it writes. Nothing else is
  *    shared: calls on other memory may run at the same time.
  *  - A bit that is given is `true` or `false`, as a `bool` of C or C++ always is.
+ *  - malloc, realloc and free, which bit_table_run calls, are those of one allocator. bit_table_run is not called from a
+ *    signal handler, nor in the child that a process with threads has forked.
  *
  * A memory has at most 2^61 - 1 bits; in one that has more, nothing is in range.
  */

@@ -653,7 +653,7 @@ def path_lengths(memory, place, others, from_, name):
 
 
 def path_steps():
-    """Steps: one for each 64 bits of a straight order, and for each bit of another."""
+    """Steps: one for each transfer, of up to 64 bits or of one."""
     rng = random.Random(64)
     for word in ("u8", "u32", "u64", "u128"):
         for order in ("lsb0", "msb0", "hilo"):
@@ -676,16 +676,19 @@ def path_at(word, order, place, from_, length, call, rng):
     return f"{memory.head(place, length)} {name} {others.hex()} {from_}", dict(lines)[name]
 
 
-def steps_of(memory, length):
-    """How many steps a path takes over so many bits."""
-    span = 64 if memory.order in ("lsb0", "msb0") else 1
-    return -(-length // span)
+def steps_of(memory, length, few):
+    """How many steps a path takes over so many bits: under `hilo` the first few go bit by bit, all others by 64."""
+    singly = 0 if memory.order in ("lsb0", "msb0") else min(few, length)
+    return singly - (singly - length) // 64
 
 
 def path_calls(memory, place, others, from_, length):
     bits, its = memory.list()[place : place + length], others.list()[from_ : from_ + length]
     first = next((k for k in range(length) if bits[k] != its[k]), None)
-    equal_steps, steps = steps_of(memory, length if first is None else first + 1), steps_of(memory, length)
+    # how many bits under `hilo` are compared bit by bit, and how many are combined so where there are no more
+    compared, combines = (80, 40) if memory.bits == 32 else (64, 24)
+    equal_steps = steps_of(memory, length if first is None else first + 1, compared)
+    steps = steps_of(memory, length, length if length <= combines else 0)
     yield "path_equal", f"{truths(first is None)} {equal_steps} {memory.hex()} {others.hex()}"
     for call, new in (
         ("path_copy", its),
@@ -694,8 +697,9 @@ def path_calls(memory, place, others, from_, length):
         ("path_or", combined(bits, its, lambda x, y: x | y)),
         ("path_xor", combined(bits, its, lambda x, y: x ^ y)),
     ):
-        yield call, f"true {steps} {memory.put(place, new).hex()} {others.hex()}"
-    yield "path_swap", f"true {steps} {memory.put(place, its).hex()} {others.put(from_, bits).hex()}"
+        taken = steps_of(memory, length, length) if call == "path_over" else steps
+        yield call, f"true {taken} {memory.put(place, new).hex()} {others.hex()}"
+    yield "path_swap", f"true {steps_of(memory, length, length)} {memory.put(place, its).hex()} {others.put(from_, bits).hex()}"
     for call in ("copy_from", "copy_from_slice"):
         yield call, f"true 0 {memory.put(place, its).hex()} {others.hex()}"
 

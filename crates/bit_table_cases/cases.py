@@ -6,6 +6,7 @@ usage: ./cases.py, in this folder.
 """
 
 import itertools
+import math
 import pathlib
 import random
 import re
@@ -131,15 +132,17 @@ def long_rows():
 # ---- tables
 
 
-def span(order):
-    """How many bits a word step carries: 64 where the positions go straight."""
-    return 64 if order in ("lsb0", "msb0") else 1
+def bit_by_bit(word, order):
+    """Up to how many bits a word path combines bit by bit: of more, each step carries up to 64."""
+    if order == "hilo":
+        return 40 if word == "u32" else 24
+    return math.inf if order == "fifth" else 0
 
 
 def table_answer(script, word, order):
     """What a table answers to lines of which some are this program's own."""
     first, *rest = script.split(b"\n")
-    table, answer = Table(Layout(first), WORDS[word], span(order)), ["ok"]
+    table, answer = Table(Layout(first), WORDS[word], bit_by_bit(word, order)), ["ok"]
     for line in rest:
         answer.append(table.own(line[1:].decode()) if line[:1] == b"!" else table.answer(line))
     return "".join(f"{line}\n" for line in answer)
@@ -156,7 +159,7 @@ def tables():
         table(script, answer, STORAGES)
     for rows, script, answer in worked.COMBINED:
         for word, order in [("u8", "lsb0"), *some_storages(4)]:
-            steps = worked.STEPS[rows] if span(order) == 64 else rows
+            steps = rows if order == "fifth" else worked.STEPS[rows]
             table(script, answer.replace("%d", str(steps)), [(word, order)])
     for script, answer in worked.RELAYED:
         for storage in worked.RELAYS:
@@ -312,11 +315,14 @@ def images():
             case(f"image {word} {order} {rows} {image} {rule} a:u2 b:i3", answer)
 
 
-def field_steps(word, order, place, width, high):
-    """A step for each word that a field touches where its digits lie as the positions go, else a step a bit."""
-    if order != ("msb0" if high else "lsb0"):
-        return width
-    return (place + width - 1) // WORDS[word] + 1 - place // WORDS[word]
+def field_steps(word, order, place, width, high, store):
+    """A step for each word that a field touches where its digits lie as the positions go, else one, but that a few bits go
+    bit by bit, and all under `fifth`."""
+    if order == ("msb0" if high else "lsb0"):
+        return (place + width - 1) // WORDS[word] + 1 - place // WORDS[word]
+    straight = 5 if store or word == "u8" else 0
+    few = {"hilo": 16, "fifth": 64}.get(order, straight)
+    return width if width <= few else 1
 
 
 def digits():
@@ -331,12 +337,14 @@ def digits():
         window = bits[place : place + width]
         number = rng.choice((0xB2E5, -0x1D3A, -1, 0x9E3779B97F4A7C15, 5 - (1 << 127), rng.getrandbits(70)))
         answer = [plain.number_of(window, high, signed) for signed in (False, True) for high in (False, True)]
-        steps = sum(field_steps(word, order, place, width, high) for high in (False, True))
-        answer.append(2 * steps)
+        loads, stores = (
+            sum(field_steps(word, order, place, width, high, store) for high in (False, True)) for store in (False, True)
+        )
+        answer.append(2 * loads)
         for high in (False, True):
             stored = plain.digits(number, width, high)
             answer.append(held.with_list(bits[:place] + stored + bits[place + width :]))
-        answer.append(steps)
+        answer.append(stores)
         case(f"digits {word} {order} {held.hex()} {place} {width} {number}", " ".join(map(str, answer)))
 
 
@@ -431,6 +439,20 @@ def rows_of_each_width():
         run(script, lines(script), [storage])
 
 
+def pieces_of_one_byte():
+    """A worked script and a thrown one over each storage: read byte by byte, and answered to a writer that fails."""
+    worked_script, worked_answer = b"high a:u3 b:i4\ninsert 0 5 -1\ninsert 1 2 3\nimage", "ok\nok\nok\n2 be8c\n"
+    script = thrown.script(random.Random(21), 9, 24, 3)
+    for word, order in STORAGES:
+        case(f"run {word} {order} 1 {spelled(worked_script)}", told(worked_answer))
+        case(f"run {word} {order} 1 {spelled(script)}", told(lines(script)))
+        for room in range(len(worked_answer) + 1):
+            taken = worked_answer[:room].replace("\n", " /\n").split("\n")
+            taken = " ".join(part for part in taken if part)
+            fault = " write fault" if room < len(worked_answer) else ""
+            case(f"stopped {word} {order} {room} {spelled(worked_script)}", taken + fault)
+
+
 def main():
     scripts()
     thrown_scripts()
@@ -448,6 +470,7 @@ def main():
     long_rows()
     marked_rows()
     rows_of_each_width()
+    pieces_of_one_byte()
     pathlib.Path("stdin").write_text("".join(f"{line}\n" for line in given))
     pathlib.Path("stdout").write_text("".join(f"{line}\n" for line in wanted))
 

@@ -139,10 +139,11 @@ def copied(rows):
 
 
 class Table:
-    """Rows of a layout; `bits` is the width of its words, which only `moved` tells, `span` how many bits a step carries."""
+    """Rows of a layout; `bits` is the width of its words, which only `moved` tells, `few` up to how many bits go bit by
+    bit, one a step."""
 
-    def __init__(self, layout, bits=64, span=1):
-        self.layout, self.bits, self.span = layout, bits, span
+    def __init__(self, layout, bits=64, few=0):
+        self.layout, self.bits, self.few = layout, bits, few
         self.rows, self.kept, self.moved = [], None, [0] * 27
 
     def answer(self, line):
@@ -323,7 +324,8 @@ class Table:
         # none for a letter and itself
         self.answer(line.encode())
         x, y = rest.split()
-        return str(0 if x == y else -(-len(self.rows) // self.span))
+        rows = len(self.rows)
+        return str(0 if x == y else rows if rows <= self.few else -(-rows // 64))
 
 
 COMMANDS = {

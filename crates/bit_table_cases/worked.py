@@ -300,7 +300,7 @@ TABLES = [
 ]
 
 # Both letters of an operation, and one alone: of seventy rows 29 bear both, 41 exactly one. So many rows are so many steps
-# where a step carries 64 bits, and as many as they are where it carries one.
+# where a step carries 64 bits, and as many as they are where it carries one, under `fifth`.
 STEPS = {0: 0, 70: 2, 1000: 16}
 COMBINED = [
     (

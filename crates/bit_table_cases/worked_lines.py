@@ -238,14 +238,14 @@ IMAGES = [
 # Cases of a memory, whole.
 MEMORIES = [
     # 1 0 1 1: 13 from the lowest digit on, 11 from the highest, and with a sign
-    # that is a step for the word by the rule of the order, and by the other one a step a digit
+    # that is a step for the word by the rule of the order, and by the other one, of so few, a step a digit
     ("digits u8 lsb0 0d 0 4 13", "13 11 -3 -5 10 0d 0b 5"),
     ("digits u8 msb0 d0 0 4 13", "11 13 -5 -3 10 b0 d0 5"),
-    # behind a field of three digits one of 64 touches nine words of 8 bits, and two of 64
-    ("digits u8 lsb0 080000000000000000 3 64 1", f"1 {1 << 63} 1 {-1 << 63} 146 080000000000000000 000000000000000004 73"),
+    # behind a field of three digits one of 64 touches nine words of 8 bits, and two of 64; by the other rule it is one step
+    ("digits u8 lsb0 080000000000000000 3 64 1", f"1 {1 << 63} 1 {-1 << 63} 20 080000000000000000 000000000000000004 10"),
     (
         "digits u64 lsb0 00000000000000080000000000000000 3 64 1",
-        f"1 {1 << 63} 1 {-1 << 63} 132 00000000000000080000000000000000 00000000000000000000000000000004 66",
+        f"1 {1 << 63} 1 {-1 << 63} 6 00000000000000080000000000000000 00000000000000000000000000000004 3",
     ),
     # the two rows by both rules in three orders: 1 0 1, 1 1 1 1, 0 1 0, and then 1 1 0 0 or 0 0 1 1
     ("row u8 lsb0 0000 0 0 low a:u3 b:i4 c:u3 d:i4;5 -1 2 3", "[5, -1, 2, 3] 7d0d"),

@@ -2,7 +2,7 @@
 use Rattle.std.proofs.Common.{◌≡◌, ℕ, zero, suc, ◌+◌, ◌-◌, ◌*◌, ◌/◌, ◌%◌, ◌<◌, ◌≤◌, inl, inr, sym, ap, ◌∙◌, arith}
 use Rattle.std.proofs.Math.Nat.{mul-le-mul_right}
 use Rattle.std.proofs.lemmas.Bool.{cases_lt}
-use Rattle.std.proofs.lemmas.Nat.{div-add-mod', div-mul-add}
+use Rattle.std.proofs.lemmas.Nat.{div-add-mod', div-mul-add, div_below, le-div, mod_below}
 use Rattle.bit_addressing_memory.specs.Memory.{touched}
 
 -- a place before the end of n words of b bits lies in one of them
@@ -76,3 +76,23 @@ touched_words b place (suc m) first from last upto start end low some within any
     let head : place / b ≡ first = ap (λ p. p / b) (sym start) ∙ div-mul-add first b from low in
     let tail : (place + m) / b ≡ last = ap (λ p. p / b) (sym at) ∙ div-mul-add last b (upto - 1) (omega arith) in
     omega (arith, head, tail)
+
+le_mul : (m b : ℕ) → 0 < b → m ≤ m * b
+le_mul zero b some = omega arith
+le_mul (suc m) b some = omega (arith, le_mul m b some)
+
+-- no more words than bits
+pub touched_few : (b place n : ℕ) → 0 < b → touched b place n ≤ n
+touched_few b place zero some = omega arith
+touched_few b place (suc m) some =
+    let rest = mod_below place b some in
+    let last = div_below (place + m) b (place / b + m + 1) some
+    (omega (arith, div-add-mod' place b, rest, le_mul m b some)) in
+    omega (arith, last)
+
+-- and where there are bits one word at least
+pub touched_some : (b place n : ℕ) → 0 < b → 0 < n → 0 < touched b place n
+touched_some b place zero some any = absurd (omega arith)
+touched_some b place (suc m) some any =
+    let last = le-div (place / b) (place + m) b some (omega (arith, div-add-mod' place b)) in
+    omega (arith, last)

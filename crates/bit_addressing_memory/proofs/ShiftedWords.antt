@@ -1,8 +1,8 @@
 -- One word of a move, by shifts.
 --
 -- `begins_aligned`, `begins_inside`, `begins_across`: a word that begins with the bits from a place on, of one word or
--- of two. `whole_word`, `edge_word`: with such a word the word of the move is gathered.
--- `place_at`, `cut_place`: which place a word begins at. `word_within`, `cut_first`, `cut_next`,
+-- of two. `whole_word`, `edge_word`, `beside_word`: with such a word the word of the move is gathered.
+-- `place_at`, `cut_place`: which place a word begins at. `less_words`, `word_within`, `cut_first`, `cut_next`,
 -- `filled_within`, `edge_some`: what is read is there.
 use Rattle.std.proofs.Common.{◌≡◌, ℕ, ◌+◌, ◌-◌, ◌*◌, ◌/◌, ◌%◌, ◌<◌, ◌≤◌, min, List, length, get_or}
 use Rattle.std.proofs.Common.{refl, sym, ap, ◌∙◌, inl, inr, arith}
@@ -16,7 +16,8 @@ use Rattle.bit_addressing_memory.specs.Partial.{IsStored}
 use Rattle.bit_addressing_memory.specs.MoveSteps.{BeginsWith, IsGathered, moved_bit}
 use Rattle.bit_addressing_memory.proofs.Gathers.{moved_bit_inside, moved_bit_below, moved_bit_above}
 
-less_words : (x y w : ℕ) → x * w < y * w → x < y
+-- fewer words where there are fewer bits
+pub less_words : (x y w : ℕ) → x * w < y * w → x < y
 less_words x y w less = elim (cases_lt x y) [
   | inl low ↦ low
   | inr high ↦ absurd (omega (arith, mul-le-mul_right w high))
@@ -31,30 +32,25 @@ pub word_within : (w b p n words : ℕ) → b ≡ w → 0 < w → 0 < n → p + 
 word_within w b p n words is some any within = rw is (div_below p w words some (omega arith))
 
 -- the place that goes to the word m words behind `low`
-pub cut_place : (w b source target low m : ℕ) → b ≡ w → target ≤ low * w
-    → ((source + (low * b - target)) / b + m) * w + (source + (low * b - target)) % b
-    ≡ source + ((low + m) * w - target)
-cut_place w b source target low m is begins =
-    let place : ℕ = source + (low * b - target) in
-    let same : low * b ≡ low * w = ap (λ v. low * v) is in
-    omega (arith, place_at w b place is)
+pub cut_place : (w source target low m word by : ℕ) → word * w + by ≡ source + (low * w - target) → target ≤ low * w
+    → (word + m) * w + by ≡ source + ((low + m) * w - target)
+cut_place w source target low m word by first begins = omega (arith, first)
 
 -- the word that it lies in is one of the words
-pub cut_first : (w b source target len low high m words : ℕ) → b ≡ w → 0 < w → target ≤ low * w → low + m < high
-    → high * w ≤ target + len → source + len ≤ words * w → (source + (low * b - target)) / b + m < words
-cut_first w b source target len low high m words is some begins inside ends within =
-    let place : ℕ = source + (low * b - target) in
+pub cut_first : (w source target len low high m word by words : ℕ) → word * w + by ≡ source + (low * w - target)
+    → 0 < w → target ≤ low * w → low + m < high → high * w ≤ target + len → source + len ≤ words * w
+    → word + m < words
+cut_first w source target len low high m word by words first some begins inside ends within =
     let more : (low + m + 1) * w ≤ high * w = mul-le-mul_right w (omega arith) in
-    less_words (place / b + m) words w (omega (arith, cut_place w b source target low m is begins))
+    less_words (word + m) words w (omega (arith, cut_place w source target low m word by first begins))
 
 -- and so is the next, unless it begins there
-pub cut_next : (w b source target len low high m words : ℕ) → b ≡ w → target ≤ low * w → low + m < high
-    → high * w ≤ target + len → source + len ≤ words * w → 0 < (source + (low * b - target)) % b
-    → (source + (low * b - target)) / b + m + 1 < words
-cut_next w b source target len low high m words is begins inside ends within some =
-    let place : ℕ = source + (low * b - target) in
+pub cut_next : (w source target len low high m word by words : ℕ) → word * w + by ≡ source + (low * w - target)
+    → target ≤ low * w → low + m < high → high * w ≤ target + len → source + len ≤ words * w → 0 < by
+    → word + m + 1 < words
+cut_next w source target len low high m word by words first begins inside ends within some =
     let more : (low + m + 1) * w ≤ high * w = mul-le-mul_right w (omega arith) in
-    less_words (place / b + m + 1) words w (omega (arith, cut_place w b source target low m is begins))
+    less_words (word + m + 1) words w (omega (arith, cut_place w source target low m word by first begins))
 
 -- a word that the target fills is one of the words
 pub filled_within : (w target len high k words : ℕ) → k < high → high * w ≤ target + len → 0 < w
@@ -122,6 +118,40 @@ whole_word reading before k source target len place word low high from begins i 
     begins i small
     ∙ ap (entry reading before) there
     ∙ sym (moved_bit_inside reading before source target len (k * reading.bits + i) (omega arith) (omega arith))
+
+-- a word that has the source's bits where the target lies, and its own beside them
+pub beside_word : {R : Type 0} (reading : Reading R) (before : List R)
+    (k source target len start from upto b : ℕ) (own there word : R)
+    → b ≡ reading.bits → start ≡ k * b → from ≡ target - start → upto ≡ min b (target + len - start)
+    → k < length before → own ≡ get_or before k own
+    → ((i : ℕ) → from ≤ i → i < upto
+    → reading.digit there i ≡ entry reading before (source + (k * reading.bits + i - target)))
+    → IsStored reading own word from upto (reading.digit there)
+    → IsGathered reading before k source target len word reading.bits
+beside_word reading before k source target len start from upto b own there word is at lower higher within read begins put
+    i small =
+    let here : k * reading.bits + i ≡ start + i = rw (at, ← is) (omega arith) in
+    let old : reading.digit own i ≡ entry reading before (start + i) =
+    entry_read reading before k i own small within read ∙ ap (entry reading before) here in
+    let result = ap (moved_bit reading before source target len) here in
+    elim (cases_lt i from) [
+      | inl under ↦
+          put.below i under small
+          ∙ old
+          ∙ sym (result ∙ moved_bit_below reading before source target len (start + i) (omega arith))
+      | inr up ↦ elim (cases_lt i upto) [
+        | inl inside ↦
+            let spot_is : source + (k * reading.bits + i - target) ≡ source + (start + i - target) = omega arith in
+            put.inside i up inside small
+            ∙ begins i up inside
+            ∙ ap (entry reading before) spot_is
+            ∙ sym (result ∙ moved_bit_inside reading before source target len (start + i) (omega arith) (omega arith))
+        | inr past ↦
+            put.above i past small
+            ∙ old
+            ∙ sym (result ∙ moved_bit_above reading before source target len (start + i) (omega arith))
+      ]
+    ]
 
 -- a word of the move with others beside them
 pub edge_word : {R : Type 0} (reading : Reading R) (before : List R)

@@ -8,6 +8,7 @@ mod entry;
 mod limbs;
 mod masking;
 mod moves;
+mod one_place;
 mod place;
 pub mod places;
 mod shift;

@@ -2,7 +2,7 @@
 //! the other, or at all of a narrower word, the first lowest. Eight of them are put at a time, so that a compiler joins
 //! those whose positions lie side by side. A limb costs the same however few of its bits are wanted.
 
-ghost use Rattle.std.specs.Prelude.{◌≡◌, ℕ, ◌+◌, ◌-◌, ◌*◌, ◌/◌, ◌^◌, ◌<◌, ◌≤◌, false, length, min};
+ghost use Rattle.std.specs.Prelude.{◌≡◌, ℕ, ◌+◌, ◌-◌, ◌*◌, ◌/◌, ◌^◌, ◌<◌, ◌≤◌, false, List, length, min};
 ghost use Rattle.bit_addressing_order.specs.Bits.{digit_at};
 ghost use Rattle.bit_addressing_memory.specs.Limbs.{HasEntries};
 ghost use Rattle.bit_addressing_memory.specs.Memory.{entry, indexed, read_by, Overwrites};
@@ -61,27 +61,25 @@ pub fn put_bits_in<R: BitRegister, O: BitOrder<R>>(
     }
 }
 
-// A word with the bits of a memory from a place on at its indices from one up to before another, all in one limb, that from
-// the index `base` on. Its other bits stay.
+// A word with the digits of a number, which are bits of a memory, at its indices from one up to before another, all in one
+// limb, that from the index `base` on. Its other bits stay.
 #[inline(always)]
 pub(crate) fn with_bits<R: BitRegister, O: BitOrder<R>>(
     word: R,
     base: u8,
     from: u8,
     upto: u8,
-    words: &[R],
-    place: usize,
+    bits: u64,
 ) -> R
     requires limb { base + min 64 R.BITS ≤ R.BITS }
     requires low { base ≤ from }
     requires order { from < upto }
     requires high { upto ≤ base + min 64 R.BITS }
-    requires within { place + (upto - from) ≤ length words.now * R.BITS }
-    requires ends { place + (upto - from) < 2 ^ 64 }
-    ensures { IsStored (read_by R.BitRegister O.position) word result from upto
-        (λ i. entry (read_by R.BitRegister O.position) words.now (place + (i - from))) }
+    ensures { (words : List R) → (place : ℕ)
+        → HasEntries (read_by R.BitRegister O.position) words place (upto - from) bits
+        → IsStored (read_by R.BitRegister O.position) word result from upto
+        (λ i. entry (read_by R.BitRegister O.position) words (place + (i - from))) }
 {
-    let bits = bits_in::<R, O>(words, place, (upto - from) as usize);
     if upto - from == R::BITS.min(64) {
         return with_limb::<R, O>(word, base, bits);
     }

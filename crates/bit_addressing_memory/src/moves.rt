@@ -14,7 +14,8 @@ ghost use Rattle.bit_addressing_memory.specs.Ways.{way_for};
 use crate::direction::{Direction, direction_of};
 use crate::entry::{read_bit, write_bit};
 use crate::limbs::with_bits;
-use crate::shifted::{put_shifted, with_shifted};
+use crate::one_place::put_straight;
+use crate::shifted::with_shifted;
 use crate::sweep::{Sweep, Way};
 use crate::walks::{Walk, most_singly};
 use bit_addressing_order::mem::bits_of;
@@ -60,7 +61,7 @@ pub fn move_in<R: BitRegister, O: BitOrder<R>>(
         return;
     }
     match direction_of::<R, O>() {
-        Some(direction) => put_shifted::<R, O>(sweep, direction, source, target, len),
+        Some(direction) => put_straight::<R, O>(sweep, direction, source, target, len),
         None => put_gathered::<R, O>(sweep, source, target, len),
     }
 }
@@ -100,8 +101,7 @@ fn put_gathered<R: BitRegister, O: BitOrder<R>>(
     }
 }
 
-// The word `k` as the move leaves it: the source's bits inside the target, its own beside it. A read is counted for it,
-// and for each of the source's bits.
+// The word `k` as the move leaves it: the source's bits inside the target, its own beside it.
 fn gathered<R: BitRegister, O: BitOrder<R>>(
     sweep: &mut Sweep<'_, R>,
     k: usize,
@@ -131,8 +131,8 @@ fn gathered<R: BitRegister, O: BitOrder<R>>(
 }
 
 /// A word with the bits of a sweep's words from a place on at its indices from one up to before another: by shifts where
-/// the positions go in a direction, else by limbs, or one by one. Its other bits stay. A read is counted for each bit that
-/// is taken, where it is taken.
+/// the positions go in a direction, else by limbs, or one by one. Its other bits stay. Each word that is read is counted
+/// where it is read: at least one, at most one for each bit, and in a direction those that the bits touch, each once.
 #[inline(always)]
 pub fn taken<R: BitRegister, O: BitOrder<R>>(
     sweep: &mut Sweep<'_, R>,
@@ -149,17 +149,15 @@ pub fn taken<R: BitRegister, O: BitOrder<R>>(
     requires ends { place + (upto - from) < 2 ^ 64 }
     ensures stored { IsStored (read_by R.BitRegister O.position) own result from upto
         (λ i. entry (read_by R.BitRegister O.position) (sweep_words sweep.old) (place + (i - from))) }
-    ensures reads { reads_of sweep.new ≡ min (reads_of sweep.old + (upto - from)) (2 ^ 64 - 1) }
+    ensures reads { reads_of sweep.new ≤ reads_of sweep.old + (upto - from) }
+    ensures some { min (reads_of sweep.old + 1) (2 ^ 64 - 1) ≤ reads_of sweep.new }
+    ensures straight { (d : Direction) → direction ≡ Some d → reads_of sweep.new
+        ≡ min (reads_of sweep.old + touched R.BITS place (upto - from)) (2 ^ 64 - 1) }
     ensures same { SameButReads sweep.old sweep.new }
     ensures lender { sweep_lender sweep.new ≡ sweep_lender sweep.old }
 {
     match direction {
-        Some(direction) => {
-            let words = sweep.all();
-            let word = with_shifted::<R, O>(direction, words, place, own, from, upto);
-            sweep.count_reads((upto - from) as usize);
-            word
-        }
+        Some(direction) => with_shifted::<R, O>(sweep, direction, place, own, from, upto),
         None => taken_turned::<R, O>(sweep, place, own, from, upto),
     }
 }
@@ -179,7 +177,8 @@ fn taken_turned<R: BitRegister, O: BitOrder<R>>(
     requires ends { place + (upto - from) < 2 ^ 64 }
     ensures stored { IsStored (read_by R.BitRegister O.position) own result from upto
         (λ i. entry (read_by R.BitRegister O.position) (sweep_words sweep.old) (place + (i - from))) }
-    ensures reads { reads_of sweep.new ≡ min (reads_of sweep.old + (upto - from)) (2 ^ 64 - 1) }
+    ensures reads { reads_of sweep.new ≤ reads_of sweep.old + (upto - from) }
+    ensures some { min (reads_of sweep.old + 1) (2 ^ 64 - 1) ≤ reads_of sweep.new }
     ensures same { SameButReads sweep.old sweep.new }
     ensures lender { sweep_lender sweep.new ≡ sweep_lender sweep.old }
 {
@@ -205,7 +204,8 @@ fn taken_by_limbs<R: BitRegister, O: BitOrder<R>>(
     requires ends { place + (upto - from) < 2 ^ 64 }
     ensures stored { IsStored (read_by R.BitRegister O.position) own result from upto
         (λ i. entry (read_by R.BitRegister O.position) (sweep_words sweep.old) (place + (i - from))) }
-    ensures reads { reads_of sweep.new ≡ min (reads_of sweep.old + (upto - from)) (2 ^ 64 - 1) }
+    ensures reads { reads_of sweep.new ≤ reads_of sweep.old + (upto - from) }
+    ensures some { min (reads_of sweep.old + 1) (2 ^ 64 - 1) ≤ reads_of sweep.new }
     ensures same { SameButReads sweep.old sweep.new }
     ensures lender { sweep_lender sweep.new ≡ sweep_lender sweep.old }
 {
@@ -216,6 +216,9 @@ fn taken_by_limbs<R: BitRegister, O: BitOrder<R>>(
         return taken_limb::<R, O>(sweep, 64, place, own, from, upto);
     }
     let begun = taken_limb::<R, O>(sweep, 0, place, own, from, 64);
+
+    // As many as a `u64` counts.
+    let _read = sweep.reads();
     let behind = place + (64 - from) as usize;
     taken_limb::<R, O>(sweep, 64, behind, begun, 64, upto)
 }
@@ -238,14 +241,13 @@ fn taken_limb<R: BitRegister, O: BitOrder<R>>(
     requires ends { place + (upto - from) < 2 ^ 64 }
     ensures stored { IsStored (read_by R.BitRegister O.position) own result from upto
         (λ i. entry (read_by R.BitRegister O.position) (sweep_words sweep.old) (place + (i - from))) }
-    ensures reads { reads_of sweep.new ≡ min (reads_of sweep.old + (upto - from)) (2 ^ 64 - 1) }
+    ensures reads { reads_of sweep.new ≤ reads_of sweep.old + (upto - from) }
+    ensures some { min (reads_of sweep.old + 1) (2 ^ 64 - 1) ≤ reads_of sweep.new }
     ensures same { SameButReads sweep.old sweep.new }
     ensures lender { sweep_lender sweep.new ≡ sweep_lender sweep.old }
 {
-    let words = sweep.all();
-    let word = with_bits::<R, O>(own, base, from, upto, words, place);
-    sweep.count_reads((upto - from) as usize);
-    word
+    let bits = sweep.read_bits::<O>(place, (upto - from) as usize);
+    with_bits::<R, O>(own, base, from, upto, bits)
 }
 
 // The same bit by bit: each is read by itself.

@@ -4,8 +4,8 @@
 //! The words between the two edges are put in loops that call nothing, so that a compiler keeps the
 //! sweep's counts in registers.
 
-ghost use Rattle.std.specs.Prelude.{◌≡◌, ◌+◌, ◌-◌, ◌*◌, ◌/◌, ◌^◌, ◌<◌, ◌≤◌, length};
-ghost use Rattle.bit_addressing_memory.specs.Memory.{entry, read_by};
+ghost use Rattle.std.specs.Prelude.{◌≡◌, ◌+◌, ◌-◌, ◌*◌, ◌/◌, ◌^◌, ◌<◌, ◌≤◌, length, min};
+ghost use Rattle.bit_addressing_memory.specs.Memory.{entry, read_by, touched};
 ghost use Rattle.bit_addressing_memory.specs.Partial.{IsStored};
 ghost use Rattle.bit_addressing_memory.specs.Straight.{Goes};
 ghost use Rattle.bit_addressing_memory.specs.declared.sweep.Way.TheVariants.{Up, Down};
@@ -89,15 +89,20 @@ fn put_up<R: BitRegister, O: BitOrder<R>>(
 {
     let bits = bits_of::<R>();
     let place = source + (low * bits - target);
-    let word = place / bits;
-    let by = place % bits;
-    'up: for k in low..high {
-        let whole = cut::<R, O>(sweep, direction, word + (k - low), by);
-        sweep.put(k, whole);
-    }
+    put_joined_up::<R, O>(
+        sweep,
+        direction,
+        low,
+        high,
+        place / bits,
+        place % bits,
+        source,
+        target,
+        len,
+    );
 }
 
-// The same downwards.
+// Puts the words from `low` up to before `high`, which have no bits but the target's, downwards.
 #[inline(always)]
 fn put_down<R: BitRegister, O: BitOrder<R>>(
     sweep: &mut Sweep<'_, R>,
@@ -125,8 +130,85 @@ fn put_down<R: BitRegister, O: BitOrder<R>>(
 {
     let bits = bits_of::<R>();
     let place = source + (low * bits - target);
-    let word = place / bits;
-    let by = place % bits;
+    put_joined_down::<R, O>(
+        sweep,
+        direction,
+        low,
+        high,
+        place / bits,
+        place % bits,
+        source,
+        target,
+        len,
+    );
+}
+
+// The same, where the first of these words begins at the index `by` of the memory's word `word`.
+#[inline(always)]
+pub(crate) fn put_joined_up<R: BitRegister, O: BitOrder<R>>(
+    sweep: &mut Sweep<'_, R>,
+    direction: Direction,
+    low: usize,
+    high: usize,
+    word: usize,
+    by: usize,
+    source: usize,
+    target: usize,
+    len: usize,
+)
+    requires goes { Goes R.BITS O.position direction }
+    requires way { way_of sweep.old ≡ Up }
+    requires edge { edge_of sweep.old ≤ low }
+    requires order { low ≤ high }
+    requires ahead { target ≤ source }
+    requires begins { target ≤ low * R.BITS }
+    requires ends { high * R.BITS ≤ target + len }
+    requires index { by < R.BITS }
+    requires first { word * R.BITS + by ≡ source + (low * R.BITS - target) }
+    requires source_within { source + len ≤ length (sweep_words sweep.old) * R.BITS }
+    requires target_within { target + len ≤ length (sweep_words sweep.old) * R.BITS }
+    requires source_ends { source + len < 2 ^ 64 }
+    requires target_ends { target + len < 2 ^ 64 }
+    ensures put { PutsWords (read_by R.BitRegister O.position) sweep.old sweep.new source target len low high }
+    ensures edge { edge_of sweep.new ≤ high }
+    ensures reads { reads_of sweep.new + 3 * low ≤ reads_of sweep.old + 3 * high }
+{
+    'up: for k in low..high {
+        let whole = cut::<R, O>(sweep, direction, word + (k - low), by);
+        sweep.put(k, whole);
+    }
+}
+
+// The same downwards.
+#[inline(always)]
+pub(crate) fn put_joined_down<R: BitRegister, O: BitOrder<R>>(
+    sweep: &mut Sweep<'_, R>,
+    direction: Direction,
+    low: usize,
+    high: usize,
+    word: usize,
+    by: usize,
+    source: usize,
+    target: usize,
+    len: usize,
+)
+    requires goes { Goes R.BITS O.position direction }
+    requires way { way_of sweep.old ≡ Down }
+    requires edge { high ≤ edge_of sweep.old }
+    requires order { low ≤ high }
+    requires behind { source ≤ target }
+    requires begins { target ≤ low * R.BITS }
+    requires ends { high * R.BITS ≤ target + len }
+    requires index { by < R.BITS }
+    requires first { word * R.BITS + by ≡ source + (low * R.BITS - target) }
+    requires source_within { source + len ≤ length (sweep_words sweep.old) * R.BITS }
+    requires target_within { target + len ≤ length (sweep_words sweep.old) * R.BITS }
+    requires source_ends { source + len < 2 ^ 64 }
+    requires target_ends { target + len < 2 ^ 64 }
+    ensures put { PutsWords (read_by R.BitRegister O.position) sweep.old sweep.new source target len low high }
+    ensures edge { low ≤ edge_of sweep.new }
+    ensures reads { reads_of sweep.new + 3 * low ≤ reads_of sweep.old + 3 * high }
+{
     'down: for k in (low..high).rev() {
         let whole = cut::<R, O>(sweep, direction, word + (k - low), by);
         sweep.put(k, whole);
@@ -210,10 +292,12 @@ fn bits_from<R: BitRegister, O: BitOrder<R>>(
     requires most { count ≤ R.BITS }
     requires within { place + count ≤ length (sweep_words sweep.old) * R.BITS }
     ensures digits { BeginsWith (read_by R.BitRegister O.position) (sweep_words sweep.old) place count result }
-    ensures reads { reads_of sweep.new ≤ reads_of sweep.old + 2 }
+    ensures reads { reads_of sweep.new ≡ min (reads_of sweep.old + touched R.BITS place count) (2 ^ 64 - 1) }
+    ensures few { reads_of sweep.new ≤ reads_of sweep.old + 2 }
     ensures same { SameButReads sweep.old sweep.new }
     ensures lender { sweep_lender sweep.new ≡ sweep_lender sweep.old }
 {
+    let _read = sweep.reads();
     let bits = bits_of::<R>();
     let word = place / bits;
     let index = place % bits;
@@ -242,9 +326,11 @@ fn cut<R: BitRegister, O: BitOrder<R>>(
     ensures digits { BeginsWith (read_by R.BitRegister O.position) (sweep_words sweep.old)
         (word * R.BITS + by) R.BITS result }
     ensures reads { reads_of sweep.new ≤ reads_of sweep.old + 2 }
+    ensures two { 0 < by → reads_of sweep.new ≡ min (reads_of sweep.old + 2) (2 ^ 64 - 1) }
     ensures same { SameButReads sweep.old sweep.new }
     ensures lender { sweep_lender sweep.new ≡ sweep_lender sweep.old }
 {
+    let _read = sweep.reads();
     let first = sweep.read(word);
     if by == 0 {
         return first;
@@ -253,38 +339,12 @@ fn cut<R: BitRegister, O: BitOrder<R>>(
     joined::<R, O>(direction, first, next, by as u8)
 }
 
-// A word that begins with so many bits of a memory, as `bits_from` has it, without a count.
-#[inline(always)]
-fn bits_at<R: BitRegister, O: BitOrder<R>>(
-    direction: Direction,
-    words: &[R],
-    place: usize,
-    count: usize,
-) -> R
-    requires goes { Goes R.BITS O.position direction }
-    requires some { 0 < count }
-    requires most { count ≤ R.BITS }
-    requires within { place + count ≤ length words.now * R.BITS }
-    ensures { BeginsWith (read_by R.BitRegister O.position) words.now place count result }
-{
-    let bits = bits_of::<R>();
-    let word = place / bits;
-    let index = place % bits;
-    let first = words[word];
-    if index == 0 {
-        return first;
-    }
-    if index + count <= bits {
-        return joined::<R, O>(direction, first, first, index as u8);
-    }
-    joined::<R, O>(direction, first, words[word + 1], index as u8)
-}
-
-// A word with the bits of a memory from a place on at its indices from one up to before another. Its other bits stay.
+// A word with the bits of the sweep's words from a place on at its indices from one up to before another. Its other bits
+// stay.
 #[inline(always)]
 pub(crate) fn with_shifted<R: BitRegister, O: BitOrder<R>>(
+    sweep: &mut Sweep<'_, R>,
     direction: Direction,
-    words: &[R],
     place: usize,
     own: R,
     from: u8,
@@ -293,11 +353,14 @@ pub(crate) fn with_shifted<R: BitRegister, O: BitOrder<R>>(
     requires goes { Goes R.BITS O.position direction }
     requires order { from < upto }
     requires index { upto ≤ R.BITS }
-    requires within { place + (upto - from) ≤ length words.now * R.BITS }
-    ensures { IsStored (read_by R.BitRegister O.position) own result from upto
-        (λ i. entry (read_by R.BitRegister O.position) words.now (place + (i - from))) }
+    requires within { place + (upto - from) ≤ length (sweep_words sweep.old) * R.BITS }
+    ensures stored { IsStored (read_by R.BitRegister O.position) own result from upto
+        (λ i. entry (read_by R.BitRegister O.position) (sweep_words sweep.old) (place + (i - from))) }
+    ensures reads { reads_of sweep.new ≡ min (reads_of sweep.old + touched R.BITS place (upto - from)) (2 ^ 64 - 1) }
+    ensures same { SameButReads sweep.old sweep.new }
+    ensures lender { sweep_lender sweep.new ≡ sweep_lender sweep.old }
 {
-    let moved = bits_at::<R, O>(direction, words, place, (upto - from) as usize);
+    let moved = bits_from::<R, O>(sweep, direction, place, (upto - from) as usize);
     let there = raised::<R, O>(direction, moved, from);
     let head = BitIdx::new_unchecked(from);
     stored::<R, O>(own, there, head, BitEnd::new_unchecked(upto))

@@ -3,8 +3,14 @@
 //!
 //! While a sweep is there, its words are read and written through it alone.
 
-ghost use Rattle.std.specs.Prelude.{◌≡◌, ℕ, ◌+◌, ◌-◌, ◌^◌, ◌<◌, ◌≤◌, length, min, slice_index_or, slice_set};
+ghost use Rattle.std.specs.Prelude.{◌≡◌, ℕ, ◌+◌, ◌-◌, ◌*◌, ◌^◌, ◌<◌, ◌≤◌, length, min, slice_index_or, slice_set};
+ghost use Rattle.bit_addressing_memory.specs.Limbs.{HasEntries};
+ghost use Rattle.bit_addressing_memory.specs.Memory.{read_by, touched};
 ghost use Rattle.bit_addressing_memory.specs.Ways.{IsPast, edge_after, passed, way_for};
+
+use crate::limbs::bits_in;
+use bit_addressing_order::mem::bits_of;
+use bit_addressing_order::{BitOrder, BitRegister};
 
 /// The way in which a sweep writes.
 #[derive(Clone, Copy, PartialEq, Eq, Debug)]
@@ -87,22 +93,12 @@ impl<'a, R: Copy> Sweep<'a, R> {
         self.words[k]
     }
 
-    // All words. No read is counted.
+    // All words. What reads of them counts it.
     #[inline(always)]
-    pub(crate) fn all(&self) -> &[R]
+    fn all(&self) -> &[R]
         ensures { result.now ≡ sweep_words self.now }
     {
         self.words
-    }
-
-    // Counts so many reads more.
-    #[inline(always)]
-    pub(crate) fn count_reads(&mut self, more: usize)
-        ensures reads { reads_of self.new ≡ min (reads_of self.old + more) (2 ^ 64 - 1) }
-        ensures same { SameButReads self.old self.new }
-        ensures lender { sweep_lender self.new ≡ sweep_lender self.old }
-    {
-        self.reads = self.reads.saturating_add(more as u64);
     }
 
     /// Writes the word `k`, which is one of the words and strictly past the last written one in the
@@ -134,8 +130,8 @@ impl<'a, R: Copy> Sweep<'a, R> {
         self.way
     }
 
-    /// How many words were read, one that is read for several bits at once counted once for each: the greatest `u64` where
-    /// there were more.
+    /// How many words were read, a word that is read again counted again: `u64::MAX` where there were more. A word of 128
+    /// bits whose halves are read one by one counts once for each half.
     pub fn reads(&self) -> u64
         ensures { result ≡ reads_of self.now }
     {
@@ -147,5 +143,30 @@ impl<'a, R: Copy> Sweep<'a, R> {
         ensures { result ≡ writes_of self.now }
     {
         self.writes
+    }
+}
+
+impl<'a, R: BitRegister> Sweep<'a, R> {
+    ghost use Rattle.bit_addressing_memory.specs.Sweep.{SameButReads, reads_of, sweep_lender, sweep_words};
+
+    // The `count` bits from a place on, 1 to 64, in any lawful order, as one number, as `bits_in` reads them. A read is
+    // counted for each word that they touch, or for each half of a word of 128 bits.
+    #[inline(always)]
+    pub(crate) fn read_bits<O: BitOrder<R>>(&mut self, place: usize, count: usize) -> u64
+        requires some { 0 < count }
+        requires few { count ≤ 64 }
+        requires within { place + count ≤ length (sweep_words self.old) * R.BITS }
+        requires ends { place + count < 2 ^ 64 }
+        ensures digits { HasEntries (read_by R.BitRegister O.position) (sweep_words self.old) place count result }
+        ensures reads { reads_of self.new
+            ≡ min (reads_of self.old + touched (min 64 R.BITS) place count) (2 ^ 64 - 1) }
+        ensures same { SameButReads self.old self.new }
+        ensures lender { sweep_lender self.new ≡ sweep_lender self.old }
+    {
+        let bits = bits_of::<R>().min(64);
+        let limbs = (place + count - 1) / bits + 1 - place / bits;
+        let number = bits_in::<R, O>(self.all(), place, count);
+        self.reads = self.reads.saturating_add(limbs as u64);
+        number
     }
 }

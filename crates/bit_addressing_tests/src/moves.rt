@@ -1,7 +1,7 @@
-//! Rows of moves, with reads and writes.
+//! Rows of moves, with reads and writes, and every small move compared with a plain copy of bits.
 
-use crate::callers::{byte_reads, move_counted, move_list, own_array};
-use bit_addressing::{Lsb0, Msb0};
+use crate::callers::{byte_reads, move_counted, move_list, move_within, own_array};
+use bit_addressing::{BitOrder, Lsb0, Msb0};
 use bit_addressing_sample_orders::FifthStep;
 
 #[test]
@@ -40,4 +40,44 @@ fn moves_under_another_order(rt: HostRuntime) {
     let (words, writes) = own_array::<u8, Lsb0>(0x12, 0x34, 0x56);
     assert!(rt; words == [0x41, 0x63, 0x56]);
     assert!(rt; writes <= 2);
+}
+
+// The bits of nine bytes, where the bit at each index of a byte is the digit of a mask.
+fn listed(masks: [u8; 8], bytes: [u8; 9]) -> [bool; 72] {
+    let mut list = [false; 72];
+    for place in 0..72usize {
+        list[place] = bytes[place / 8] & masks[place % 8] != 0;
+    }
+    list
+}
+
+// The first source, target and length up to 24, 24 and 40 whose move over nine bytes leaves other bits than a plain copy
+// of the bits one by one. `masks` has the digit of each index of a byte.
+fn first_other_move<O: BitOrder<u8>>(masks: [u8; 8]) -> Option<(usize, usize, usize)> {
+    let before = [0x12u8, 0x34, 0x56, 0x78, 0x9a, 0xbc, 0xde, 0xf0, 0x5b];
+    let own = listed(masks, before);
+    for source in 0..25usize {
+        for target in 0..25usize {
+            for len in 0..41usize {
+                let mut copied = own;
+                for i in 0..len {
+                    copied[target + i] = own[source + i];
+                }
+                let mut words = before;
+                let _writes = move_within::<u8, O>(&mut words, source, target, len);
+                if listed(masks, words) != copied {
+                    return Some((source, target, len));
+                }
+            }
+        }
+    }
+    None
+}
+
+#[test]
+fn every_small_move_is_a_plain_copy(rt: HostRuntime) {
+    assert!(rt; first_other_move::<Lsb0>([1, 2, 4, 8, 16, 32, 64, 128]) == None);
+    assert!(rt; first_other_move::<Msb0>([128, 64, 32, 16, 8, 4, 2, 1]) == None);
+    // the digits 3, 0, 5, 2, 7, 4, 1, 6
+    assert!(rt; first_other_move::<FifthStep>([8, 1, 32, 4, 128, 16, 2, 64]) == None);
 }

@@ -1,5 +1,9 @@
 -- What is left of an array's bits.
-use Rattle.std.specs.Prelude.{ℕ, Bool, List, length, min}
+--
+-- Its list: `left_bits`. Where it lies: `left_place`, `left_words`. What a call takes off: `GivesFirstLeft`,
+-- `GivesLastLeft`.
+use Rattle.std.specs.Prelude.{ℕ, ◌≡◌, ◌+◌, Bool, List, length, min, Option, MatchOption}
+use Rattle.std.specs.Iterator.{YieldsFirst, YieldsLast}
 use Rattle.bit_addressing_memory.specs.Memory.{Reading, piece}
 use Rattle.bit_containers_array.specs.Array.{array_bits, array_with, array_words}
 use Rattle.bit_containers_array.specs.declared.iter.IntoIter.{IntoIter}
@@ -19,3 +23,20 @@ left_words words iter = array_words words iter.array
 abbrev pub left_with : {A O S R : Type 0} → (A → List R → A) → IntoIter A O S → List R → IntoIter A O S
 left_with with_words iter words =
     record iter { array = array_with iter.array (with_words iter.array.words words) }
+
+-- a call gives the first bit, or nothing where none is left; what is left then begins behind it, in the same words
+abbrev pub GivesFirstLeft : {A O S R : Type 0} → Reading R → (A → List R) → IntoIter A O S → Option Bool
+    → IntoIter A O S → Type 0
+GivesFirstLeft reading words before r after =
+    YieldsFirst (left_bits reading words) before r after
+    × (left_words words after ≡ left_words words before)
+    × MatchOption r (left_place reading words after ≡ left_place reading words before)
+    (λ _. left_place reading words after ≡ left_place reading words before + 1)
+
+-- the same of the last bit: what is left begins where it did
+abbrev pub GivesLastLeft : {A O S R : Type 0} → Reading R → (A → List R) → IntoIter A O S → Option Bool
+    → IntoIter A O S → Type 0
+GivesLastLeft reading words before r after =
+    YieldsLast (left_bits reading words) before r after
+    × (left_words words after ≡ left_words words before)
+    × (left_place reading words after ≡ left_place reading words before)

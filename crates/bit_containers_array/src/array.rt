@@ -89,9 +89,8 @@ impl<A: BitViewSized, O: BitOrder<A::Store>> Bits for BitArray<A, O> {
 #[tactic(auto, using(bit_slice_views_mut::proofs::FrameLemmas::frames))]
 impl<A: BitViewSized, O: BitOrder<A::Store>> BitsMut for BitArray<A, O> {
     ghost use Rattle.std.specs.Prelude.{refl};
-    ghost use Rattle.bit_slice_views_mut.specs.Frame.{frame_of};
     ghost use Rattle.bit_slice_views_mut.specs.FrameLaws.{front_start};
-    ghost use Rattle.bit_containers_array.specs.Array.{array_bits, array_words};
+    ghost use Rattle.bit_containers_array.specs.Array.{array_bits, array_frame, array_words};
     ghost use Rattle.bit_containers_array.specs.ArrayLaws.{first_window, first_within};
 
     ghost Lender = { Unit {0} };
@@ -102,8 +101,7 @@ impl<A: BitViewSized, O: BitOrder<A::Store>> BitsMut for BitArray<A, O> {
 
     ghost place = { λ _. 0 };
 
-    ghost frame = { λ array. frame_of (read_by A.Store.BitRegister O.position) tt (array_words A.words array) 0
-        (length (array_bits (read_by A.Store.BitRegister O.position) A.words array)) };
+    ghost frame = { array_frame (read_by A.Store.BitRegister O.position) A.words };
 
     fn first_place(&self) -> usize {
         0

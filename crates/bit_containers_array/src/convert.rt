@@ -1,7 +1,7 @@
 //! Arrays of bits made: from words, from none, from a window.
 
-ghost use Rattle.std.specs.Prelude.{◌≡◌, ◌*◌, ◌↔◌, false, length, min, replicate, IsOk, IfOk, IfErr};
-ghost use Rattle.bit_addressing_memory.specs.Memory.{read_by};
+ghost use Rattle.std.specs.Prelude.{◌≡◌, ◌-◌, ◌*◌, ◌++◌, ◌↔◌, false, length, min, replicate, IsOk, IfOk, IfErr};
+ghost use Rattle.bit_addressing_memory.specs.Memory.{memory, read_by};
 ghost use Rattle.bit_slice_views.specs.SpanLimits.{MAX_BITS};
 ghost use Rattle.bit_slice_views.specs.View.{view_bits, view_head};
 
@@ -32,10 +32,11 @@ impl<A: BitViewSized, O: BitOrder<A::Store>> Default for BitArray<A, O> {
     }
 }
 
-/// The bits of a window, which has as many as the array and begins with a word.
+/// The bits of a window, which has as many as the array and begins with a word. Where the words of the array have more
+/// than `MAX_BITS`, the others are 0.
 impl<'a, A: BitViewSized, O: BitOrder<A::Store>> TryFrom<BitSlice<'a, A::Store, O>>
     for BitArray<A, O> {
-    ghost use Rattle.bit_containers_array.specs.Array.{array_bits};
+    ghost use Rattle.bit_containers_array.specs.Array.{array_bits, array_words};
     ghost use Rattle.bit_containers_array.specs.FromView.{IsFirstFault};
 
     type Error = TryFromBitSliceError;
@@ -43,8 +44,11 @@ impl<'a, A: BitViewSized, O: BitOrder<A::Store>> TryFrom<BitSlice<'a, A::Store, 
     ghost try_from_gives = { λ view made.
         (IsOk made ↔ ((length (view_bits (read_by A.Store.BitRegister O.position) view)
         ≡ min (A.COUNT * A.Store.BITS) MAX_BITS) × (view_head view ≡ 0)))
-        × IfOk made (λ array. array_bits (read_by A.Store.BitRegister O.position) A.words array
+        × IfOk made (λ array. (array_bits (read_by A.Store.BitRegister O.position) A.words array
         ≡ view_bits (read_by A.Store.BitRegister O.position) view)
+        × (memory (read_by A.Store.BitRegister O.position) (array_words A.words array)
+        ≡ view_bits (read_by A.Store.BitRegister O.position) view ++ replicate (A.COUNT * A.Store.BITS
+        - length (view_bits (read_by A.Store.BitRegister O.position) view)) false))
         × IfErr made (IsFirstFault (length (view_bits (read_by A.Store.BitRegister O.position) view))
         (min (A.COUNT * A.Store.BITS) MAX_BITS)) };
 

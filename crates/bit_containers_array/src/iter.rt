@@ -2,7 +2,7 @@
 
 ghost use Rattle.std.specs.Prelude.{◌≡◌, ◌+◌, ◌%◌, ⊤, length, min, IfSome, Some};
 ghost use Rattle.std.specs.Borrow.{Array, follows, sem};
-ghost use Rattle.std.specs.Iterator.{YieldsFirst, YieldsLast, item_count, UpTo};
+ghost use Rattle.std.specs.Iterator.{item_count, UpTo};
 ghost use Rattle.std.specs.Iterator.SizeHint.{IsWithinCount};
 ghost use Rattle.bit_addressing_memory.specs.Memory.{piece, read_by};
 ghost use Rattle.bit_slice_views.specs.View.{view_bits, view_head};
@@ -29,14 +29,16 @@ pub struct IntoIter<A: BitViewSized, O: BitOrder<A::Store>> {
 
 #[tactic(auto, using(crate::proofs::LeftLemmas::left))]
 impl<A: BitViewSized, O: BitOrder<A::Store>> IntoIter<A, O> {
-    ghost use Rattle.bit_containers_array.specs.Array.{array_bits};
+    ghost use Rattle.bit_containers_array.specs.Array.{array_bits, array_words};
     ghost use Rattle.bit_containers_array.specs.Left.{left_bits, left_place, left_words, left_with};
     ghost use Rattle.bit_containers_array.specs.contracts.iter.IntoIter.{the_row};
 
     /// The bits of an array.
     pub fn new(array: BitArray<A, O>) -> IntoIter<A, O>
-        ensures { left_bits (read_by A.Store.BitRegister O.position) A.words result
+        ensures bits { left_bits (read_by A.Store.BitRegister O.position) A.words result
             ≡ array_bits (read_by A.Store.BitRegister O.position) A.words array }
+        ensures words { left_words A.words result ≡ array_words A.words array }
+        ensures place { left_place (read_by A.Store.BitRegister O.position) A.words result ≡ 0 }
     {
         let count = array.len();
         IntoIter {
@@ -130,11 +132,11 @@ impl<A: BitViewSized, O: BitOrder<A::Store>> Clone for IntoIter<A, O> {
 
 #[tactic(auto, using(crate::proofs::LeftLemmas::left))]
 impl<A: BitViewSized, O: BitOrder<A::Store>> Iterator for IntoIter<A, O> {
-    ghost use Rattle.bit_containers_array.specs.Left.{left_bits};
+    ghost use Rattle.bit_containers_array.specs.Left.{left_bits, GivesFirstLeft};
 
     type Item = bool;
 
-    ghost next_gives = { YieldsFirst (left_bits (read_by A.Store.BitRegister O.position) A.words) };
+    ghost next_gives = { GivesFirstLeft (read_by A.Store.BitRegister O.position) A.words };
 
     ghost remaining = { item_count (left_bits (read_by A.Store.BitRegister O.position) A.words) };
 
@@ -167,9 +169,9 @@ impl<A: BitViewSized, O: BitOrder<A::Store>> Iterator for IntoIter<A, O> {
 
 #[tactic(auto, using(crate::proofs::LeftLemmas::left))]
 impl<A: BitViewSized, O: BitOrder<A::Store>> DoubleEndedIterator for IntoIter<A, O> {
-    ghost use Rattle.bit_containers_array.specs.Left.{left_bits};
+    ghost use Rattle.bit_containers_array.specs.Left.{GivesLastLeft};
 
-    ghost next_back_gives = { YieldsLast (left_bits (read_by A.Store.BitRegister O.position) A.words) };
+    ghost next_back_gives = { GivesLastLeft (read_by A.Store.BitRegister O.position) A.words };
 
     fn next_back(&mut self) -> Option<bool> {
         let left = self.as_bitslice();
@@ -194,15 +196,17 @@ impl<A: BitViewSized, O: BitOrder<A::Store>> ExactSizeIterator for IntoIter<A, O
 impl<A: BitViewSized, O: BitOrder<A::Store>> FusedIterator for IntoIter<A, O> {}
 
 impl<A: BitViewSized, O: BitOrder<A::Store>> IntoIterator for BitArray<A, O> {
-    ghost use Rattle.bit_containers_array.specs.Array.{array_bits};
-    ghost use Rattle.bit_containers_array.specs.Left.{left_bits};
+    ghost use Rattle.bit_containers_array.specs.Array.{array_bits, array_words};
+    ghost use Rattle.bit_containers_array.specs.Left.{left_bits, left_place, left_words};
 
     type Item = bool;
 
     type IntoIter = IntoIter<A, O>;
 
-    ghost into_iter_gives = { λ array iter. left_bits (read_by A.Store.BitRegister O.position) A.words iter
-        ≡ array_bits (read_by A.Store.BitRegister O.position) A.words array };
+    ghost into_iter_gives = { λ array iter. (left_bits (read_by A.Store.BitRegister O.position) A.words iter
+        ≡ array_bits (read_by A.Store.BitRegister O.position) A.words array)
+        × (left_words A.words iter ≡ array_words A.words array)
+        × (left_place (read_by A.Store.BitRegister O.position) A.words iter ≡ 0) };
 
     fn into_iter(self) -> IntoIter<A, O> {
         IntoIter::new(self)

@@ -4,8 +4,8 @@ ghost use Rattle.std.specs.Prelude.{◌≡◌, ◌*◌, ◌≤◌, ◌↔◌, le
 ghost use Rattle.std.specs.Box.{boxed_slice_items};
 ghost use Rattle.bit_addressing_memory.specs.Memory.{memory, read_by};
 ghost use Rattle.bit_slice_views.specs.SpanLimits.{MAX_BITS};
-ghost use Rattle.bit_containers_box.specs.Box.{box_bits, box_head, box_words, IsBoxed};
-ghost use Rattle.bit_containers_vector.specs.Vector.{vec_bits, vec_head, vec_words};
+ghost use Rattle.bit_containers_box.specs.Box.{box_bits, box_head, box_words, box_room, IsBoxed, KeepsBlock};
+ghost use Rattle.bit_containers_vector.specs.Vector.{vec_bits, vec_head, vec_words, room};
 
 use crate::boxed::BitBox;
 use bit_addressing_memory::BitOrder;
@@ -42,7 +42,9 @@ impl<T: BitStore, O: BitOrder<T>> From<BitBox<T, O>> for BoxedSlice<T> {
 impl<T: BitStore, O: BitOrder<T>> From<BitBox<T, O>> for BitVec<T, O> {
     ghost from_gives = { λ from made.
         (vec_bits (read_by T.BitRegister O.position) made ≡ box_bits (read_by T.BitRegister O.position) from)
-        × (vec_head made ≡ box_head from) × (vec_words made ≡ box_words from) };
+        × (vec_head made ≡ box_head from) × (vec_words made ≡ box_words from)
+        × (room (read_by T.BitRegister O.position) made ≡ box_room (read_by T.BitRegister O.position) from)
+        × KeepsBlock from made };
 
     fn from(from: BitBox<T, O>) -> BitVec<T, O> {
         from.into_bitvec()

@@ -2,11 +2,11 @@
 
 ghost use Rattle.std.specs.Prelude.{◌≡◌, ◌+◌, ◌*◌, ◌%◌, ◌^◌, ◌<◌, ◌≤◌, length, IfOk, IfSome, Some};
 ghost use Rattle.std.specs.Borrow.{Array, follows, sem};
-ghost use Rattle.std.specs.Iterator.{YieldsFirst, YieldsLast, item_count, UpTo};
+ghost use Rattle.std.specs.Iterator.{item_count, UpTo};
 ghost use Rattle.std.specs.Iterator.SizeHint.{IsWithinCount};
 ghost use Rattle.bit_addressing_memory.specs.Memory.{read_by};
 ghost use Rattle.bit_slice_views.specs.SpanLimits.{MAX_BITS};
-ghost use Rattle.bit_containers_box.specs.Box.{box_bits, box_words};
+ghost use Rattle.bit_containers_box.specs.Box.{box_bits, box_head, box_words};
 ghost use Rattle.bit_slice_views.specs.View.{view_bits, view_head};
 ghost use Rattle.bit_slice_views_mut.specs.ViewMut.{lent_bits, lent_lender, lent_place, lent_words};
 
@@ -90,6 +90,7 @@ impl<T: BitStore, O: BitOrder<T>> IntoIter<T, O> {
         ensures bits { IfOk result (λ made. left_bits (read_by T.BitRegister O.position) made
             ≡ left_bits (read_by T.BitRegister O.position) self.now) }
         ensures words { IfOk result (λ made. left_words made ≡ left_words self.now) }
+        ensures place { IfOk result (λ made. left_place made ≡ left_place self.now) }
     {
         let words = Vec::from_slice(*self.words.allocator(), self.words.as_slice())?;
         Ok(IntoIter {
@@ -103,11 +104,11 @@ impl<T: BitStore, O: BitOrder<T>> IntoIter<T, O> {
 
 #[tactic(auto, using(crate::proofs::LeftLemmas::left))]
 impl<T: BitStore, O: BitOrder<T>> Iterator for IntoIter<T, O> {
-    ghost use Rattle.bit_containers_box.specs.Left.{left_bits};
+    ghost use Rattle.bit_containers_box.specs.Left.{left_bits, GivesFirstLeft};
 
     type Item = bool;
 
-    ghost next_gives = { YieldsFirst (left_bits (read_by T.BitRegister O.position)) };
+    ghost next_gives = { GivesFirstLeft (read_by T.BitRegister O.position) };
 
     ghost remaining = { item_count (left_bits (read_by T.BitRegister O.position)) };
 
@@ -138,9 +139,9 @@ impl<T: BitStore, O: BitOrder<T>> Iterator for IntoIter<T, O> {
 
 #[tactic(auto, using(crate::proofs::LeftLemmas::left))]
 impl<T: BitStore, O: BitOrder<T>> DoubleEndedIterator for IntoIter<T, O> {
-    ghost use Rattle.bit_containers_box.specs.Left.{left_bits};
+    ghost use Rattle.bit_containers_box.specs.Left.{GivesLastLeft};
 
-    ghost next_back_gives = { YieldsLast (left_bits (read_by T.BitRegister O.position)) };
+    ghost next_back_gives = { GivesLastLeft (read_by T.BitRegister O.position) };
 
     fn next_back(&mut self) -> Option<bool> {
         if self.len == 0 {
@@ -165,7 +166,7 @@ impl<T: BitStore, O: BitOrder<T>> FusedIterator for IntoIter<T, O> {}
 
 /// The bits of the box, as truth values.
 impl<T: BitStore, O: BitOrder<T>> IntoIterator for BitBox<T, O> {
-    ghost use Rattle.bit_containers_box.specs.Left.{left_bits, left_words};
+    ghost use Rattle.bit_containers_box.specs.Left.{left_bits, left_place, left_words};
 
     type Item = bool;
 
@@ -173,7 +174,7 @@ impl<T: BitStore, O: BitOrder<T>> IntoIterator for BitBox<T, O> {
 
     ghost into_iter_gives = { λ bits iter.
         (left_bits (read_by T.BitRegister O.position) iter ≡ box_bits (read_by T.BitRegister O.position) bits)
-        × (left_words iter ≡ box_words bits) };
+        × (left_words iter ≡ box_words bits) × (left_place iter ≡ box_head bits) };
 
     fn into_iter(self) -> IntoIter<T, O> {
         IntoIter {

@@ -6,8 +6,9 @@ ghost use Rattle.std.specs.Iterator.{Drains, IsFinite, size};
 ghost use Rattle.bit_addressing_memory.specs.Memory.{memory, read_by};
 ghost use Rattle.bit_slice_views.specs.SpanLimits.{MAX_BITS};
 ghost use Rattle.bit_containers_box.specs.Box.{box_bits, box_head, box_rest, box_words, IsBoxed};
+ghost use Rattle.bit_containers_box.specs.Box.{box_held, box_room, KeepsBlock};
 ghost use Rattle.bit_containers_box.specs.Fill.{HoldsAlone};
-ghost use Rattle.bit_containers_vector.specs.Vector.{vec_bits, vec_head, vec_words, visible};
+ghost use Rattle.bit_containers_vector.specs.Vector.{vec_bits, vec_head, vec_words, visible, words_held, room};
 ghost use Rattle.bit_slice_views.specs.View.{view_bits, view_head};
 
 use crate::boxed::BitBox;
@@ -24,7 +25,8 @@ impl<T: BitStore, O: BitOrder<T>> BitBox<T, O> {
 
     /// No bits. It takes no memory.
     pub fn empty(alloc: Global) -> BitBox<T, O>
-        ensures { IsBoxed (read_by T.BitRegister O.position) [] 0 [] result }
+        ensures same { IsBoxed (read_by T.BitRegister O.position) [] 0 [] result }
+        ensures held { box_held result ≡ 0 }
     {
         BitBox::of_vector(BitVec::new(alloc))
     }
@@ -41,21 +43,24 @@ impl<T: BitStore, O: BitOrder<T>> BitBox<T, O> {
         Ok(BitBox::of_vector(copied))
     }
 
-    /// The bits of a vector, in its visible words. It takes no memory, and so it is never refused.
+    /// The bits of a vector, in its visible words. It takes no memory, and so it is never refused; the box keeps the
+    /// capacity of the vector.
     pub fn from_vec(vector: BitVec<T, O>) -> Result<BitBox<T, O>, AllocFailed<BitVec<T, O>>>
         ensures done { IsOk result }
         ensures same { IfOk result (IsBoxed (read_by T.BitRegister O.position)
             (vec_bits (read_by T.BitRegister O.position) vector) (vec_head vector)
             (visible (read_by T.BitRegister O.position) vector)) }
+        ensures held { IfOk result (λ made. box_held made ≡ words_held vector) }
     {
         Ok(BitBox::of_vector(vector))
     }
 
     // The bits of a vector, in its visible words.
     fn of_vector(vector: BitVec<T, O>) -> BitBox<T, O>
-        ensures { IsBoxed (read_by T.BitRegister O.position)
+        ensures same { IsBoxed (read_by T.BitRegister O.position)
             (vec_bits (read_by T.BitRegister O.position) vector) (vec_head vector)
             (visible (read_by T.BitRegister O.position) vector) result }
+        ensures held { box_held result ≡ words_held vector }
     {
         let head = vector.first_place();
         let len = vector.len();
@@ -152,12 +157,14 @@ impl<T: BitStore, O: BitOrder<T>> BitBox<T, O> {
         self.words.into_boxed_slice()
     }
 
-    /// The same bits as a vector, in the same words. It takes no memory.
+    /// The same bits as a vector, in the same words. It takes no memory, and the capacity is that of the box.
     pub fn into_bitvec(self) -> BitVec<T, O>
         ensures bits { vec_bits (read_by T.BitRegister O.position) result
             ≡ box_bits (read_by T.BitRegister O.position) self }
         ensures head { vec_head result ≡ box_head self }
         ensures words { vec_words result ≡ box_words self }
+        ensures room { room (read_by T.BitRegister O.position) result ≡ box_room (read_by T.BitRegister O.position) self }
+        ensures block { KeepsBlock self result }
     {
         BitVec::from_place(self.words, self.head, self.len)
     }
@@ -168,6 +175,8 @@ impl<T: BitStore, O: BitOrder<T>> BitBox<T, O> {
             ≡ box_bits (read_by T.BitRegister O.position) self }
         ensures head { vec_head result ≡ box_head self }
         ensures words { vec_words result ≡ box_words self }
+        ensures room { room (read_by T.BitRegister O.position) result ≡ box_room (read_by T.BitRegister O.position) self }
+        ensures block { KeepsBlock self result }
     {
         self.into_bitvec()
     }

@@ -5,7 +5,7 @@ use Rattle.std.proofs.Common.{◌∙◌, inl}
 use Rattle.std.proofs.lemmas.List.{places, same_lists}
 use Rattle.std.specs.Prelude.{vec_capacity}
 use Rattle.bit_addressing_memory.specs.Memory.{Reading, entry, memory, piece, Overwrites}
-use Rattle.bit_addressing_memory.proofs.MemoryLemmas.{length-memory, entry_memory}
+use Rattle.bit_addressing_memory.proofs.MemoryLemmas.{length-memory, entry_memory, piece_none}
 use Rattle.bit_slice_iterators.proofs.BitLemmas.{piece_one}
 use Rattle.bit_addressing_memory.proofs.WindowLemmas.{window_beside}
 use Rattle.bit_slice_words.specs.Rotations.{rotated_from}
@@ -128,3 +128,33 @@ gone_place reading from upto old new ordered within fits cut =
     let low : from ≤ length xs = omega arith in
     let left : length (take from xs ++ drop upto xs) ≡ from + (length xs - upto) = grind (arith, places) in
     omega (arith, length-bits reading new fits, ap length cut.cut.bits, left, cut.cut.head)
+
+-- none is left
+pub none_left : {R : Type 0} (reading : Reading R) (words : List R) (p n : ℕ) → n ≡ 0
+    → piece (memory reading words) p n ≡ []
+none_left reading words p n none = piece_none (memory reading words) p n none
+
+-- the first of so many bits, and the others
+pub first_left : {R : Type 0} (reading : Reading R) (words : List R) (p n : ℕ) (x : Bool) → 0 < reading.bits → 0 < n
+    → p + n ≤ length words * reading.bits → x ≡ entry reading words p
+    → piece (memory reading words) p n ≡ x ∷ piece (memory reading words) (p + 1) (n - 1)
+first_left reading words p n x some more fits is =
+    let m = memory reading words in
+    let all : n ≡ p + n - p = omega arith in
+    let rest : p + n - (p + 1) ≡ n - 1 = omega arith in
+    ap (piece m p) all
+    ∙ first_gone reading words p (p + n) x some (omega arith) fits is
+    ∙ ap (λ k. x ∷ piece m (p + 1) k) rest
+
+-- the last of them, and the others
+pub last_left : {R : Type 0} (reading : Reading R) (words : List R) (p n : ℕ) (x : Bool) → 0 < reading.bits → 0 < n
+    → p + n ≤ length words * reading.bits → x ≡ entry reading words (p + (n - 1))
+    → piece (memory reading words) p n ≡ piece (memory reading words) p (n - 1) ++ x ∷ []
+last_left reading words p n x some more fits is =
+    let m = memory reading words in
+    let all : n ≡ p + n - p = omega arith in
+    let rest : p + n - 1 - p ≡ n - 1 = omega arith in
+    let at : p + (n - 1) ≡ p + n - 1 = omega arith in
+    ap (piece m p) all
+    ∙ last_gone reading words p (p + n) x some (omega arith) fits (is ∙ ap (entry reading words) at)
+    ∙ ap (λ k. piece m p k ++ x ∷ []) rest

@@ -7,7 +7,7 @@ use Rattle.bit_addressing_memory.specs.Memory.{Reading, memory, with_piece}
 use Rattle.bit_addressing_memory.proofs.MemoryLemmas.{length-memory}
 use Rattle.bit_containers_vector.specs.Count.{words_for}
 use Rattle.bit_containers_vector.specs.Grown.{Extends}
-use Rattle.bit_containers_vector.specs.Vector.{vec_bits, visible}
+use Rattle.bit_containers_vector.specs.Vector.{vec_bits, visible, IsAsBefore}
 use Rattle.bit_containers_vector.specs.declared.vector.BitVec.{BitVec}
 use Rattle.bit_containers_vector.proofs.CountLemmas.{words_hold, words_more, words_within}
 use Rattle.bit_containers_vector.proofs.WordLemmas.{length-bits}
@@ -51,6 +51,19 @@ module _ {T O : Type 0} {g : _} (reading : Reading T) where
             none
             ∙ written_none (memory reading (visible reading v) ++ []) (v.head + length (vec_bits reading v))
             ∙ append-nil (memory reading (visible reading v)));
+      }
+
+  -- one that has room for more alone
+  pub extends_same : (old new : BitVec T O g) → IsAsBefore reading old new → Extends reading old new []
+  extends_same old new same =
+      let grown = extends_none new in record {
+        bits = grown.bits ∙ ap (λ xs. xs ++ []) same.bits;
+        head = same.head;
+        words =
+            grown.words
+            ∙ ap₂ (λ ws p. with_piece (memory reading ws
+            ++ replicate ((length (visible reading new) - length ws) * reading.bits) false) p []) same.words
+            (ap₂ (λ h xs. h + length xs) same.head same.bits);
       }
 
   -- one that has grown twice

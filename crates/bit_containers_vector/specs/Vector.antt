@@ -1,7 +1,11 @@
 -- A vector of bits, as contracts see it.
 --
--- Its list: `vec_bits`. Where it lies: `vec_words`, `vec_head`, `visible`. Its memory: `room`, `HasRoomFor`.
+-- Its list: `vec_bits`. Where it lies: `vec_words`, `vec_head`, `visible`. Its memory: `words_held`, `room`, `HasRoomFor`,
+-- `HoldsBlock`.
 use Rattle.std.specs.Prelude.{ℕ, ◌≡◌, ◌+◌, ◌-◌, ◌*◌, ◌≤◌, Bool, List, length, take, vec_capacity}
+use Rattle.std.specs.Vec.{SameBlock}
+use Rattle.std.specs.declared.vec.Vec.{Vec}
+use Rattle.std.specs.declared.alloc.Global.{Global}
 use Rattle.bit_addressing_memory.specs.Memory.{Reading, memory, piece}
 use Rattle.bit_slice_views_mut.specs.Combined.{combined}
 use Rattle.bit_slice_views_mut.specs.Frame.{Frame, frame_of}
@@ -34,6 +38,10 @@ room reading v = vec_capacity v.words * reading.bits - v.head
 -- memory for so many bits more
 abbrev pub HasRoomFor : {T O : Type 0} {g : _} → Reading T → BitVec T O g → ℕ → Type 0
 HasRoomFor reading v more = length (vec_bits reading v) + more ≤ room reading v
+
+-- its memory is the block of these words: nothing was allocated, and no capacity went
+abbrev pub HoldsBlock : {T O : Type 0} {g : _} → Vec T Global → BitVec T O g → Type 0
+HoldsBlock words v = SameBlock words v.words
 
 -- new is old, but for words that are not visible and for the memory
 pub record IsSame {T O : Type 0} {g : _} (reading : Reading T) (old new : BitVec T O g) : Type 0 where

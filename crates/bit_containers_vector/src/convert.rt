@@ -1,11 +1,13 @@
 //! Vectors of bits made of words where these are not too many, and seen as words and as bits one after another.
 
 ghost use Rattle.std.specs.Prelude.{◌≡◌, ◌-◌, ◌*◌, ◌^◌, ◌≤◌, length, min, take, IfErr, IfOk, IsOk, ◌↔◌};
+ghost use Rattle.std.specs.Prelude.{vec_capacity};
 ghost use Rattle.bit_addressing_memory.specs.Memory.{memory, read_by};
 ghost use Rattle.bit_addressing_span.specs.declared.span.TheConstants.{MAX_BITS};
 ghost use Rattle.bit_containers_vector.specs.SliceFault.{IsTooLong};
 ghost use Rattle.bit_containers_vector.specs.declared.slice_fault.SliceFault.TheVariants.{Memory};
-ghost use Rattle.bit_containers_vector.specs.Vector.{vec_bits, vec_head, vec_words, visible};
+ghost use Rattle.bit_containers_vector.specs.Vector.{vec_bits, vec_head, vec_words, visible, words_held};
+ghost use Rattle.bit_containers_vector.specs.Vector.{room, HoldsBlock};
 
 use crate::slice_fault::SliceFault;
 use crate::vector::BitVec;
@@ -55,7 +57,9 @@ impl<T: BitStore, O: BitOrder<T>> TryFrom<Vec<T>> for BitVec<T, O> {
     ghost try_from_gives = { λ words made. (IsOk made ↔ (length words.items * T.BITS ≤ MAX_BITS))
         × IfOk made (λ vector. (vec_bits (read_by T.BitRegister O.position) vector
         ≡ memory (read_by T.BitRegister O.position) words.items)
-        × (vec_head vector ≡ 0) × (vec_words vector ≡ words.items))
+        × (vec_head vector ≡ 0) × (vec_words vector ≡ words.items)
+        × (room (read_by T.BitRegister O.position) vector ≡ vec_capacity words * T.BITS)
+        × HoldsBlock words vector)
         × IfErr made (λ back. back ≡ words) };
 
     fn try_from(words: Vec<T>) -> Result<BitVec<T, O>, Vec<T>> {
@@ -65,7 +69,8 @@ impl<T: BitStore, O: BitOrder<T>> TryFrom<Vec<T>> for BitVec<T, O> {
 
 /// What `into_vec` does.
 impl<T: BitStore, O: BitOrder<T>> From<BitVec<T, O>> for Vec<T> {
-    ghost from_gives = { λ vector words. words.items ≡ visible (read_by T.BitRegister O.position) vector };
+    ghost from_gives = { λ vector words. (words.items ≡ visible (read_by T.BitRegister O.position) vector)
+        × (vec_capacity words ≡ words_held vector) };
 
     fn from(vector: BitVec<T, O>) -> Vec<T> {
         vector.into_vec()

@@ -1,12 +1,12 @@
 //! Vectors of bits that take what an iterator or a closure gives.
 
-ghost use Rattle.std.specs.Prelude.{◌≡◌, ℕ, ◌+◌, ◌-◌, ◌*◌, ◌≤◌, ◌++◌, ◌∷◌, [], List, Bool, length, take, drop, IfOk, IsOk, OnErr, OnOk};
+ghost use Rattle.std.specs.Prelude.{◌≡◌, ℕ, ◌+◌, ◌-◌, ◌*◌, ◌<◌, ◌≤◌, ◌++◌, ◌∷◌, [], List, Bool, length, take, drop, IfOk, IsOk, OnErr, OnOk};
 ghost use Rattle.std.specs.Iterator.{Drains, Yields, IsFinite, size};
 ghost use Rattle.bit_addressing_memory.specs.Memory.{memory, read_by};
 ghost use Rattle.bit_addressing_span.specs.declared.span.TheConstants.{MAX_BITS};
 ghost use Rattle.bit_containers_vector.specs.Answers.{Answers};
 ghost use Rattle.bit_containers_vector.specs.Grown.{Extends};
-ghost use Rattle.bit_containers_vector.specs.Vector.{vec_bits, vec_head, room, HasRoomFor, IsAsBefore};
+ghost use Rattle.bit_containers_vector.specs.Vector.{vec_bits, vec_head, room, HasRoomFor, IsAsBefore, Shortens};
 
 use crate::vector::BitVec;
 use bit_addressing_memory::{BitOrder, BitRegister};
@@ -128,6 +128,10 @@ impl<T: BitStore, O: BitOrder<T>> BitVec<T, O> {
             × (vec_bits (read_by T.BitRegister O.position) self.new
             ≡ take len (vec_bits (read_by T.BitRegister O.position) self.old) ++ ys)
             × Answers F.step f (length (vec_bits (read_by T.BitRegister O.position) self.old)) len ys last) }
+        ensures longer { OnOk result (length (vec_bits (read_by T.BitRegister O.position) self.old) < len
+            → (ys : List Bool) × Extends (read_by T.BitRegister O.position) self.old self.new ys) }
+        ensures shorter { OnOk result (len ≤ length (vec_bits (read_by T.BitRegister O.position) self.old)
+            → Shortens (read_by T.BitRegister O.position) self.old self.new len) }
         ensures head { vec_head self.new ≡ vec_head self.old }
         ensures err { OnErr result (IsAsBefore (read_by T.BitRegister O.position) self.old self.new) }
         ensures succeeds { len ≤ room (read_by T.BitRegister O.position) self.old → IsOk result }
@@ -150,9 +154,7 @@ impl<T: BitStore, O: BitOrder<T>> BitVec<T, O> {
     fn push_within(&mut self, bit: bool)
         requires room { HasRoomFor (read_by T.BitRegister O.position) self.old 1 }
         requires most { length (vec_bits (read_by T.BitRegister O.position) self.old) + 1 ≤ MAX_BITS }
-        ensures bits { vec_bits (read_by T.BitRegister O.position) self.new
-            ≡ vec_bits (read_by T.BitRegister O.position) self.old ++ bit ∷ [] }
-        ensures head { vec_head self.new ≡ vec_head self.old }
+        ensures grown { Extends (read_by T.BitRegister O.position) self.old self.new (bit ∷ []) }
         ensures room { room (read_by T.BitRegister O.position) self.old
             ≤ room (read_by T.BitRegister O.position) self.new }
     {

@@ -1,12 +1,12 @@
 //! The words and the bits of a vector, lent to be written.
 
-ghost use Rattle.std.specs.Prelude.{◌≡◌, length};
+ghost use Rattle.std.specs.Prelude.{◌≡◌, length, vec_capacity};
 ghost use Rattle.std.specs.Fn.{FnOnceReturnsAtMut};
 ghost use Rattle.std.specs.Borrow.{Array, follows, sem};
 ghost use Rattle.bit_addressing_memory.specs.Memory.{read_by};
 ghost use Rattle.bit_addressing_memory.specs.Sweep.{IsFresh, sweep_lender, sweep_words};
 ghost use Rattle.bit_containers_vector.specs.Lending.{with_words, HasWords};
-ghost use Rattle.bit_containers_vector.specs.Vector.{vec_bits, vec_head, vec_words, visible};
+ghost use Rattle.bit_containers_vector.specs.Vector.{vec_bits, vec_head, vec_words, visible, words_held, HoldsBlock};
 ghost use Rattle.bit_slice_views.specs.View.{view_bits, view_head};
 ghost use Rattle.bit_slice_views_mut.specs.ViewMut.{lent_bits, lent_lender, lent_place, lent_words};
 
@@ -79,9 +79,11 @@ impl<T: BitStore, O: BitOrder<T>> BitVec<T, O> {
     }
 
     /// The words, all that are held: the visible ones, and behind them those that `force_align` or a shorter list left.
-    /// It takes no memory.
+    /// It takes no memory, and the capacity stays.
     pub fn into_words(self) -> Vec<T>
-        ensures { result.items ≡ vec_words self }
+        ensures items { result.items ≡ vec_words self }
+        ensures capacity { vec_capacity result ≡ words_held self }
+        ensures block { HoldsBlock result self }
     {
         self.words
     }

@@ -1,11 +1,13 @@
 //! Vectors of bits made of windows, of words and of nothing, and given back as words.
 
-ghost use Rattle.std.specs.Prelude.{◌≡◌, ◌+◌, ◌*◌, ◌<◌, ◌≤◌, ◌↔◌, [], ◌∷◌, length, replicate, IfErr, IfOk, IsOk};
+ghost use Rattle.std.specs.Prelude.{◌≡◌, ◌+◌, ◌-◌, ◌*◌, ◌<◌, ◌≤◌, ◌↔◌, [], ◌∷◌, length, replicate, IfErr, IfOk, IsOk};
+ghost use Rattle.std.specs.Prelude.{vec_capacity};
 ghost use Rattle.bit_addressing_memory.specs.Memory.{memory, piece, read_by};
 ghost use Rattle.bit_addressing_span.specs.declared.span.TheConstants.{MAX_BITS};
 ghost use Rattle.bit_containers_vector.specs.Count.{words_for};
 ghost use Rattle.bit_containers_vector.specs.Grown.{HoldsAlone, Repeats};
-ghost use Rattle.bit_containers_vector.specs.Vector.{vec_bits, vec_head, vec_words, visible, HasRoomFor};
+ghost use Rattle.bit_containers_vector.specs.Vector.{vec_bits, vec_head, vec_words, visible, words_held};
+ghost use Rattle.bit_containers_vector.specs.Vector.{room, HasRoomFor, HoldsBlock};
 ghost use Rattle.bit_slice_views.specs.View.{view_bits, view_head};
 
 use crate::vector::BitVec;
@@ -129,7 +131,7 @@ impl<T: BitStore, O: BitOrder<T>> BitVec<T, O> {
         BitVec::from_slice(alloc, array.as_raw_slice())
     }
 
-    /// All bits of a vector's words. It takes no memory.
+    /// All bits of a vector's words. It takes no memory, and the capacity stays.
     #[tactic(auto, using(crate::proofs::VectorLemmas::all_words))]
     pub fn from_vec(words: Vec<T>) -> BitVec<T, O>
         requires { length words.items * T.BITS ≤ MAX_BITS }
@@ -137,6 +139,8 @@ impl<T: BitStore, O: BitOrder<T>> BitVec<T, O> {
             ≡ memory (read_by T.BitRegister O.position) words.items }
         ensures head { vec_head result ≡ 0 }
         ensures words { vec_words result ≡ words.items }
+        ensures room { room (read_by T.BitRegister O.position) result ≡ vec_capacity words * T.BITS }
+        ensures block { HoldsBlock words result }
     {
         let len = words.len() * mem::bits_of::<T>();
         BitVec {
@@ -147,7 +151,7 @@ impl<T: BitStore, O: BitOrder<T>> BitVec<T, O> {
         }
     }
 
-    /// `len` bits of a vector's words, from an index in the first of them on. It takes no memory.
+    /// `len` bits of a vector's words, from an index in the first of them on. It takes no memory, and the capacity stays.
     pub fn from_place(words: Vec<T>, head: usize, len: usize) -> BitVec<T, O>
         requires inside { head < T.BITS }
         requires short { len ≤ MAX_BITS }
@@ -156,6 +160,8 @@ impl<T: BitStore, O: BitOrder<T>> BitVec<T, O> {
             ≡ piece (memory (read_by T.BitRegister O.position) words.items) head len }
         ensures head { vec_head result ≡ head }
         ensures words { vec_words result ≡ words.items }
+        ensures room { room (read_by T.BitRegister O.position) result ≡ vec_capacity words * T.BITS - head }
+        ensures block { HoldsBlock words result }
     {
         BitVec {
             words,
@@ -165,13 +171,17 @@ impl<T: BitStore, O: BitOrder<T>> BitVec<T, O> {
         }
     }
 
-    /// All bits of a vector's words, or that vector where they are more than `MAX_BITS`.
+    /// All bits of a vector's words, or that vector where they are more than `MAX_BITS`. It takes no memory, and the
+    /// capacity stays.
     pub fn try_from_vec(words: Vec<T>) -> Result<BitVec<T, O>, Vec<T>>
         ensures variant { IsOk result ↔ (length words.items * T.BITS ≤ MAX_BITS) }
         ensures bits { IfOk result (λ made. vec_bits (read_by T.BitRegister O.position) made
             ≡ memory (read_by T.BitRegister O.position) words.items) }
         ensures head { IfOk result (λ made. vec_head made ≡ 0) }
         ensures words { IfOk result (λ made. vec_words made ≡ words.items) }
+        ensures room { IfOk result (λ made. room (read_by T.BitRegister O.position) made
+            ≡ vec_capacity words * T.BITS) }
+        ensures block { IfOk result (HoldsBlock words) }
         ensures err { IfErr result (λ back. back ≡ words) }
     {
         if words.len().saturating_mul(mem::bits_of::<T>()) > MAX_BITS {
@@ -182,9 +192,10 @@ impl<T: BitStore, O: BitOrder<T>> BitVec<T, O> {
 
     // ---- end
 
-    /// The visible words. It takes no memory.
+    /// The visible words. It takes no memory, and the capacity stays.
     pub fn into_vec(self) -> Vec<T>
-        ensures { result.items ≡ visible (read_by T.BitRegister O.position) self }
+        ensures items { result.items ≡ visible (read_by T.BitRegister O.position) self }
+        ensures capacity { vec_capacity result ≡ words_held self }
     {
         let count = words_taken::<T>(self.head + self.len);
         let mut words = self.words;

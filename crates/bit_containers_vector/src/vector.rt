@@ -29,13 +29,14 @@ pub struct BitVec<T: BitStore, O> {
 
 #[tactic(auto, using(crate::proofs::CountLemmas::none_taken))]
 impl<T: BitStore, O: BitOrder<T>> BitVec<T, O> {
-    ghost use Rattle.bit_containers_vector.specs.Vector.{vec_bits, vec_head, vec_words};
+    ghost use Rattle.bit_containers_vector.specs.Vector.{vec_bits, vec_head, vec_words, words_held};
 
     /// No bits. It takes no memory.
     pub fn new(alloc: Global) -> BitVec<T, O>
         ensures bits { vec_bits (read_by T.BitRegister O.position) result ≡ [] }
         ensures head { vec_head result ≡ 0 }
         ensures words { vec_words result ≡ [] }
+        ensures capacity { words_held result ≡ 0 }
     {
         BitVec {
             words: Vec::new(alloc),

@@ -20,6 +20,7 @@ pub use Rattle.bit_slice_access.specs.Shows
 pub use Rattle.bit_slice_access.specs.Cut
 pub use Rattle.bit_slice_access.specs.Domain
 pub use Rattle.bit_slice_access.specs.Halves
+pub use Rattle.bit_slice_access.specs.Masked
 pub use Rattle.bit_slice_iterators.specs.BitsLeft
 pub use Rattle.bit_slice_iterators.specs.Cuts
 pub use Rattle.bit_slice_iterators.specs.PiecesMut
@@ -48,6 +49,8 @@ pub use Rattle.bit_addressing_order.specs.Text
 pub use Rattle.bit_addressing_verify.specs.OrderFault
 pub use Rattle.bit_addressing_verify.specs.WordFault
 pub use Rattle.bit_addressing_span.specs.Span
+pub use Rattle.bit_addressing_span.specs.Domain as SpanDomain
+pub use Rattle.bit_addressing_span.specs.Parts as SpanParts
 pub use Rattle.bit_addressing_memory.specs.Memory
 pub use Rattle.bit_addressing_memory.specs.Moves
 pub use Rattle.bit_addressing_memory.specs.Sweep

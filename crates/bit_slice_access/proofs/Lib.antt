@@ -1,5 +1,6 @@
 pub mod CallerLemmas
 pub mod FillLemmas
+pub mod MaskedLemmas
 pub mod PartLemmas
 pub mod SwapLemmas
 mod PartEditLemmas

@@ -7,6 +7,7 @@ pub mod Halves
 pub mod Domain
 pub mod Cut
 pub mod Lending
+pub mod Masked
 -- what public clauses cite of the crates below
 pub use Rattle.bit_addressing_memory.specs.BitOrder
 pub use Rattle.bit_addressing_memory.specs.BitRegister

@@ -1,9 +1,9 @@
 //! The words of a writable window, each read and written in the part of it that lies in the window.
 
 ghost use Rattle.std.specs.Prelude.{◌≡◌, ◌+◌, ◌%◌, ◌<◌, ◌↔◌, IsTrue, length, not, true, false};
-ghost use Rattle.bit_addressing_span.specs.Domain.{domain_bits, domain_start, IsCut, IsEnclave};
+ghost use Rattle.bit_addressing_span.specs.Domain.{domain_bits, domain_numbers, domain_start, IsCut, IsEnclave};
 ghost use Rattle.bit_addressing_memory.specs.Memory.{entry, indexed, read_by, touched};
-ghost use Rattle.bit_addressing_span.specs.Parts.{part_from, part_place, part_upto};
+ghost use Rattle.bit_addressing_span.specs.Parts.{part_from, part_place, part_upto, AreMasked};
 ghost use Rattle.bit_addressing_span.specs.Span.{extent, LiesInside};
 
 use crate::parts::BitsParts;
@@ -70,44 +70,40 @@ impl<'s, V: BitsMut> WindowDomainMut<'s, V> {
         ensures enclave { IsEnclave result ↔ LiesInside V.Store.BITS
             (extent 0 (V.start (domain_view self.now)) (length (V.bits (domain_view self.now)))) }
         ensures cut { IsCut V.Store.BITS result }
+        ensures words { length (domain_numbers V.Store.number V.Order.masked result)
+            ≡ touched V.Store.BITS (V.place (domain_view self.now) % V.Store.BITS)
+            (length (V.bits (domain_view self.now))) }
+        ensures masked { AreMasked (read_by V.Store.BitRegister V.Order.position) V.Order.position
+            (V.words (domain_view self.now))
+            (window_span V.Store.BITS (V.place (domain_view self.now)) (length (V.bits (domain_view self.now))))
+            (domain_numbers V.Store.number V.Order.masked result) }
     {
         self.of.domain()
     }
 
     /// The indices of word `k` that are in the window: from the first of them up to before an end.
-    pub fn bounds(&mut self, k: usize) -> (BitIdx<V::Store>, BitEnd<V::Store>)
-        requires { k < touched V.Store.BITS (V.place (domain_view self.old) % V.Store.BITS)
-            (length (V.bits (domain_view self.old))) }
+    pub fn bounds(&self, k: usize) -> (BitIdx<V::Store>, BitEnd<V::Store>)
+        requires { k < touched V.Store.BITS (V.place (domain_view self.now) % V.Store.BITS)
+            (length (V.bits (domain_view self.now))) }
         ensures head { result.0 ≡ part_from V.Store.BITS
-            (window_span V.Store.BITS (V.place (domain_view self.old)) (length (V.bits (domain_view self.old)))) k }
+            (window_span V.Store.BITS (V.place (domain_view self.now)) (length (V.bits (domain_view self.now)))) k }
         ensures tail { result.1 ≡ part_upto V.Store.BITS
-            (window_span V.Store.BITS (V.place (domain_view self.old)) (length (V.bits (domain_view self.old)))) k }
+            (window_span V.Store.BITS (V.place (domain_view self.now)) (length (V.bits (domain_view self.now)))) k }
         ensures order { result.0 < result.1 }
-        ensures same_reference { domain_loan self.new ≡ domain_loan self.old }
-        ensures words { V.words (domain_view self.new) ≡ V.words (domain_view self.old) }
-        ensures len { length (V.bits (domain_view self.new)) ≡ length (V.bits (domain_view self.old)) }
-        ensures frame { V.frame (domain_view self.new) ≡ V.frame (domain_view self.old) }
     {
-        let place = self.of.first_place();
-        let len = self.of.len();
-        self.of.write(|words| bounds_in::<V::Store, V::Order>(words, place, len, k))
+        bounds_in::<V::Store>(self.of.first_place(), self.of.len(), k)
     }
 
     /// Word `k` of the window, with each digit outside the window read as zero.
-    pub fn load_value(&mut self, k: usize) -> V::Store
-        requires { k < touched V.Store.BITS (V.place (domain_view self.old) % V.Store.BITS)
-            (length (V.bits (domain_view self.old))) }
-        ensures value { ReadsWord (read_by V.Store.BitRegister V.Order.position) (V.words (domain_view self.old))
-            (window_span V.Store.BITS (V.place (domain_view self.old)) (length (V.bits (domain_view self.old))))
+    pub fn load_value(&self, k: usize) -> V::Store
+        requires { k < touched V.Store.BITS (V.place (domain_view self.now) % V.Store.BITS)
+            (length (V.bits (domain_view self.now))) }
+        ensures value { ReadsWord (read_by V.Store.BitRegister V.Order.position) (V.words (domain_view self.now))
+            (window_span V.Store.BITS (V.place (domain_view self.now)) (length (V.bits (domain_view self.now))))
             k result }
-        ensures same_reference { domain_loan self.new ≡ domain_loan self.old }
-        ensures words { V.words (domain_view self.new) ≡ V.words (domain_view self.old) }
-        ensures len { length (V.bits (domain_view self.new)) ≡ length (V.bits (domain_view self.old)) }
-        ensures frame { V.frame (domain_view self.new) ≡ V.frame (domain_view self.old) }
     {
-        let place = self.of.first_place();
-        let len = self.of.len();
-        self.of.write(|words| load_in::<V::Store, V::Order>(words, place, len, k))
+        let (words, head, len) = self.of.as_bitslice().parts();
+        load_in::<V::Store, V::Order>(words, head as usize, len, k)
     }
 
     // ---- write

@@ -2,9 +2,10 @@
 
 ghost use Rattle.std.specs.Prelude.{◌≡◌, ℕ, ◌+◌, ◌-◌, ◌%◌, ◌<◌, ◌≤◌, ◌↔◌, IfSome, IsSome, false, length};
 ghost use Rattle.std.specs.Prelude.{drop, slice_index_or, take};
-ghost use Rattle.bit_addressing_memory.specs.Memory.{piece, read_by};
-ghost use Rattle.bit_addressing_span.specs.Domain.{domain_bits, domain_start, IsCut, IsEnclave};
+ghost use Rattle.bit_addressing_memory.specs.Memory.{piece, read_by, touched};
+ghost use Rattle.bit_addressing_span.specs.Domain.{domain_bits, domain_numbers, domain_start, IsCut, IsEnclave};
 ghost use Rattle.bit_addressing_span.specs.Span.{extent, LiesInside};
+ghost use Rattle.bit_slice_access.specs.Masked.{AreMaskedBits};
 ghost use Rattle.bit_slice_views.specs.BitRef.{bit_value};
 ghost use Rattle.bit_slice_views.specs.Parts.{parts_bits, parts_start, IsBitCut, IsOnePart};
 ghost use Rattle.bit_slice_views.specs.View.{view_bits, view_head};
@@ -166,6 +167,10 @@ pub trait BitsParts: Bits {
         ensures enclave { IsEnclave result ↔ LiesInside Self.Store.BITS
             (extent 0 (Self.start self.now) (length (Self.bits self.now))) }
         ensures cut { IsCut Self.Store.BITS result }
+        ensures words { length (domain_numbers Self.Store.number Self.Order.masked result)
+            ≡ touched Self.Store.BITS (Self.start self.now) (length (Self.bits self.now)) }
+        ensures masked { AreMaskedBits Self.Store.BITS Self.Order.position (Self.start self.now) (Self.bits self.now)
+            (domain_numbers Self.Store.number Self.Order.masked result) }
     {
         self.as_bitslice().domain()
     }

@@ -24,40 +24,41 @@ pub(crate) fn span_of<T: BitRegister, O: BitOrder<T>>(place: usize, len: usize) 
 }
 
 // The indices of word `k` that are in the window: from the first of them up to before an end.
-#[tactic(auto, using(crate::proofs::SpanLemmas::spans))]
-pub(crate) fn bounds_in<T: BitRegister, O: BitOrder<T>>(
-    words: &mut [T],
+pub(crate) fn bounds_in<T: BitRegister>(
     place: usize,
     len: usize,
     k: usize,
 ) -> (BitIdx<T>, BitEnd<T>)
-    requires within { place + len ≤ length words.old * T.BITS }
     requires ends { place + len < 2 ^ 63 }
-    requires short { len ≤ MAX_BITS }
     requires some { k < touched T.BITS (place % T.BITS) len }
     ensures head { result.0 ≡ part_from T.BITS (window_span T.BITS place len) k }
     ensures tail { result.1 ≡ part_upto T.BITS (window_span T.BITS place len) k }
     ensures order { result.0 < result.1 }
-    ensures same { words.new ≡ words.old }
 {
-    let domain = span_of::<T, O>(place, len).domain_mut(words);
-    domain.bounds(k)
+    let bits = mem::bits_of::<T>();
+    let head = place % bits;
+    let first = k * bits;
+    let rest = head + len - first;
+    let end = if rest < bits { rest } else { bits };
+    (
+        BitIdx::new_unchecked(head.saturating_sub(first) as u8),
+        BitEnd::new_unchecked(end as u8),
+    )
 }
 
 // Reads word `k`.
 #[tactic(auto, using(crate::proofs::SpanLemmas::spans))]
 pub(crate) fn load_in<T: BitRegister, O: BitOrder<T>>(
-    words: &mut [T],
+    words: &[T],
     place: usize,
     len: usize,
     k: usize,
 ) -> T
-    requires within { place + len ≤ length words.old * T.BITS }
+    requires within { place + len ≤ length words.now * T.BITS }
     requires ends { place + len < 2 ^ 63 }
     requires short { len ≤ MAX_BITS }
     requires some { k < touched T.BITS (place % T.BITS) len }
-    ensures value { ReadsWord (read_by T.BitRegister O.position) words.old (window_span T.BITS place len) k result }
-    ensures same { words.new ≡ words.old }
+    ensures { ReadsWord (read_by T.BitRegister O.position) words.now (window_span T.BITS place len) k result }
 {
     span_of::<T, O>(place, len).load_value(words, k)
 }

@@ -1,5 +1,5 @@
 -- What pieces end as of which one was lent.
-use Rattle.std.specs.Prelude.{◌+◌, ◌-◌, [], Option, true}
+use Rattle.std.specs.Prelude.{ℕ, ◌+◌, ◌-◌, [], Option, true}
 use Rattle.std.specs.Borrow.{Lends, LendsIf, MutBor, Fml, RattleType}
 use mir.Syntax.{named}
 use Rattle.bit_slice_iterators.specs.declared.pieces_mut.PiecesMut.{PiecesMut}
@@ -18,6 +18,23 @@ abbrev pub LendsLast : (V C S O : RattleType) → MutBor (PiecesMut V.Denot C.De
 LendsLast V C S O p r =
     LendsIf (pieces.the_row (record { mir = named 1; lft = [] }) V C S O) V p r
     (λ w. record p.now { of = record p.now.of { now = w }; back = p.now.back - 1 }) p.now
+
+-- the same of the piece behind the first k: those before it are passed over, and lent no more; where no more than k are
+-- left, none is left then
+abbrev pub LendsNth : (V C S O : RattleType) → ℕ → MutBor (PiecesMut V.Denot C.Denot S.Denot O.Denot)
+    → Option (MutBor V.Denot) → Fml
+LendsNth V C S O k p r =
+    LendsIf (pieces.the_row (record { mir = named 1; lft = [] }) V C S O) V p r
+    (λ w. record p.now { of = record p.now.of { now = w }; front = p.now.front + k + 1 })
+    (record p.now { front = p.now.back })
+
+-- the same of the piece before the last k
+abbrev pub LendsNthBack : (V C S O : RattleType) → ℕ → MutBor (PiecesMut V.Denot C.Denot S.Denot O.Denot)
+    → Option (MutBor V.Denot) → Fml
+LendsNthBack V C S O k p r =
+    LendsIf (pieces.the_row (record { mir = named 1; lft = [] }) V C S O) V p r
+    (λ w. record p.now { of = record p.now.of { now = w }; back = p.now.back - k - 1 })
+    (record p.now { back = p.now.front })
 
 -- the same of the bits that are in no piece
 abbrev pub LendsRest : (V C S O : RattleType) → MutBor (PiecesMut V.Denot C.Denot S.Denot O.Denot)

@@ -4,7 +4,7 @@ ghost use Rattle.std.specs.Prelude.{◌≡◌, ℕ, ◌+◌, ◌-◌, ◌*◌, �
 ghost use Rattle.std.specs.Borrow.{sem};
 ghost use Rattle.bit_addressing_memory.specs.Memory.{memory, piece, read_by};
 ghost use Rattle.bit_slice_views.specs.SpanLimits.{MAX_BITS};
-ghost use Rattle.bit_slice_iterators.specs.Lending.{LendsFirst, LendsLast, LendsRest};
+ghost use Rattle.bit_slice_iterators.specs.Lending.{LendsFirst, LendsLast, LendsNth, LendsNthBack, LendsRest};
 ghost use Rattle.bit_slice_iterators.specs.PiecesMut.{pieces_around, pieces_back, pieces_front, pieces_len, pieces_loan};
 ghost use Rattle.bit_slice_iterators.specs.PiecesMut.{pieces_place, pieces_size, pieces_taken, pieces_view, pieces_whole};
 ghost use Rattle.bit_slice_iterators.specs.PiecesMut.{rest_left, CutsAll, PiecesLie};
@@ -95,6 +95,16 @@ impl<'s, V: BitsWindow, C: Cuts> PiecesMut<'s, V, C> {
         }
     }
 
+    // ---- count
+
+    /// How many pieces are left.
+    pub fn len(&self) -> usize
+        requires { pieces_front self.now ≤ pieces_back self.now }
+        ensures { result ≡ pieces_back self.now - pieces_front self.now }
+    {
+        self.back - self.front
+    }
+
     // ---- lend
 
     /// The first piece that is left, to write.
@@ -158,6 +168,78 @@ impl<'s, V: BitsWindow, C: Cuts> PiecesMut<'s, V, C> {
         let last = self.back - 1;
         let (start, size) = C::piece(self.len, self.by, last);
         self.back = last;
+        let head = self.head;
+        let len = self.len;
+        show_part(self.of, head, len, start, size);
+        Some(&mut *self.of)
+    }
+
+    /// Passes over `k` pieces from the front and lends the next one, to write, as `k + 1` calls of `next_mut` do. Where no
+    /// more than `k` are left, none is left then.
+    pub fn nth_mut(&mut self, k: usize) -> Option<&mut V>
+        requires some { 0 < pieces_size self.old }
+        requires ordered { pieces_front self.old ≤ pieces_back self.old }
+        requires within { pieces_back self.old ≤ C.cut.count (pieces_len self.old) (pieces_size self.old) }
+        requires fits { pieces_place self.old + pieces_len self.old
+            ≤ length (V.words (pieces_view self.old)) * V.Store.BITS }
+        requires short { pieces_len self.old ≤ MAX_BITS }
+        requires small { pieces_place self.old + pieces_len self.old < 2 ^ 63 }
+        ensures variant { IsSome result ↔ (pieces_front self.old + k < pieces_back self.old) }
+        ensures bits { IfSome result (λ piece_lent. V.bits piece_lent.now
+            ≡ piece (pieces_whole (read_by V.Store.BitRegister V.Order.position) V.words self.old)
+            (C.cut.start (pieces_len self.old) (pieces_size self.old) (pieces_front self.old + k))
+            (C.cut.size (pieces_len self.old) (pieces_size self.old) (pieces_front self.old + k))) }
+        ensures len { IfSome result (λ piece_lent. length (V.bits piece_lent.now)
+            ≡ C.cut.size (pieces_len self.old) (pieces_size self.old) (pieces_front self.old + k)) }
+        ensures words { IfSome result (λ piece_lent. V.words piece_lent.now ≡ V.words (pieces_view self.old)) }
+        ensures lender { IfSome result (λ piece_lent. V.lender piece_lent.now ≡ V.lender (pieces_view self.old)) }
+        ensures place { IfSome result (λ piece_lent. V.place piece_lent.now ≡ pieces_place self.old
+            + C.cut.start (pieces_len self.old) (pieces_size self.old) (pieces_front self.old + k)) }
+        ensures* lends { sem 𝓛 (LendsNth V.row C.row V.Store.row V.Order.row k self.entry result) }
+    {
+        if k >= self.back - self.front {
+            self.front = self.back;
+            return None;
+        }
+        let at = self.front + k;
+        let (start, size) = C::piece(self.len, self.by, at);
+        self.front = at + 1;
+        let head = self.head;
+        let len = self.len;
+        show_part(self.of, head, len, start, size);
+        Some(&mut *self.of)
+    }
+
+    /// Passes over `k` pieces from the back and lends the next one, to write, as `k + 1` calls of `next_back_mut` do. Where
+    /// no more than `k` are left, none is left then.
+    pub fn nth_back_mut(&mut self, k: usize) -> Option<&mut V>
+        requires some { 0 < pieces_size self.old }
+        requires ordered { pieces_front self.old ≤ pieces_back self.old }
+        requires within { pieces_back self.old ≤ C.cut.count (pieces_len self.old) (pieces_size self.old) }
+        requires fits { pieces_place self.old + pieces_len self.old
+            ≤ length (V.words (pieces_view self.old)) * V.Store.BITS }
+        requires short { pieces_len self.old ≤ MAX_BITS }
+        requires small { pieces_place self.old + pieces_len self.old < 2 ^ 63 }
+        ensures variant { IsSome result ↔ (pieces_front self.old + k < pieces_back self.old) }
+        ensures bits { IfSome result (λ piece_lent. V.bits piece_lent.now
+            ≡ piece (pieces_whole (read_by V.Store.BitRegister V.Order.position) V.words self.old)
+            (C.cut.start (pieces_len self.old) (pieces_size self.old) (pieces_back self.old - k - 1))
+            (C.cut.size (pieces_len self.old) (pieces_size self.old) (pieces_back self.old - k - 1))) }
+        ensures len { IfSome result (λ piece_lent. length (V.bits piece_lent.now)
+            ≡ C.cut.size (pieces_len self.old) (pieces_size self.old) (pieces_back self.old - k - 1)) }
+        ensures words { IfSome result (λ piece_lent. V.words piece_lent.now ≡ V.words (pieces_view self.old)) }
+        ensures lender { IfSome result (λ piece_lent. V.lender piece_lent.now ≡ V.lender (pieces_view self.old)) }
+        ensures place { IfSome result (λ piece_lent. V.place piece_lent.now ≡ pieces_place self.old
+            + C.cut.start (pieces_len self.old) (pieces_size self.old) (pieces_back self.old - k - 1)) }
+        ensures* lends { sem 𝓛 (LendsNthBack V.row C.row V.Store.row V.Order.row k self.entry result) }
+    {
+        if k >= self.back - self.front {
+            self.back = self.front;
+            return None;
+        }
+        let at = self.back - k - 1;
+        let (start, size) = C::piece(self.len, self.by, at);
+        self.back = at;
         let head = self.head;
         let len = self.len;
         show_part(self.of, head, len, start, size);

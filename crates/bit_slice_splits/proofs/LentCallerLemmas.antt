@@ -1,7 +1,7 @@
 -- For callers.
 --
 -- What the writes of a part that `next_mut` lent make of the whole window: `next_written`; that the parts still lie in it:
--- `next_lies`; that they come to their end: `next_fewer`.
+-- `next_lies`, and where none was left for `nth_mut` `none_lies`; that they come to their end: `next_fewer`.
 use Rattle.std.proofs.Common.{◌≡◌, ℕ, ◌+◌, ◌<◌, ◌≤◌, Bool, true, false, cond, true≢false, List, inl, inr, length}
 use Rattle.std.proofs.Common.{sym, ap, ◌∙◌, arith, Bor}
 use Rattle.std.proofs.lemmas.Bool.{cases_lt}
@@ -10,7 +10,8 @@ use Rattle.bit_addressing_memory.specs.Memory.{with_piece}
 use Rattle.bit_slice_views_mut.specs.Parts.{IsPart, Windows}
 use Rattle.bit_slice_iterators.proofs.CallerLemmas.{lent_written}
 use Rattle.bit_slice_splits.specs.Lending.{HasLent}
-use Rattle.bit_slice_splits.specs.SplitsMut.{parts_around, parts_whole, LiesIn}
+use Rattle.bit_slice_splits.specs.SplitsMut.{parts_around, parts_whole, KeepsWindow, LiesIn}
+use Rattle.bit_slice_splits.specs.Takes.{parts_state, MayFollow}
 use Rattle.bit_slice_splits.specs.declared.splits_mut.SplitsMut.{SplitsMut}
 
 module _ {V X S F A B O : Type 0} (of : Windows V X S) (g : Mut F (ℕ × (Bor Bool × Unit {0})) Bool)
@@ -59,3 +60,15 @@ next_fewer place bits g before after lent last going took = fewer before.done af
       | inl less ↦ omega arith
       | inr more ↦ absurd (true≢false (sym (shorter more)))
     ]
+
+-- where no part was left, the parts lie in the window still
+pub none_lies : {V F A B S O X : Type 0} (b : ℕ) (lender : V → X) (words : V → List S)
+    (g : Mut F (ℕ × (Bor Bool × Unit {0})) Bool) (before after : SplitsMut V F A B S O) → LiesIn b words before
+    → KeepsWindow lender words before after → MayFollow g (parts_state after) → LiesIn b words after
+none_lies b lender words g before after lies kept follow = record {
+  left = follow.left;
+  found = follow.found;
+  fits = rw (kept.place_is, kept.len_is, kept.words_are) lies.fits;
+  short = rw kept.len_is lies.short;
+  small = rw (kept.place_is, kept.len_is) lies.small;
+}

@@ -1,8 +1,10 @@
 -- What a call takes off the parts of a writable window: what the shared splits give, and where it lies.
 --
 -- Where the parts stand: `PartsState`, `state_left`. One part, in a way: `TakesPart`; all that is left: `TakesRest`; of
--- so many at most: `TakesUpTo`.
-use Rattle.std.specs.Prelude.{ℕ, ◌≡◌, ◌+◌, ◌%◌, List, Bool, true, Option}
+-- so many at most: `TakesUpTo`; the one behind k others, `TakesNth`, after which the next call may follow, `MayFollow`.
+use Rattle.std.specs.Prelude.{ℕ, ◌≡◌, ◌+◌, ◌%◌, ◌≤◌, List, Bool, true, Option}
+use Rattle.std.specs.Iterator.{SkipsThenYields}
+use denote.Param.Always.{always_mut}
 use Rattle.std.specs.Borrow.{Bor}
 use Rattle.std.specs.Fn.{Mut}
 use Rattle.std.specs.Option.{MatchOption}
@@ -81,3 +83,16 @@ TakesUpTo reading words way g =
     CountsDown (λ s. s.most)
     (λ before r after. TakesPart reading words way g before r (record after { most = before.most }))
     (λ before r after. TakesRest reading words before r (record after { most = before.most }))
+
+-- the bits that are left and the part that was found last lie in the window, and the predicate may be called: so the next
+-- call may follow
+pub record MayFollow {F : Type 0} (g : Mut F (ℕ × (Bor Bool × Unit {0})) Bool) (s : PartsState F) : Type 0 where
+  pub left : s.from + s.count ≤ s.len
+  pub found : s.start + s.size ≤ s.len
+  pub callable : always_mut g s.callee
+
+-- calls that each take a part so pass over k parts, or over all where fewer are left, and then one more is made
+abbrev pub TakesNth : {F : Type 0} → Mut F (ℕ × (Bor Bool × Unit {0})) Bool
+    → (PartsState F → Option (List Bool) → PartsState F → Type 0) → ℕ
+    → PartsState F → Option (List Bool) → PartsState F → Type 0
+TakesNth g takes k before r after = SkipsThenYields takes before k r after × MayFollow g after

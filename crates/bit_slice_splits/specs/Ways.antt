@@ -3,9 +3,10 @@
 -- Which indices are tried, and what comes off: `SplitWay`, and `from_front`, `from_back`, `inclusive_front`,
 -- `inclusive_back`. What the predicate is handed and answers: `Asked`, `Asks`, `AnswersBit`. A part that comes off:
 -- `Parts`, `Ends`, and where it lies, `PartsFrom`, `EndsFrom`; `GivesPart`, and of so many at most `CountsDown`,
--- `PartsUpTo`. What an iterator has left: `SplitLeft`, `SplitNLeft`.
+-- `PartsUpTo`. What an iterator has left: `SplitLeft`, `SplitNLeft`; how many parts of it come at most: `parts_at_most`,
+-- `most_left`, and as the bounds of a `size_hint` `bounds_up_to`.
 use Rattle.std.proofs.Common.{◌≡◌, ℕ, ◌+◌, ◌-◌, ◌%◌, ◌≤◌, Bool, true, false, cond, List, length, get_or, nat_eq}
-use Rattle.std.proofs.Common.{nat_lt, Bor, Option, None, ◌<◌}
+use Rattle.std.proofs.Common.{nat_lt, Bor, Option, None, Some, ◌<◌, max, min}
 use Rattle.std.specs.Fn.{Called, Mut}
 use Rattle.std.specs.Bool.{MatchBool}
 use Rattle.std.specs.Option.{MatchOption}
@@ -97,6 +98,19 @@ pub record SplitLeft (F : Type 0) : Type 0 where
   pub head : ℕ
   pub callee : F
   pub done : Bool
+
+-- how many parts come at most of n bits: where the bits at the cuts stay with parts, one for each bit, and one where
+-- there is none; else one more than there are bits
+abbrev pub parts_at_most : Bool → ℕ → ℕ
+parts_at_most inclusive n = cond inclusive (max 1 n) (n + 1)
+
+-- how many come at most of what is left
+abbrev pub most_left : {F : Type 0} → Bool → SplitLeft F → ℕ
+most_left inclusive s = cond s.done 0 (parts_at_most inclusive (length s.bits))
+
+-- the bounds of a `size_hint` where at most so many items come, and at least one unless that is none
+abbrev pub bounds_up_to : ℕ → ℕ × Option ℕ
+bounds_up_to most = (min 1 most, Some most)
 
 -- a part comes off one end of what is left
 pub record Parts {F : Type 0} (way : SplitWay) (g : Mut F (ℕ × (Bor Bool × Unit {0})) Bool) (before : SplitLeft F)

@@ -1,11 +1,11 @@
 //! The parts of a window between the places where a predicate answers true, one after another, from both ends.
 
-ghost use Rattle.std.specs.Prelude.{◌≡◌, ◌+◌, ◌-◌, ◌<◌, ◌≤◌, true, false, length, if◌then◌else◌, IfSome, Some};
+ghost use Rattle.std.specs.Prelude.{◌≡◌, ◌<◌, ◌≤◌, ◌&&◌, Bool, true, false, length, IfSome};
 ghost use Rattle.std.specs.Iterator.{at_most, MakesProgress, UpTo};
 ghost use Rattle.std.specs.Iterator.SizeHint.{IsWithinCount};
 ghost use Rattle.bit_addressing_memory.specs.Memory.{piece, read_by};
 ghost use Rattle.bit_slice_views.specs.View.{view_bits, view_head};
-ghost use Rattle.bit_slice_splits.specs.Ways.{EndsFrom, GivesPart, PartsFrom};
+ghost use Rattle.bit_slice_splits.specs.Ways.{bounds_up_to, most_left, EndsFrom, GivesPart, PartsFrom};
 
 use crate::search::asked_in;
 use crate::ways::{FromBack, FromFront, InclusiveBack, InclusiveFront, SplitEnd};
@@ -66,6 +66,21 @@ impl<'a, T: BitRegister, O: BitOrder<T>, F, A: SplitEnd, B: SplitEnd> Splits<'a,
         }
     }
 
+    // How many parts come at most.
+    pub(crate) fn most(&self) -> usize
+        ensures { result ≡ most_left (A.IS_INCLUSIVE && B.IS_INCLUSIVE) self.now }
+    {
+        if self.done {
+            return 0;
+        }
+        let (_, _, left) = self.view.parts();
+        if A::IS_INCLUSIVE && B::IS_INCLUSIVE {
+            left.max(1)
+        } else {
+            left + 1
+        }
+    }
+
     // All bits that are left, as the last part.
     pub(crate) fn finish(&mut self) -> Option<BitSlice<'a, T, O>>
         ensures { GivesPart (view_bits (read_by T.BitRegister O.position)) view_head EndsFrom self.old result
@@ -92,8 +107,9 @@ impl<
         requires { F.IsAlwaysCallable self.old.callee }
         ensures steps { GivesPart (view_bits (read_by T.BitRegister O.position)) view_head
             (PartsFrom T.BITS E.way F.FnMut) self.old result self.new }
-        ensures goes { MakesProgress (λ splits. F.IsAlwaysCallable splits.callee)
-            (λ s. at_most (if s.done then 0 else length s.bits + 1)) self.old result self.new }
+        ensures goes { (inclusive : Bool) → (inclusive ≡ true → E.IS_INCLUSIVE ≡ true)
+            → MakesProgress (λ splits. F.IsAlwaysCallable splits.callee) (λ s. at_most (most_left inclusive s))
+            self.old result self.new }
     {
         if self.done {
             return None;
@@ -122,22 +138,21 @@ impl<
     ghost next_gives = { GivesPart (view_bits (read_by T.BitRegister O.position)) view_head
         (PartsFrom T.BITS A.way F.FnMut) };
 
-    ghost remaining = { λ s. at_most (if s.done then 0 else length s.bits + 1) };
+    ghost remaining = { λ s. at_most (most_left (A.IS_INCLUSIVE && B.IS_INCLUSIVE) s) };
 
     fn next(&mut self) -> Option<BitSlice<'a, T, O>> {
         self.take_part::<A>()
     }
 
     fn size_hint(&self) -> (usize, Option<usize>)
-        ensures lower { IsWithinCount result.0 (at_most (if self.now.done then 0 else length self.now.bits + 1)) }
-        ensures upper { IfSome result.1 (UpTo (at_most (if self.now.done then 0 else length self.now.bits + 1))) }
-        ensures exact { result ≡ (0, Some (if self.now.done then 0 else length self.now.bits + 1)) }
+        ensures lower { IsWithinCount result.0
+            (at_most (most_left (A.IS_INCLUSIVE && B.IS_INCLUSIVE) self.now)) }
+        ensures upper { IfSome result.1
+            (UpTo (at_most (most_left (A.IS_INCLUSIVE && B.IS_INCLUSIVE) self.now))) }
+        ensures exact { result ≡ bounds_up_to (most_left (A.IS_INCLUSIVE && B.IS_INCLUSIVE) self.now) }
     {
-        if self.done {
-            return (0, Some(0));
-        }
-        let (_, _, left) = self.view.parts();
-        (0, Some(left + 1))
+        let most = self.most();
+        (most.min(1), Some(most))
     }
 }
 

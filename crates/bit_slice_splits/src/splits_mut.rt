@@ -2,6 +2,7 @@
 
 ghost use Rattle.std.specs.Prelude.{◌≡◌, ◌+◌, ◌*◌, ◌<◌, ◌≤◌, ◌^◌, ◌↔◌, length, true, false, IsTrue, IsSome, IfSome};
 ghost use Rattle.std.specs.Borrow.{sem};
+ghost use Rattle.std.specs.Iterator.{SkipsThenYields};
 ghost use Rattle.bit_addressing_memory.specs.Memory.{memory, piece, read_by};
 ghost use Rattle.bit_slice_views.specs.SpanLimits.{MAX_BITS};
 ghost use Rattle.bit_slice_splits.specs.Lending.{LendsNext, LendsPart};
@@ -9,7 +10,7 @@ ghost use Rattle.bit_slice_splits.specs.SplitsMut.{parts_around, parts_found_len
 ghost use Rattle.bit_slice_splits.specs.SplitsMut.{parts_callee, parts_count, parts_done, parts_found, parts_most};
 ghost use Rattle.bit_slice_splits.specs.SplitsMut.{parts_len, parts_loan, parts_place, parts_view, parts_whole};
 ghost use Rattle.bit_slice_splits.specs.SplitsMut.{KeepsWindow, LiesIn, PartsBy, SplitsAll};
-ghost use Rattle.bit_slice_splits.specs.Takes.{parts_state, TakesPart, TakesRest};
+ghost use Rattle.bit_slice_splits.specs.Takes.{parts_state, TakesNth, TakesPart, TakesRest};
 
 use crate::search::asked_in;
 use crate::ways::{FromBack, FromFront, InclusiveBack, InclusiveFront, Parting, SplitEnd};
@@ -186,6 +187,46 @@ impl<'s, V: BitsWindow, F: FnMut(usize, &bool) -> bool + Drop, A: SplitEnd, B: S
             None
         }
     }
+
+    /// Passes over `k` parts from the front and lends the next one, to write, as `k + 1` calls of `next_mut` do. Where no
+    /// more than `k` are left, none is left then.
+    pub fn nth_mut(&mut self, k: usize) -> Option<&mut V>
+        requires callable { F.IsAlwaysCallable (parts_callee self.old) }
+        requires lies { LiesIn V.Store.BITS V.words self.old }
+        ensures variant { IsSome result → parts_done self.old ≡ false }
+        ensures words { IfSome result (λ part. V.words part.now ≡ V.words (parts_view self.old)) }
+        ensures lender { IfSome result (λ part. V.lender part.now ≡ V.lender (parts_view self.old)) }
+        ensures* lends { sem 𝓛 (LendsNext V.row F.row A.row B.row V.Store.row V.Order.row V.lender V.words V.place
+            V.bits F.FnMut (TakesNth F.FnMut (TakesPart (read_by V.Store.BitRegister V.Order.position)
+            (V.words (parts_view self.old)) A.way F.FnMut) k)
+            self.entry result) }
+    {
+        if self.seek_nth::<A>(k) {
+            Some(self.part_mut())
+        } else {
+            None
+        }
+    }
+
+    /// Passes over `k` parts from the back and lends the next one, to write, as `k + 1` calls of `next_back_mut` do. Where no
+    /// more than `k` are left, none is left then.
+    pub fn nth_back_mut(&mut self, k: usize) -> Option<&mut V>
+        requires callable { F.IsAlwaysCallable (parts_callee self.old) }
+        requires lies { LiesIn V.Store.BITS V.words self.old }
+        ensures variant { IsSome result → parts_done self.old ≡ false }
+        ensures words { IfSome result (λ part. V.words part.now ≡ V.words (parts_view self.old)) }
+        ensures lender { IfSome result (λ part. V.lender part.now ≡ V.lender (parts_view self.old)) }
+        ensures* lends { sem 𝓛 (LendsNext V.row F.row A.row B.row V.Store.row V.Order.row V.lender V.words V.place
+            V.bits F.FnMut (TakesNth F.FnMut (TakesPart (read_by V.Store.BitRegister V.Order.position)
+            (V.words (parts_view self.old)) B.way F.FnMut) k)
+            self.entry result) }
+    {
+        if self.seek_nth::<B>(k) {
+            Some(self.part_mut())
+        } else {
+            None
+        }
+    }
 }
 
 impl<'s, V: BitsWindow, F: FnMut(usize, &bool) -> bool + Drop, A, B> SplitsMut<'s, V, F, A, B> {
@@ -217,6 +258,31 @@ impl<'s, V: BitsWindow, F: FnMut(usize, &bool) -> bool + Drop, A, B> SplitsMut<'
         self.count = part.rest_len;
         self.done = part.last;
         true
+    }
+
+    // Takes `k` parts off at one end and looks for the next one there, and tells whether there is one: `part_mut` lends it
+    // then.
+    pub(crate) fn seek_nth<W: SplitEnd>(&mut self, k: usize) -> bool
+        requires callable { F.IsAlwaysCallable (parts_callee self.old) }
+        requires lies { LiesIn V.Store.BITS V.words self.old }
+        ensures parts { SkipsThenYields (TakesPart (read_by V.Store.BitRegister V.Order.position)
+            (V.words (parts_view self.old)) W.way F.FnMut) (parts_state self.old) k
+            (parts_found (read_by V.Store.BitRegister V.Order.position) V.words result self.new)
+            (parts_state self.new) }
+        ensures going { IsTrue result → parts_done self.old ≡ false }
+        ensures keeps { KeepsWindow V.lender V.words self.old self.new }
+        ensures callable_still { F.IsAlwaysCallable (parts_callee self.new) }
+        ensures lies_still { LiesIn V.Store.BITS V.words self.new }
+        ensures shorter { IsTrue result → parts_count self.old ≤ parts_count self.new → parts_done self.new ≡ true }
+    {
+        let mut passed = 0;
+        while passed < k {
+            if !self.seek::<W>() {
+                return false;
+            }
+            passed += 1;
+        }
+        self.seek::<W>()
     }
 }
 

@@ -1,11 +1,11 @@
 //! So many parts of a window at most.
 
-ghost use Rattle.std.specs.Prelude.{◌≡◌, false, IfSome, Some};
+ghost use Rattle.std.specs.Prelude.{◌≡◌, ◌&&◌, false, min, IfSome};
 ghost use Rattle.std.specs.Iterator.{at_most, UpTo};
 ghost use Rattle.std.specs.Iterator.SizeHint.{IsWithinCount};
 ghost use Rattle.bit_addressing_memory.specs.Memory.{read_by};
 ghost use Rattle.bit_slice_views.specs.View.{view_bits, view_head};
-ghost use Rattle.bit_slice_splits.specs.Ways.{PartsUpTo};
+ghost use Rattle.bit_slice_splits.specs.Ways.{bounds_up_to, most_left, PartsUpTo};
 
 use crate::splits::Splits;
 use crate::ways::{FromBack, FromFront, SplitEnd};
@@ -66,7 +66,7 @@ impl<
 
     ghost next_gives = { PartsUpTo (view_bits (read_by T.BitRegister O.position)) view_head T.BITS A.way F.FnMut };
 
-    ghost remaining = { λ splits. at_most splits.count };
+    ghost remaining = { λ s. at_most (min s.count (most_left (A.IS_INCLUSIVE && A.IS_INCLUSIVE) s.parts)) };
 
     fn next(&mut self) -> Option<BitSlice<'a, T, O>> {
         let count = self.count;
@@ -82,10 +82,14 @@ impl<
     }
 
     fn size_hint(&self) -> (usize, Option<usize>)
-        ensures lower { IsWithinCount result.0 (at_most self.now.count) }
-        ensures upper { IfSome result.1 (UpTo (at_most self.now.count)) }
-        ensures exact { result ≡ (0, Some self.now.count) }
+        ensures lower { IsWithinCount result.0
+            (at_most (min self.now.count (most_left (A.IS_INCLUSIVE && A.IS_INCLUSIVE) self.now.parts))) }
+        ensures upper { IfSome result.1
+            (UpTo (at_most (min self.now.count (most_left (A.IS_INCLUSIVE && A.IS_INCLUSIVE) self.now.parts)))) }
+        ensures exact { result
+            ≡ bounds_up_to (min self.now.count (most_left (A.IS_INCLUSIVE && A.IS_INCLUSIVE) self.now.parts)) }
     {
-        (0, Some(self.count))
+        let most = self.count.min(self.parts.most());
+        (most.min(1), Some(most))
     }
 }

@@ -1,6 +1,6 @@
 //! How a list is split where a predicate answers true: which indices are tried, and what comes off then.
 
-ghost use Rattle.std.specs.Prelude.{◌≡◌, ℕ, ◌+◌, ◌-◌, ◌<◌, ◌≤◌, Bool, true};
+ghost use Rattle.std.specs.Prelude.{◌≡◌, ℕ, ◌+◌, ◌-◌, ◌<◌, ◌≤◌, Bool, true, false};
 ghost use Rattle.bit_slice_splits.specs.Ways.{SplitWay, from_front, from_back, inclusive_front, inclusive_back};
 
 /// What comes off of a list, and what is left of it.
@@ -21,6 +21,11 @@ pub struct Parting {
 /// A way to take a part off one end of a list: each kind of splits has one for either end.
 pub trait SplitEnd {
     ghost way: { SplitWay };
+
+    ghost IS_INCLUSIVE: { Bool };
+
+    /// Whether the bit at a cut stays with a part, so that of a list with bits each part has some.
+    const IS_INCLUSIVE: bool;
 
     /// How many indices of a list of `len` are tried at most.
     fn tries(len: usize) -> usize
@@ -43,7 +48,8 @@ pub trait SplitEnd {
         ensures last { result.last ≡ way.last len m }
         ensures within { result.start + result.len ≤ len }
         ensures rest_within { result.rest + result.rest_len ≤ len }
-        ensures shorter { len ≤ result.rest_len → result.last ≡ true };
+        ensures shorter { len ≤ result.rest_len → result.last ≡ true }
+        ensures inclusive { IS_INCLUSIVE ≡ true → result.rest_len ≡ 0 → result.last ≡ true };
 }
 
 /// Cut at the first place; the bit there goes.
@@ -52,6 +58,10 @@ pub struct FromFront;
 #[tactic(auto, using(std::proofs::lemmas::Bool::Decides::nat_tests))]
 impl SplitEnd for FromFront {
     ghost way = { from_front };
+
+    ghost IS_INCLUSIVE = { false };
+
+    const IS_INCLUSIVE: bool = false;
 
     fn tries(len: usize) -> usize {
         len
@@ -80,6 +90,10 @@ pub struct FromBack;
 impl SplitEnd for FromBack {
     ghost way = { from_back };
 
+    ghost IS_INCLUSIVE = { false };
+
+    const IS_INCLUSIVE: bool = false;
+
     fn tries(len: usize) -> usize {
         len
     }
@@ -107,6 +121,10 @@ pub struct InclusiveFront;
 impl SplitEnd for InclusiveFront {
     ghost way = { inclusive_front };
 
+    ghost IS_INCLUSIVE = { true };
+
+    const IS_INCLUSIVE: bool = true;
+
     fn tries(len: usize) -> usize {
         len
     }
@@ -133,6 +151,10 @@ pub struct InclusiveBack;
 #[tactic(auto, using(std::proofs::lemmas::Bool::Decides::nat_tests))]
 impl SplitEnd for InclusiveBack {
     ghost way = { inclusive_back };
+
+    ghost IS_INCLUSIVE = { true };
+
+    const IS_INCLUSIVE: bool = true;
 
     fn tries(len: usize) -> usize {
         len.saturating_sub(1)

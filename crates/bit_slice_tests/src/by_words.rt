@@ -6,7 +6,9 @@ ghost use Rattle.bit_addressing_memory.specs.declared.sweep.Way.TheVariants.{Up}
 ghost use Rattle.bit_addressing_span.specs.declared.span.TheConstants.{MAX_BITS};
 
 use bit_addressing_memory::{BitOrder, BitRegister, Lsb0, Sweep, Way};
-use bit_slice_access::BitsDomains;
+use bit_addressing_span::Domain;
+use bit_slice_access::{BitsDomains, BitsParts};
+use bit_slice_views::BitSlice;
 use bit_slice_views_mut::BitSliceMut;
 use std::process::Abort;
 
@@ -16,12 +18,41 @@ fn words_are_written_in_their_parts_inside(rt: HostRuntime) {
     let mut view = BitSliceMut::<u8, Lsb0>::from_place_mut(&mut words, 3, 15);
     let mut domain = view.domain_mut();
     assert!(rt; domain.len() == 3 && !domain.is_empty());
+    let (head, tail) = domain.bounds(2);
+    assert!(rt; head.into_inner() == 0 && tail.into_inner() == 2);
     assert!(rt; domain.clear(0) == 0xf8 && domain.load_value(0) == 0);
     assert!(rt; domain.store_value(1, 0x5a) == 0xff && domain.invert(1) == 0x5a);
     assert!(rt; domain.clear(2) == 0x03 && domain.set(0) == 0);
     drop(domain);
     assert!(rt; words == [0xff, 0xa5, 0xfc]);
     assert!(rt; BitSliceMut::<u8, Lsb0>::empty_mut().domain_mut().is_empty());
+}
+
+// The words that a domain gives from the back on, as the bytes of one number.
+fn joined(domain: Domain<'_, u8, Lsb0>) -> u32 {
+    let mut number = 0u32;
+    for word in domain.rev() {
+        number = (number << 8) | word as u32;
+    }
+    number
+}
+
+#[test]
+fn a_domain_gives_the_words_of_a_window_without_the_bits_outside(rt: HostRuntime) {
+    let mut words = [0x12u8, 0x34, 0x56];
+    // the bits 4 up to 20 of the number with these bytes: 0x10, 0x34, 0x06
+    let wanted = 0x56_34_12u32 & 0x0f_ff_f0;
+    let view = BitSlice::<u8, Lsb0>::from_place(&words, 4, 16);
+    assert!(rt; joined(view.domain()) == wanted && view.domain().count() == 3);
+    // inside one word, in whole words, and of no bits
+    let view = BitSlice::<u8, Lsb0>::from_place(&words, 10, 3);
+    assert!(rt; joined(view.domain()) == 0x34 & 0x1c && view.domain().count() == 1);
+    let view = BitSlice::<u8, Lsb0>::from_place(&words, 8, 16);
+    assert!(rt; joined(view.domain()) == 0x56_34 && view.domain().count() == 2);
+    assert!(rt; BitSlice::<u8, Lsb0>::empty().domain().count() == 0);
+    let mut view = BitSliceMut::<u8, Lsb0>::from_place_mut(&mut words, 4, 16);
+    assert!(rt; joined(view.domain()) == wanted);
+    assert!(rt; joined(view.domain_mut().as_domain()) == wanted);
 }
 
 // Puts the first word of a sweep.

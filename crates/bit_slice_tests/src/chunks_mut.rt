@@ -54,6 +54,37 @@ fn first_of_each<V: BitsWindow>(view: &mut V) -> bool
     forward && backward && whole
 }
 
+// Whether the pieces behind others are lent, from either end, of a window of ten bits.
+fn behind_others<V: BitsWindow>(view: &mut V) -> bool
+    requires { length (V.bits view.old) ≡ 10 }
+{
+    let mut pieces = view.chunks_mut(3);
+    if pieces.len() != 4 {
+        return false;
+    }
+    let Some(piece) = pieces.nth_back_mut(1) else {
+        return false
+    };
+    let third = shows(piece, 6, 3);
+    let Some(piece) = pieces.nth_mut(1) else {
+        return false
+    };
+    let second = shows(piece, 3, 3);
+    third && second && pieces.len() == 0 && pieces.nth_mut(0).is_none()
+}
+
+// Whether none is left where fewer are than those that are passed over.
+fn none_is_left<V: BitsWindow>(view: &mut V) -> bool
+    requires { length (V.bits view.old) ≡ 10 }
+{
+    let none = {
+        let mut pieces = view.rchunks_mut(4);
+        pieces.nth_mut(3).is_none() && pieces.len() == 0
+    };
+    let mut pieces = view.rchunks_mut(4);
+    none && pieces.nth_back_mut(3).is_none() && pieces.next_mut().is_none()
+}
+
 #[test]
 fn pieces_of_each_kind_are_written(rt: HostRuntime) {
     let mut words = BYTES;
@@ -67,6 +98,18 @@ fn pieces_of_each_kind_are_written(rt: HostRuntime) {
     let agrees = {
         let mut view = BitSliceMut::<u8, Lsb0>::from_place_mut(&mut words, 3, 10);
         first_of_each(&mut view)
+    };
+    assert!(rt; agrees && words == BYTES);
+    let mut words = BYTES;
+    let agrees = {
+        let mut view = BitSliceMut::<u8, Lsb0>::from_place_mut(&mut words, 3, 10);
+        behind_others(&mut view)
+    };
+    assert!(rt; agrees && words == BYTES);
+    let mut words = BYTES;
+    let agrees = {
+        let mut view = BitSliceMut::<u8, Lsb0>::from_place_mut(&mut words, 3, 10);
+        none_is_left(&mut view)
     };
     assert!(rt; agrees && words == BYTES);
 }

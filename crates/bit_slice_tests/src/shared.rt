@@ -46,6 +46,9 @@ fn windows_are_made(rt: HostRuntime) {
     drop(bits);
     assert!(rt; words == [0b1100_1100]);
     assert!(rt; BitSliceMut::<u8, Lsb0>::default().is_empty());
+    let (none, head, len) = BitSlice::<u8, Lsb0>::default().parts();
+    assert!(rt; none.len() == 0 && head == 0 && len == 0);
+    assert!(rt; BitSliceMut::<u8, Lsb0>::empty_mut().first_place() == 0);
     let made = BitSliceMut::<u8, Lsb0>::try_from(words.as_mut_slice());
     assert!(rt; made.is_ok());
     let shared = BitSlice::<u8, Msb0>::try_from(words.as_slice());

@@ -72,8 +72,8 @@ fn a_part_outlives_the_window(rt: HostRuntime) {
     assert!(rt; row(first) == 0b10);
     let view = BitSlice::<u8, Lsb0>::from_place(&words, 0, 6);
     let mut parts = view.split(is_one);
-    assert!(rt; parts.size_hint() == (0, Some(7)) && row(parts.next()) == 0b10);
-    assert!(rt; parts.size_hint() == (0, Some(5)) && row(parts.nth(1)) == 0b10);
+    assert!(rt; parts.size_hint() == (1, Some(7)) && row(parts.next()) == 0b10);
+    assert!(rt; parts.size_hint() == (1, Some(5)) && row(parts.nth(1)) == 0b10);
     assert!(rt; parts.size_hint() == (0, Some(0)));
 }
 
@@ -89,6 +89,26 @@ fn a_part_is_found_by_its_number(rt: HostRuntime) {
     let mut parts = view.split_inclusive(is_one);
     assert!(rt; row(parts.nth_back(2)) == 0b101 && row(parts.next_back()) == 0);
     let mut parts = view.splitn(2, is_one);
-    assert!(rt; parts.size_hint() == (0, Some(2)) && row(parts.nth(1)) == 0b10010);
+    assert!(rt; parts.size_hint() == (1, Some(2)) && row(parts.nth(1)) == 0b10010);
     assert!(rt; parts.size_hint() == (0, Some(0)) && row(parts.next()) == 0);
+}
+
+#[test]
+fn a_split_tells_how_many_parts_come(rt: HostRuntime) {
+    // the bits 0, 1, 0, 0, 1, 0
+    let words = [0xd2u8];
+    let view = BitSlice::<u8, Lsb0>::from_place(&words, 0, 6);
+    // as std's iterators of the same names: at least one part and at most one more than there are bits, and of
+    // `split_inclusive` at most one for each bit
+    assert!(rt; view.rsplit(is_one).size_hint() == (1, Some(7)));
+    assert!(rt; view.split_inclusive(is_one).size_hint() == (1, Some(6)));
+    assert!(rt; view.rsplitn(3, is_one).size_hint() == (1, Some(3)));
+    assert!(rt; view.splitn(9, is_one).size_hint() == (1, Some(7)));
+    assert!(rt; view.splitn(0, is_one).size_hint() == (0, Some(0)));
+    let none = BitSlice::<u8, Lsb0>::empty();
+    assert!(rt; none.split(is_one).size_hint() == (1, Some(1)));
+    assert!(rt; none.split_inclusive(is_one).size_hint() == (0, Some(0)));
+    let mut parts = view.split_inclusive(is_one);
+    assert!(rt; parts.nth(1).is_some() && parts.size_hint() == (1, Some(1)));
+    assert!(rt; parts.next().is_some() && parts.size_hint() == (0, Some(0)));
 }

@@ -40,6 +40,57 @@ fn fills_back<V: BitsWindow, F: FnMut(usize, &bool) -> bool + Drop, A: SplitEnd,
     lens
 }
 
+// The length of the part behind the first from the front on, which is filled; 0 where there is none.
+fn fills_second<V: BitsWindow, F: FnMut(usize, &bool) -> bool + Drop, A: SplitEnd, B: SplitEnd>(
+    parts: &mut SplitsMut<'_, V, F, A, B>,
+) -> usize
+    requires callable { F.IsAlwaysCallable (parts_callee parts.old) }
+    requires lies { LiesIn V.Store.BITS V.words parts.old }
+    ensures lies_still { LiesIn V.Store.BITS V.words parts.new }
+{
+    let Some(part) = parts.nth_mut(1) else {
+        return 0
+    };
+    let len = part.len();
+    part.fill(true);
+    len
+}
+
+// The same from the back.
+fn fills_second_back<
+    V: BitsWindow,
+    F: FnMut(usize, &bool) -> bool + Drop,
+    A: SplitEnd,
+    B: SplitEnd,
+>(parts: &mut SplitsMut<'_, V, F, A, B>) -> usize
+    requires callable { F.IsAlwaysCallable (parts_callee parts.old) }
+    requires lies { LiesIn V.Store.BITS V.words parts.old }
+    ensures lies_still { LiesIn V.Store.BITS V.words parts.new }
+{
+    let Some(part) = parts.nth_back_mut(1) else {
+        return 0
+    };
+    let len = part.len();
+    part.fill(true);
+    len
+}
+
+// The length of the part behind the first, of so many at most, which is cleared.
+fn clears_second<V: BitsWindow, F: FnMut(usize, &bool) -> bool + Drop, A: SplitEnd>(
+    parts: &mut SplitsMut<'_, V, F, A, AtMost>,
+) -> usize
+    requires callable { F.IsAlwaysCallable (parts_callee parts.old) }
+    requires lies { LiesIn V.Store.BITS V.words parts.old }
+    ensures lies_still { LiesIn V.Store.BITS V.words parts.new }
+{
+    let Some(part) = parts.nth_mut(1) else {
+        return 0
+    };
+    let len = part.len();
+    part.fill(false);
+    len
+}
+
 // The same of so many parts at most, each of which is cleared.
 fn clears<V: BitsWindow, F: FnMut(usize, &bool) -> bool + Drop, A: SplitEnd>(
     parts: &mut SplitsMut<'_, V, F, A, AtMost>,
@@ -65,6 +116,9 @@ fn written<V: BitsWindow>(view: &mut V, way: &str, count: usize) -> usize {
         "split from the back" => fills_back(&mut view.split_mut(is_one)),
         "rsplit from the back" => fills_back(&mut view.rsplit_mut(is_one)),
         "split_inclusive from the back" => fills_back(&mut view.split_inclusive_mut(is_one)),
+        "second of split" => fills_second(&mut view.split_mut(is_one)),
+        "second of split from the back" => fills_second_back(&mut view.split_mut(is_one)),
+        "second of splitn" => clears_second(&mut view.splitn_mut(count, is_one)),
         "splitn" => clears(&mut view.splitn_mut(count, is_one)),
         _ => clears(&mut view.rsplitn_mut(count, is_one)),
     }
@@ -88,6 +142,11 @@ fn parts_are_written(rt: HostRuntime) {
         ("rsplitn", 2, 14, 0xa1),
         ("splitn", 3, 121, 0xa5),
         ("rsplitn", 9, 121, 0xa5),
+        ("second of split", 0, 2, 0xbd),
+        ("second of split from the back", 0, 2, 0xbd),
+        ("second of splitn", 1, 0, 0xa5),
+        ("second of splitn", 2, 4, 0x85),
+        ("second of splitn", 3, 2, 0xa5),
     ];
     for (way, count, wanted, byte) in rows {
         let mut words = [0xa5u8];

@@ -1,12 +1,14 @@
 //! A window cut at the borders of its words: its whole words, and what stands before and behind them.
 
 ghost use Rattle.std.specs.Prelude.{◌≡◌, ◌-◌, ◌<◌, ◌↔◌, length, IfSome, ⊤};
-ghost use Rattle.bit_addressing_memory.specs.Memory.{read_by};
-ghost use Rattle.bit_addressing_span.specs.Domain.{domain_bits, domain_start, option_bits, IsCut, IsEnclave, IsHead, IsTail};
+ghost use Rattle.bit_addressing_memory.specs.Memory.{read_by, touched};
+ghost use Rattle.bit_addressing_span.specs.Domain.{domain_bits, domain_numbers, domain_start, option_bits};
+ghost use Rattle.bit_addressing_span.specs.Domain.{IsCut, IsEnclave, IsHead, IsTail};
 ghost use Rattle.bit_addressing_span.specs.PartialElement.{partial_bits, partial_head, partial_tail};
+ghost use Rattle.bit_addressing_span.specs.Parts.{AreMasked};
 ghost use Rattle.bit_slice_views.specs.Parts.{option_view_bits, parts_bits, IsBitCut, IsHeadPart, IsOnePart};
 ghost use Rattle.bit_slice_views.specs.Parts.{IsTailPart, option_start, parts_start};
-ghost use Rattle.bit_slice_views.specs.View.{view_bits, view_head};
+ghost use Rattle.bit_slice_views.specs.View.{view_bits, view_head, view_words};
 
 use crate::view::BitSlice;
 use bit_addressing_memory::{BitOrder, BitRegister};
@@ -151,6 +153,11 @@ impl<'a, T: BitRegister, O: BitOrder<T>> BitSlice<'a, T, O> {
         ensures enclave { IsEnclave result ↔ LiesInside T.BITS
             (extent 0 (view_head self.entry) (length (view_bits (read_by T.BitRegister O.position) self.entry))) }
         ensures cut { IsCut T.BITS result }
+        ensures words { length (domain_numbers T.number O.masked result)
+            ≡ touched T.BITS (view_head self.entry) (length (view_bits (read_by T.BitRegister O.position) self.entry)) }
+        ensures masked { AreMasked (read_by T.BitRegister O.position) O.position (view_words self.entry)
+            (extent 0 (view_head self.entry) (length (view_bits (read_by T.BitRegister O.position) self.entry)))
+            (domain_numbers T.number O.masked result) }
     {
         let (words, _, len) = self.parts();
         let span = BitSpan::<T, O>::new(0, self.head(), len).unwrap();

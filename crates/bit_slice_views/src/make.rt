@@ -47,7 +47,9 @@ impl<'a, T: BitRegister, O> BitSlice<'a, T, O> {
 impl<'a, T: BitRegister, O: BitOrder<T>> BitSlice<'a, T, O> {
     /// No bits.
     pub fn empty() -> BitSlice<'a, T, O>
-        ensures { view_bits (read_by T.BitRegister O.position) result ≡ [] }
+        ensures bits { view_bits (read_by T.BitRegister O.position) result ≡ [] }
+        ensures words { view_words result ≡ [] }
+        ensures head { view_head result ≡ 0 }
     {
         BitSlice::from_slice(&[])
     }
@@ -102,7 +104,8 @@ impl<'a, T: BitRegister, O: BitOrder<T>> TryFrom<&'a [T]> for BitSlice<'a, T, O>
 
 /// No bits.
 impl<'a, T: BitRegister, O: BitOrder<T>> Default for BitSlice<'a, T, O> {
-    ghost is_default = { λ view. view_bits (read_by T.BitRegister O.position) view ≡ [] };
+    ghost is_default = { λ view. (view_bits (read_by T.BitRegister O.position) view ≡ [])
+        × (view_words view ≡ []) × (view_head view ≡ 0) };
 
     fn default() -> Self {
         BitSlice::empty()

@@ -54,7 +54,8 @@ impl<'a, T: BitRegister, O: BitOrder<T>> TryFrom<&'a mut [T]> for BitSliceMut<'a
 
 /// No bits.
 impl<'a, T: BitRegister, O: BitOrder<T>> Default for BitSliceMut<'a, T, O> {
-    ghost is_default = { λ view. lent_bits (read_by T.BitRegister O.position) view ≡ [] };
+    ghost is_default = { λ view. (lent_bits (read_by T.BitRegister O.position) view ≡ [])
+        × (lent_words view ≡ []) × (lent_place view ≡ 0) };
 
     fn default() -> Self {
         BitSliceMut::empty_mut()

@@ -75,7 +75,9 @@ impl<'a, T: BitRegister, O: BitOrder<T>> BitSliceMut<'a, T, O> {
 
     /// No bits.
     pub fn empty_mut() -> BitSliceMut<'a, T, O>
-        ensures { lent_bits (read_by T.BitRegister O.position) result ≡ [] }
+        ensures bits { lent_bits (read_by T.BitRegister O.position) result ≡ [] }
+        ensures words { lent_words result ≡ [] }
+        ensures place { lent_place result ≡ 0 }
     {
         BitSliceMut::from_slice_mut(&mut [])
     }

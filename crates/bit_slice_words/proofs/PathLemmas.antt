@@ -6,7 +6,7 @@ use Rattle.std.proofs.lemmas.Bool.{cases_lt}
 use mathlib.Core.Bool.{beq}
 use Rattle.bit_addressing_memory.specs.Memory.{Reading, entry}
 use Rattle.bit_slice_paths.specs.Steps.{most_steps, groups, Takes}
-use Rattle.bit_slice_paths.proofs.StepLemmas.{takes_none, takes_more, takes_as, takes_join}
+use Rattle.bit_slice_paths.proofs.StepLemmas.{takes_none, takes_more, takes_as}
 
 groups_one : (n : ℕ) → groups n 1 ≡ n
 groups_one n = omega arith
@@ -35,6 +35,13 @@ pub takes_bits_down : (old new n k : ℕ) → k ≡ 0 → Takes old new (n - k) 
     → Takes old new (groups n 64) (groups n 1)
 takes_bits_down old new n k none had = takes_bits old new n (n - k) (omega arith) had
 
+-- no more steps than bits
+pub takes_no_more : (old new n : ℕ) → Takes old new (groups n 64) (groups n 64) → Takes old new (groups n 64) (groups n 1)
+takes_no_more old new n had =
+    let a = had.at_least in
+    let b = had.at_most in
+    record { at_least = omega arith; at_most = omega (arith, groups_64 n, groups_one n) }
+
 -- a step a bit, up to the first that differs
 pub takes_some : (old new n k : ℕ) → 1 ≤ k → k ≤ n → Takes old new k k → Takes old new 1 (groups n 1)
 takes_some old new n k some h had =
@@ -42,27 +49,32 @@ takes_some old new n k some h had =
     let b = had.at_most in
     record { at_least = omega arith; at_most = omega (arith, groups_one n) }
 
--- the same of a count that the bits bound
-pub takes_few : (old new n k : ℕ) → 1 ≤ k → k ≤ n → Takes old new k k → Takes old new 1 n
-takes_few old new n k some h had =
+-- one step more, the last one
+pub takes_last : (old now new k most : ℕ) → k < most → new ≡ min (now + 1) most_steps → Takes old now k k
+    → Takes old new 1 most
+takes_last old now new k most h is had =
     let a = had.at_least in
     let b = had.at_most in
     record { at_least = omega arith; at_most = omega arith }
 
--- a step a bit, and then so many others
-pub takes_behind : (old now new few rest n : ℕ) → few + rest ≡ n → Takes old now few few → Takes now new rest rest
-    → Takes old new (groups n 64) (groups n 1)
+-- a step a bit, and then one for each 64 others
+pub takes_behind : (old now new few rest n : ℕ) → few + rest ≡ n → Takes old now few few
+    → Takes now new (groups rest 64) (groups rest 64) → Takes old new (groups n 64) (groups n 1)
 takes_behind old now new few rest n sum had more =
-    takes_bits old new n (few + rest) sum (takes_join old now new few rest (few + rest) refl had more)
+    let a = had.at_least in
+    let b = had.at_most in
+    let c = more.at_least in
+    let d = more.at_most in
+    record { at_least = omega arith; at_most = omega (arith, groups_64 rest, groups_one n) }
 
-pub takes_behind_some : (old now new few rest n : ℕ) → few + rest ≡ n → Takes old now few few → Takes now new 1 rest
-    → Takes old new 1 (groups n 1)
+pub takes_behind_some : (old now new few rest n : ℕ) → few + rest ≡ n → Takes old now few few
+    → Takes now new 1 (groups rest 64) → Takes old new 1 (groups n 1)
 takes_behind_some old now new few rest n sum had more =
     let a = had.at_least in
     let b = had.at_most in
     let c = more.at_least in
     let d = more.at_most in
-    record { at_least = omega arith; at_most = omega (arith, groups_one n) }
+    record { at_least = omega arith; at_most = omega (arith, groups_64 rest, groups_one n) }
 
 -- bits that are equal, and then others of which an answer tells it
 pub equal_behind : {R : Type 0} (reading : Reading R) (words others : List R) (place other_place few rest n : ℕ)
@@ -99,3 +111,6 @@ other_bits false true e = λ h. cc
 other_bits false false e = cc
 
 pub ruleset count_steps = (takes_none, takes_more, takes_bits, takes_none_down, takes_more_down, takes_bits_down)
+
+-- a step each
+pub ruleset count_each = (takes_none, takes_more, takes_as)

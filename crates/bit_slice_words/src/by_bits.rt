@@ -1,5 +1,5 @@
-//! Word paths that count one step a bit: what an order whose `SPAN` is 1 calls. A few bits go one by one, and all where the
-//! order turns no word quickly; of others up to 64 are compared or combined in one step, which counts one for each.
+//! Word paths of at most one step a bit: what an order whose `SPAN` is 1 calls. A few bits go bit by bit, and all where the
+//! order turns no word quickly, one step for each; of others up to 64 are compared or combined in one step.
 
 ghost use Rattle.std.specs.Prelude.{◌≡◌, ℕ, ◌+◌, ◌*◌, ◌^◌, ◌<◌, ◌≤◌, ◌↔◌, ◌&&◌, ◌||◌};
 ghost use Rattle.std.specs.Prelude.{length, IsTrue, true, false};
@@ -17,7 +17,7 @@ use bit_slice_paths::{Steps, across};
 // How many bits are worked on at once, at most.
 const CHUNK: usize = 64;
 
-/// `WordPaths::equal`, a step a bit.
+/// `WordPaths::equal`, in at most one step a bit.
 #[tactic(auto, using(crate::proofs::PathLemmas::takes_behind, crate::proofs::PathLemmas::takes_behind_some))]
 pub fn equal<R: BitRegister, O: BitOrder<R>>(
     words: &[R],
@@ -59,7 +59,8 @@ pub fn equal<R: BitRegister, O: BitOrder<R>>(
     )
 }
 
-// The same, by chunks.
+// The same, by chunks, one step for each that is compared.
+#[tactic(auto, using(crate::proofs::PathLemmas::count_each, crate::proofs::PathLemmas::takes_last))]
 fn equal_by_chunks<R: BitRegister, O: BitOrder<R>>(
     words: &[R],
     place: usize,
@@ -75,8 +76,8 @@ fn equal_by_chunks<R: BitRegister, O: BitOrder<R>>(
     ensures value { IsTrue result ↔ ((k : ℕ) → k < len
         → entry (read_by R.BitRegister O.position) words.now (place + k)
         ≡ entry (read_by R.BitRegister O.position) others.now (other_place + k)) }
-    ensures same { result ≡ true → Takes steps.old steps.new len len }
-    ensures other { result ≡ false → Takes steps.old steps.new 1 len }
+    ensures same { result ≡ true → Takes steps.old steps.new (groups len 64) (groups len 64) }
+    ensures other { result ≡ false → Takes steps.old steps.new 1 (groups len 64) }
 {
     for k in 0..len.div_ceil(CHUNK) {
         let done = CHUNK * k;
@@ -88,16 +89,15 @@ fn equal_by_chunks<R: BitRegister, O: BitOrder<R>>(
             other_place + done,
             count,
         );
+        steps.step();
         if same < count {
-            steps.many(same + 1);
             return false;
         }
-        steps.many(count);
     }
     true
 }
 
-/// `WordPaths::copy`, a step a bit.
+/// `WordPaths::copy`, in at most one step a bit.
 pub fn copy<R: BitRegister, O: BitOrder<R>>(
     words: &mut [R],
     place: usize,
@@ -117,7 +117,7 @@ pub fn copy<R: BitRegister, O: BitOrder<R>>(
     combine::<Taken, R, O>(words, place, others, other_place, len, steps);
 }
 
-/// `WordPaths::swap`, a step a bit.
+/// `WordPaths::swap`, in one step a bit.
 #[tactic(auto, using(bit_addressing_memory::proofs::CopyLemmas::between_steps, crate::proofs::PathLemmas::count_steps))]
 pub fn swap<R: BitRegister, O: BitOrder<R>>(
     words: &mut [R],
@@ -146,7 +146,7 @@ pub fn swap<R: BitRegister, O: BitOrder<R>>(
     }
 }
 
-/// `WordPaths::copy_over`, a step a bit.
+/// `WordPaths::copy_over`, in one step a bit.
 #[tactic(auto, using(bit_addressing_memory::proofs::CopyLemmas::within_steps, crate::proofs::PathLemmas::count_steps))]
 pub fn copy_over<R: BitRegister, O: BitOrder<R>>(
     words: &mut [R],
@@ -178,7 +178,7 @@ pub fn copy_over<R: BitRegister, O: BitOrder<R>>(
     }
 }
 
-/// `WordPaths::and`, a step a bit.
+/// `WordPaths::and`, in at most one step a bit.
 pub fn and<R: BitRegister, O: BitOrder<R>>(
     words: &mut [R],
     place: usize,
@@ -199,7 +199,7 @@ pub fn and<R: BitRegister, O: BitOrder<R>>(
     combine::<Both, R, O>(words, place, others, other_place, len, steps);
 }
 
-/// `WordPaths::or`, a step a bit.
+/// `WordPaths::or`, in at most one step a bit.
 pub fn or<R: BitRegister, O: BitOrder<R>>(
     words: &mut [R],
     place: usize,
@@ -220,7 +220,7 @@ pub fn or<R: BitRegister, O: BitOrder<R>>(
     combine::<Either, R, O>(words, place, others, other_place, len, steps);
 }
 
-/// `WordPaths::xor`, a step a bit.
+/// `WordPaths::xor`, in at most one step a bit.
 pub fn xor<R: BitRegister, O: BitOrder<R>>(
     words: &mut [R],
     place: usize,
@@ -242,6 +242,7 @@ pub fn xor<R: BitRegister, O: BitOrder<R>>(
 }
 
 // Makes each of `len` bits what a combination makes of it and of one of another memory.
+#[tactic(auto, using(crate::proofs::PathLemmas::takes_bits, crate::proofs::PathLemmas::takes_no_more))]
 fn combine<H: Combining, R: BitRegister, O: BitOrder<R>>(
     words: &mut [R],
     place: usize,
@@ -265,8 +266,8 @@ fn combine<H: Combining, R: BitRegister, O: BitOrder<R>>(
     }
 }
 
-// The same, bit by bit.
-#[tactic(auto, using(crate::proofs::PathLemmas::count_steps, crate::proofs::ChangedStretchLemmas::stretch_none))]
+// The same, bit by bit, one step for each.
+#[tactic(auto, using(crate::proofs::PathLemmas::count_each, crate::proofs::ChangedStretchLemmas::stretch_none))]
 fn combine_singly<H: Combining, R: BitRegister, O: BitOrder<R>>(
     words: &mut [R],
     place: usize,
@@ -281,7 +282,7 @@ fn combine_singly<H: Combining, R: BitRegister, O: BitOrder<R>>(
     requires other_ends { other_place + len < 2 ^ 64 }
     ensures combined { Combines (read_by R.BitRegister O.position) words.old words.new place len
         (combined_bit H.HOW) (read_by R.BitRegister O.position) others.now other_place }
-    ensures steps { Takes steps.old steps.new (groups len 64) (groups len 1) }
+    ensures steps { Takes steps.old steps.new len len }
 {
     for k in 0..len {
         let bit = read_entry::<R, O>(words, place + k);
@@ -291,8 +292,8 @@ fn combine_singly<H: Combining, R: BitRegister, O: BitOrder<R>>(
     }
 }
 
-// The same, by chunks.
-#[tactic(auto, using(crate::proofs::PathLemmas::count_steps))]
+// The same, by chunks, one step for each.
+#[tactic(auto, using(crate::proofs::PathLemmas::count_each))]
 fn combine_by_chunks<H: Combining, R: BitRegister, O: BitOrder<R>>(
     words: &mut [R],
     place: usize,
@@ -307,12 +308,12 @@ fn combine_by_chunks<H: Combining, R: BitRegister, O: BitOrder<R>>(
     requires other_ends { other_place + len < 2 ^ 64 }
     ensures combined { Combines (read_by R.BitRegister O.position) words.old words.new place len
         (combined_bit H.HOW) (read_by R.BitRegister O.position) others.now other_place }
-    ensures steps { Takes steps.old steps.new (groups len 64) (groups len 1) }
+    ensures steps { Takes steps.old steps.new (groups len 64) (groups len 64) }
 {
     for k in 0..len.div_ceil(CHUNK) {
         let done = CHUNK * k;
         let count = CHUNK.min(len - done);
         across::combine::<H, R, O, R, O>(words, place + done, others, other_place + done, count);
-        steps.many(count);
+        steps.step();
     }
 }

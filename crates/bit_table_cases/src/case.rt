@@ -10,7 +10,7 @@ use std::alloc::{AllocError, Global};
 pub fn answer(alloc: Global, line: &str) -> Result<String, AllocError> {
     let (kind, rest) = cut(line);
     match kind {
-        "run" | "table" => in_storage(alloc, kind, rest),
+        "run" | "stopped" | "table" => in_storage(alloc, kind, rest),
         "commands" => commands(alloc, rest),
         "causes" => causes(alloc, rest),
         _ => in_memory(alloc, kind, rest),

@@ -4,7 +4,7 @@ ghost use Rattle.std.specs.Prelude.{◌*◌, ◌≤◌};
 ghost use Rattle.bit_table.specs.LayoutLimits.{MAX_ROW_BITS};
 
 use crate::order::StepsOfFive;
-use crate::scripts::run_case;
+use crate::scripts::{run_case, stopped_case};
 use crate::tables::table_case;
 use crate::text::cut;
 use bit_table::{BitViewSized, Digits, HiLo, Lsb0, Msb0, WordPaths};
@@ -43,9 +43,9 @@ fn in_order<A: BitViewSized, O: WordPaths<A::Store> + Digits<A::Store>>(
 ) -> Result<String, AllocError>
     requires { MAX_ROW_BITS ≤ A.COUNT * A.Store.BITS }
 {
-    if kind == "run" {
-        run_case::<A, O>(alloc, rest)
-    } else {
-        table_case::<A, O>(alloc, rest)
+    match kind {
+        "run" => run_case::<A, O>(alloc, rest),
+        "stopped" => stopped_case::<A, O>(alloc, rest),
+        _ => table_case::<A, O>(alloc, rest),
     }
 }

@@ -1,5 +1,5 @@
-//! Numbers in windows for every order and rule: by a chunk, which counts one step a bit. By `digits_by_bits` go a few bits,
-//! and all where the order turns no word quickly.
+//! Numbers in windows for every order and rule: by a chunk, in one step. By `digits_by_bits` go a few bits, and all where
+//! the order turns no word quickly, in one step for each.
 
 ghost use Rattle.std.specs.Prelude.{◌≡◌, ℕ, ◌+◌, ◌*◌, ◌^◌, ◌<◌, ◌≤◌, List, length};
 ghost use Rattle.bit_addressing_memory.specs.Bits.{digit_at};
@@ -37,7 +37,7 @@ pub(crate) fn load<R: BitRegister, O: BitOrder<R>>(
     requires ends { place + width < 2 ^ 64 }
     ensures value { result ≡ number_held rule signed width
         (piece (memory (read_by R.BitRegister O.position) words.now) place width) }
-    ensures steps { Takes steps.old steps.new width width }
+    ensures steps { Takes steps.old steps.new 1 width }
 {
     let few = most_singly::<R, O>(Walk::Load);
     // Where none are read one by one, nothing is asked.
@@ -51,7 +51,7 @@ pub(crate) fn load<R: BitRegister, O: BitOrder<R>>(
     load_behind_few::<R, O>(rule, words, place, width, signed, steps)
 }
 
-// The same of more than a few bits. Out of line, so that a few are read by a short function.
+// The same of more than a few bits, in one step. Out of line, so that a few are read by a short function.
 #[inline(never)]
 fn load_behind_few<R: BitRegister, O: BitOrder<R>>(
     rule: Rule,
@@ -67,12 +67,12 @@ fn load_behind_few<R: BitRegister, O: BitOrder<R>>(
     requires ends { place + width < 2 ^ 64 }
     ensures value { result ≡ number_held rule signed width
         (piece (memory (read_by R.BitRegister O.position) words.now) place width) }
-    ensures steps { Takes steps.old steps.new width width }
+    ensures steps { Takes steps.old steps.new 1 1 }
 {
     load_chunk::<R, O>(rule, words, place, width, signed, steps)
 }
 
-// The same by a chunk.
+// The same by a chunk, in one step.
 #[inline(always)]
 fn load_chunk<R: BitRegister, O: BitOrder<R>>(
     rule: Rule,
@@ -88,9 +88,9 @@ fn load_chunk<R: BitRegister, O: BitOrder<R>>(
     requires ends { place + width < 2 ^ 64 }
     ensures value { result ≡ number_held rule signed width
         (piece (memory (read_by R.BitRegister O.position) words.now) place width) }
-    ensures steps { Takes steps.old steps.new width width }
+    ensures steps { Takes steps.old steps.new 1 1 }
 {
-    steps.many(width as usize);
+    steps.step();
     number_at::<R, O>(rule, words, place, width, signed)
 }
 
@@ -147,7 +147,7 @@ pub(crate) fn store<V: BitsMut>(
     ensures bits { V.bits view.new ≡ with_piece (V.bits view.old) at (field_bits rule width value) }
     ensures len { length (V.bits view.new) ≡ length (V.bits view.old) }
     ensures frame { V.frame view.new ≡ V.frame view.old }
-    ensures steps { Takes steps.old steps.new width width }
+    ensures steps { Takes steps.old steps.new 1 width }
 {
     if width as usize <= most_singly::<V::Store, V::Order>(Walk::Number) {
         digits_by_bits::store(rule, view, at, width, value, steps);
@@ -156,7 +156,7 @@ pub(crate) fn store<V: BitsMut>(
     store_chunk(rule, view, at, width, value, steps);
 }
 
-// The same by a chunk. Out of line, so that a few bits are stored by a short function.
+// The same by a chunk, in one step. Out of line, so that a few bits are stored by a short function.
 #[inline(never)]
 fn store_chunk<V: BitsMut>(
     rule: Rule,
@@ -172,14 +172,14 @@ fn store_chunk<V: BitsMut>(
     ensures bits { V.bits view.new ≡ with_piece (V.bits view.old) at (field_bits rule width value) }
     ensures len { length (V.bits view.new) ≡ length (V.bits view.old) }
     ensures frame { V.frame view.new ≡ V.frame view.old }
-    ensures steps { Takes steps.old steps.new width width }
+    ensures steps { Takes steps.old steps.new 1 1 }
 {
     let place = view.first_place();
     let all = view.len();
     view.write(|words| {
         write_number::<V::Store, V::Order>(rule, words, place, all, at, width, value)
     });
-    steps.many(width as usize);
+    steps.step();
 }
 
 // Makes the `width` bits from `at` on of a window digits of a number.

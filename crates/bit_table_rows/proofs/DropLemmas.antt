@@ -1,16 +1,12 @@
 -- Rows taken out that bear a letter.
 --
--- Of a list: `own_left`, `none_left`, `words_of_zeros`, `zeros_left`. Of rows' letters: `marks_dropped`.
-use Rattle.std.proofs.Common.{◌≡◌, ℕ, ◌+◌, ◌*◌, ◌<◌, ◌≤◌, Bool, true, false, cond, not, List, [], ◌∷◌, None}
+-- Of a list: `own_left`, `zeros_left`. Of rows' letters: `marks_dropped`.
+use Rattle.std.proofs.Common.{◌≡◌, ℕ, ◌+◌, ◌<◌, ◌≤◌, Bool, true, false, cond, not, List, [], ◌∷◌}
 use Rattle.std.proofs.Common.{length, replicate}
 use Rattle.std.proofs.Common.{suc, refl, sym, ap, ◌∙◌, arith, length-take-le}
-use Rattle.std.specs.List.{count_by, filter, list_any}
+use Rattle.std.specs.List.{count_by, filter}
 use Rattle.std.proofs.lemmas.List.Sums.{sum_by-cons}
-use Rattle.bit_addressing_memory.specs.Memory.{Reading, memory, piece}
-use Rattle.bit_slice_views.proofs.EndLemmas.{any_none}
-use Rattle.bit_slice_words.specs.Found.{is_bit}
-use Rattle.bit_slice_words.specs.Stretch.{bit_found, Nowhere}
-use Rattle.bit_slice_words.proofs.StretchLemmas.{position_in}
+use Rattle.bit_addressing_memory.specs.Memory.{Reading}
 use Rattle.bit_slice_views_mut.specs.Frame.{Frame}
 use Rattle.bit_containers_vector.proofs.CallerLemmas.{room_framed}
 use Rattle.bit_containers_vector.specs.Vector.{Shortens, vec_bits, vec_frame}
@@ -49,29 +45,6 @@ own_left (true ∷ off) =
 own_left (false ∷ off) =
     let next : suc (count_by not off) ≡ count_by not (false ∷ off) = omega (arith, counted false off) in
     ap (λ l. false ∷ l) (own_left off) ∙ ap (λ n. replicate n false) next
-
--- of a list without a one zeros stay
-pub none_left : (off xs : List Bool) → length off ≡ length xs → list_any (λ b. b) xs ≡ false
-    → left_of off xs ≡ replicate (count_by not off) false
-unfolding left_of
-none_left [] xs same none = refl
-none_left (goes ∷ off) [] same none = absurd (omega (arith, same))
-none_left (goes ∷ off) (true ∷ xs) same none = absurd (cc)
-none_left (true ∷ off) (false ∷ xs) same none =
-    let count : count_by not off ≡ count_by not (true ∷ off) = omega (arith, counted true off) in
-    none_left off xs (omega (arith, same)) none ∙ ap (λ n. replicate n false) count
-none_left (false ∷ off) (false ∷ xs) same none =
-    let next : suc (count_by not off) ≡ count_by not (false ∷ off) = omega (arith, counted false off) in
-    ap (λ l. false ∷ l) (none_left off xs (omega (arith, same)) none) ∙ ap (λ n. replicate n false) next
-
--- words without a one have a window of zeros
-pub words_of_zeros : {R : Type 0} (reading : Reading R) (words : List R) (place len upto : ℕ) → 0 < reading.bits
-    → place + len ≤ length words * reading.bits → place + len ≤ upto * reading.bits
-    → Nowhere (bit_found reading words true) 0 (upto * reading.bits)
-    → list_any (λ b. b) (piece (memory reading words) place len) ≡ false
-words_of_zeros reading words place len upto some fits within none =
-    any_none (is_bit true) (piece (memory reading words) place len)
-    (sym (position_in reading words true place len None some fits (λ p low high. none p (omega arith) (omega arith))))
 
 -- a list that was shortened and filled with zeros
 pub zeros_left : {T O : Type 0} {g : _} (reading : Reading T) (old mid new : BitVec T O g) (left : ℕ)

@@ -1,11 +1,11 @@
 -- What the steps of an edit make of a list of rows of w bits each.
 --
--- Rows put in and taken out: `rows_opened`, `row_filled`, `rows_removed`, `range_is`. Rows that stay as many:
+-- Rows put in and taken out: `rows_opened`, `row_filled`, `bit_filled`, `rows_removed`, `range_is`. Rows that stay as many:
 -- `copied_part`, `turned_part`, `exchanged_same`, `exchanged_back`.
-use Rattle.std.proofs.Common.{◌≡◌, ℕ, ◌+◌, ◌-◌, ◌*◌, ◌≤◌, Bool, List, ◌++◌, length, take, drop}
+use Rattle.std.proofs.Common.{◌≡◌, ℕ, suc, ◌+◌, ◌-◌, ◌*◌, ◌<◌, ◌≤◌, Bool, List, [], ◌∷◌, ◌++◌, length, take, drop, set}
 use Rattle.std.proofs.Common.{arith, refl, ap, ap₂, ◌∙◌}
 use Rattle.std.specs.Prelude.{slice_range}
-use Rattle.std.proofs.lemmas.List.{append_assoc, places, same_lists}
+use Rattle.std.proofs.lemmas.List.{append_assoc, places, same_lists, set_split}
 use Rattle.bit_addressing_memory.specs.Memory.{piece, with_piece}
 use Rattle.bit_addressing_memory.proofs.MemoryLemmas.{length-piece}
 use Rattle.bit_table_rows.specs.RowMoves.{rows_moved}
@@ -38,6 +38,14 @@ unfolding with_piece
 row_filled xs zs row a n size is =
     append_assoc (take a zs) row (drop (a + length row) zs)
     ∙ ap₂ (λ front back. front ++ (row ++ back)) is.before (ap (λ k. drop (a + k) zs) size ∙ is.behind)
+
+-- a bit that was opened, written
+pub bit_filled : (xs zs : List Bool) (a : ℕ) (b : Bool) → a < length zs → Opens xs zs a 1
+    → set zs a b ≡ inserted xs a (b ∷ [])
+bit_filled xs zs a b inside is =
+    let next : suc a ≡ a + 1 = omega arith in
+    set_split zs a b inside
+    ∙ ap₂ (λ front back. front ++ (b ∷ back)) is.before (ap (λ k. drop k zs) next ∙ is.behind)
 
 -- those from b on moved to a, and the rest cut off
 removed : (xs : List Bool) (a b m n : ℕ) → a ≤ b → b ≤ length xs → m ≡ length xs - b → n ≡ a + m

@@ -1,34 +1,38 @@
 -- Rows kept one after another by a sweep that goes up, and what all of them make of a list.
 --
--- Row by row: `at_first`, `at_run`, `at_upto`, `at_gone`. All rows: `keeps_rows`, `kept_writes`. The list: `kept_list`.
-use Rattle.std.proofs.Common.{◌≡◌, ℕ, ◌+◌, ◌-◌, ◌*◌, ◌/◌, ◌<◌, ◌≤◌, Bool, true, false, List, []}
-use Rattle.std.proofs.Common.{length, get_or, refl, sym, ap, subst, ◌∙◌, arith, add-mul, mul-le-mul_right}
+-- Row by row: `at_first`, `at_run`, `at_upto`, `at_gone`. All rows: `keeps_rows`, `kept_writes`; without a one:
+-- `kept_zeros`. The list: `kept_list`.
+use Rattle.std.proofs.Common.{◌≡◌, ℕ, zero, suc, ◌+◌, ◌-◌, ◌*◌, ◌/◌, ◌<◌, ◌≤◌, Bool, true, false, List, [], inl, inr}
+use Rattle.std.proofs.Common.{length, drop, get_or, refl, sym, ap, subst, ◌∙◌, arith, add-mul, add-one, mul-le-mul_right}
+use Rattle.std.proofs.lemmas.Bool.{cases_Bool, cases_lt}
+use Rattle.std.proofs.lemmas.List.{get_or-append_right, get_or_append_left, get_or_past, length-take}
 use Rattle.std.proofs.lemmas.Nat.{div-add-mod'}
-use Rattle.bit_addressing_memory.proofs.MemoryLemmas.{length-piece, piece_piece}
-use Rattle.bit_addressing_memory.proofs.WindowLemmas.{length-window, window_overwritten, window_same}
-use Rattle.bit_addressing_memory.specs.Memory.{Overwrites, Reading, memory, piece, touched, with_piece}
-use Rattle.bit_addressing_memory.specs.Sweep.{IsFresh, sweep_words, writes_of}
+use Rattle.bit_addressing_memory.proofs.MemoryLemmas.{get_or-piece, length-piece, piece_piece}
+use Rattle.bit_addressing_memory.proofs.WindowLemmas.{length-window, window_bit, window_overwritten, window_same}
+use Rattle.bit_addressing_memory.specs.Memory.{Overwrites, Reading, entry, memory, piece, touched, with_piece}
+use Rattle.bit_addressing_memory.specs.Sweep.{edge_of, sweep_words, way_of, writes_of}
 use Rattle.bit_addressing_memory.specs.declared.sweep.Sweep.{Sweep}
 use Rattle.bit_addressing_memory.specs.declared.sweep.Way.TheVariants.{Up}
 use Rattle.bit_table_rows.specs.KeepSteps.{AtRow, Filled, Fills}
+use Rattle.bit_table_rows.specs.RowMoves.{row_at}
 use Rattle.bit_table_rows.specs.RowsKept.{KeepsRows, kept, left_before, rows_joined, rows_kept, rows_left}
 use Rattle.bit_table_rows.proofs.KeepLemmas.{filled_none, fills_more, fills_none}
-use Rattle.bit_table_rows.proofs.KeptLemmas.{few_left, joined_part, joined_run, left_stays}
+use Rattle.bit_table_rows.proofs.KeptLemmas.{few_left, joined_next, joined_part, joined_run, joined_stays, left_stays}
 use Rattle.bit_table_rows.proofs.KeptLemmas.{length-joined, more_run, run_stays}
 
 -- ---- row by row
 
 -- no row yet
 pub at_first : {R : Type 0} (reading : Reading R) (s : Sweep R) (start : R) (first n w : ℕ) (off : List Bool)
-    → IsFresh s Up → AtRow reading s s start start first n w off 0 0
-at_first reading s start first n w off fresh = record {
+    → way_of s ≡ Up → edge_of s ≡ 0 → AtRow reading s s start start first n w off 0 0
+at_first reading s start first n w off way none = record {
   fills = fills_none reading s start first first;
   count_is = refl;
   few = omega arith;
   kept_end = omega arith;
   end = omega arith;
-  edge = omega (arith, fresh.edge);
-  way = fresh.way_is;
+  edge = omega (arith, none);
+  way = way;
 }
 
 module _ {R : Type 0} (reading : Reading R) (s t : Sweep R) (start word : R) (first n w : ℕ) (off : List Bool)
@@ -159,6 +163,62 @@ module _ {R : Type 0} (reading : Reading R) (s t : Sweep R) (start word : R) (fi
       rw (← all_end) at.fills.writes in
       let counts = rw size at counted in
       omega arith
+
+-- ---- rows without a one
+
+few_in_piece : (xs : List Bool) (p n : ℕ) → length (piece xs p n) ≤ n
+unfolding piece
+few_in_piece xs p n = omega (arith, length-take n (drop p xs))
+
+-- rows of a list without a one have none
+zeros_joined : (w : ℕ) (xs off : List Bool) (n i : ℕ) → ((j : ℕ) → get_or xs j false ≡ false)
+    → get_or (rows_joined w xs (left_before off n)) i false ≡ false
+zeros_joined w xs off zero i none = refl
+zeros_joined w xs off (suc n) i none =
+    let rows = rows_joined w xs (left_before off n) in
+    let row = row_at w xs n in
+    let before = zeros_joined w xs off n i none in
+    subst (λ m. get_or (rows_joined w xs (left_before off m)) i false ≡ false) (add-one n)
+    (elim (cases_Bool (get_or off n false)) [
+      | inl goes ↦ ap (λ ys. get_or ys i false) (joined_stays w xs off n goes) ∙ before
+      | inr stays ↦ ap (λ ys. get_or ys i false) (joined_next w xs off n stays) ∙ elim (cases_lt i (length rows)) [
+        | inl inside ↦ get_or_append_left rows row false i inside ∙ before
+        | inr past ↦
+            get_or-append_right rows row (length rows) i false refl past ∙ zeros_row w xs (n * w) (i - length rows) none
+      ]
+    ])
+  where
+    zeros_row : (w : ℕ) (xs : List Bool) (p i : ℕ) → ((j : ℕ) → get_or xs j false ≡ false)
+        → get_or (piece xs p w) i false ≡ false
+    zeros_row w xs p i none = elim (cases_lt i w) [
+      | inl inside ↦ get_or-piece xs p w i false inside ∙ none (p + i)
+      | inr past ↦ get_or_past (piece xs p w) i false (omega (arith, few_in_piece xs p w))
+    ]
+
+-- where no bit of the rows is 1 and all bits stay, the kept rows stand there
+pub kept_zeros : {R : Type 0} (reading : Reading R) (before after : List R) (first w : ℕ) (off : List Bool)
+    → 0 < reading.bits → first + length off * w ≤ length before * reading.bits
+    → ((p : ℕ) → p < first + length off * w → entry reading before p ≡ false)
+    → ((p : ℕ) → entry reading after p ≡ entry reading before p) → length after ≡ length before
+    → KeepsRows reading before after first w off
+kept_zeros reading before after first w off some within none same words =
+    let xs = piece (memory reading before) first (length off * w) in
+    let few : length (rows_left off) * w ≤ length off * w = mul-le-mul_right w (few_left off (length off)) in
+    let size : length xs ≡ length off * w = length-window reading before first (length off * w) within in
+    let zeros : (j : ℕ) → get_or xs j false ≡ false = λ j. elim (cases_lt j (length off * w)) [
+      | inl inside ↦
+          window_bit reading before first (length off * w) j some inside ∙ none (first + j) (omega arith)
+      | inr past ↦ get_or_past xs j false (omega arith)
+    ] in
+    record {
+      there = λ k low.
+          same (first + k)
+          ∙ none (first + k) (omega arith)
+          ∙ sym (zeros_joined w xs off (length off) k zeros);
+      below = λ p low. same p;
+      above = λ p high. same p;
+      words = words;
+    }
 
 -- ---- the list
 

@@ -19,7 +19,5 @@ pub mod PutLemmas
 pub mod ColumnLemmas
 pub mod SpaceLemmas
 pub mod ListLemmas
-mod OneBitLemmas
-pub mod OneRowLemmas
 pub mod CombineLemmas
 pub mod DropLemmas

@@ -4,7 +4,6 @@ pub mod KeepSteps
 pub mod RowEdits
 pub mod RowLists
 pub mod RowEdit
-pub mod OneBit
 pub mod Marks
 pub mod Walk
 pub mod Lists

@@ -2,7 +2,7 @@
 //!
 //! The kept rows' bits are gathered into words one after another, and each word is put once, when it is full or when
 //! all rows are there. Rows that stay one behind the other move as one, as many bits at a time as fit into the word at
-//! hand; a few bits go one by one.
+//! hand; a few bits go one by one. Where no bit of the rows is 1, words of zeros are put.
 
 ghost use Rattle.std.specs.Prelude.{◌≡◌, ℕ, ◌+◌, ◌-◌, ◌*◌, ◌/◌, ◌%◌, ◌^◌, ◌<◌, ◌≤◌, Bool, true, false, List, length};
 ghost use Rattle.std.specs.Prelude.{Some, count_by, not, slice_index_or};
@@ -14,14 +14,17 @@ ghost use Rattle.bit_addressing_memory.specs.Sweep.{IsFresh, SameButReads, edge_
 ghost use Rattle.bit_addressing_memory.specs.Sweep.{writes_of};
 ghost use Rattle.bit_addressing_memory.specs.declared.sweep.Way.TheVariants.{Up};
 ghost use Rattle.bit_slice_views.specs.View.{view_bits};
+ghost use Rattle.bit_slice_words.specs.Stretch.{bit_found, Nowhere};
 ghost use Rattle.bit_table_rows.specs.KeepSteps.{Filled, Fills, IsFilledWord};
 ghost use Rattle.bit_table_rows.specs.RowsKept.{KeepsRows, rows_kept};
 
 use bit_addressing_memory::mem::bits_of;
 use bit_addressing_memory::{
-    BitIdx, BitOrder, BitRegister, Direction, Sweep, Walk, direction_of, most_singly, taken,
+    BitIdx, BitOrder, BitRegister, Direction, Sweep, Walk, direction_of, most_singly, no_digits,
+    taken,
 };
 use bit_slice_views::{BitSlice, Bits};
+use bit_slice_words::lacks;
 
 /// Keeps those of the `n` rows whose entry in `off` is false: they come to lie in their order from bit `head` of the
 /// sweep's first word on, and it answers how many they are. The rows have `w` bits each and lie end to end from that bit
@@ -62,7 +65,109 @@ pub fn keep_rows<T: BitRegister, O: BitOrder<T>>(
     ensures lender { sweep_lender sweep.new ≡ sweep_lender sweep.old }
 {
     let first = head.into_inner() as usize;
-    // Told once: looked for anew at each row it would cost more than the row where it is not known beforehand.
+    let bits = bits_of::<T>();
+    if holds_no_one::<T, O>(sweep, (first + n * w).div_ceil(bits)) {
+        return keep_zeros::<T, O>(sweep, first, n, w, off);
+    }
+    keep_runs::<T, O>(sweep, first, n, w, off)
+}
+
+// Whether no bit of the first `count` words is 1, by one comparison a word.
+#[inline(always)]
+fn holds_no_one<T: BitRegister, O: BitOrder<T>>(sweep: &mut Sweep<'_, T>, count: usize) -> bool
+    requires { count ≤ length (sweep_words sweep.old) }
+    ensures zeros { result ≡ true
+        → Nowhere (bit_found (read_by T.BitRegister O.position) (sweep_words sweep.old) true) 0 (count * T.BITS) }
+    ensures same { SameButReads sweep.old sweep.new }
+    ensures lender { sweep_lender sweep.new ≡ sweep_lender sweep.old }
+{
+    for k in 0..count {
+        let word = sweep.read(k);
+        if !lacks::<T, O>(word, true) {
+            return false;
+        }
+    }
+    true
+}
+
+// Keeps rows where no bit of their words is 1: what stays is zeros, and each word that it touches is put once.
+fn keep_zeros<T: BitRegister, O: BitOrder<T>>(
+    sweep: &mut Sweep<'_, T>,
+    first: usize,
+    n: usize,
+    w: usize,
+    off: BitSlice<'_, T, O>,
+) -> usize
+    requires way { way_of sweep.old ≡ Up }
+    requires edge { edge_of sweep.old ≡ 0 }
+    requires writes { writes_of sweep.old ≡ 0 }
+    requires flags { length (view_bits (read_by T.BitRegister O.position) off) ≡ n }
+    requires within { first + n * w ≤ length (sweep_words sweep.old) * T.BITS }
+    requires ends { first + n * w < 2 ^ 64 }
+    requires zeros { (upto : ℕ) → upto * T.BITS < first + n * w + T.BITS
+        → Nowhere (bit_found (read_by T.BitRegister O.position) (sweep_words sweep.old) true) 0 (upto * T.BITS) }
+    ensures count { result ≡ count_by not (view_bits (read_by T.BitRegister O.position) off.entry) }
+    ensures rows { KeepsRows (read_by T.BitRegister O.position) (sweep_words sweep.old) (sweep_words sweep.new)
+        first w (view_bits (read_by T.BitRegister O.position) off.entry) }
+    ensures writes { writes_of sweep.new ≡ touched T.BITS first (result * w) }
+    ensures changed { changed T.number (sweep_words sweep.old) (sweep_words sweep.new) ≤ writes_of sweep.new }
+    ensures way { way_of sweep.new ≡ way_of sweep.old }
+    ensures lender { sweep_lender sweep.new ≡ sweep_lender sweep.old }
+{
+    let left = off.count_zeros();
+    put_zeros::<T, O>(sweep, first, left * w);
+    left
+}
+
+// Puts zeros in each word that `len` bits from a place on touch. No bit of these words is 1, so all bits stay.
+fn put_zeros<T: BitRegister, O: BitOrder<T>>(sweep: &mut Sweep<'_, T>, first: usize, len: usize)
+    requires way { way_of sweep.old ≡ Up }
+    requires edge { edge_of sweep.old ≡ 0 }
+    requires within { first + len ≤ length (sweep_words sweep.old) * T.BITS }
+    requires ends { first + len < 2 ^ 64 }
+    requires zeros { (upto : ℕ) → upto * T.BITS < first + len + T.BITS
+        → Nowhere (bit_found (read_by T.BitRegister O.position) (sweep_words sweep.old) true) 0 (upto * T.BITS) }
+    ensures same { (p : ℕ) → entry (read_by T.BitRegister O.position) (sweep_words sweep.new) p
+        ≡ entry (read_by T.BitRegister O.position) (sweep_words sweep.old) p }
+    ensures words { length (sweep_words sweep.new) ≡ length (sweep_words sweep.old) }
+    ensures writes { writes_of sweep.new ≡ writes_of sweep.old + touched T.BITS first len }
+    ensures changed { (others : List T) → changed T.number others (sweep_words sweep.new) + writes_of sweep.old
+        ≤ changed T.number others (sweep_words sweep.old) + writes_of sweep.new }
+    ensures way { way_of sweep.new ≡ way_of sweep.old }
+    ensures lender { sweep_lender sweep.new ≡ sweep_lender sweep.old }
+{
+    if len == 0 {
+        return;
+    }
+    let bits = bits_of::<T>();
+    'zeros: for k in first / bits..(first + len - 1) / bits + 1 {
+        sweep.put(k, no_digits::<T, O>());
+    }
+}
+
+// Keeps rows run by run: those that stay one behind the other move as one.
+fn keep_runs<T: BitRegister, O: BitOrder<T>>(
+    sweep: &mut Sweep<'_, T>,
+    first: usize,
+    n: usize,
+    w: usize,
+    off: BitSlice<'_, T, O>,
+) -> usize
+    requires way { way_of sweep.old ≡ Up }
+    requires edge { edge_of sweep.old ≡ 0 }
+    requires writes { writes_of sweep.old ≡ 0 }
+    requires flags { length (view_bits (read_by T.BitRegister O.position) off) ≡ n }
+    requires within { first + n * w ≤ length (sweep_words sweep.old) * T.BITS }
+    requires ends { first + n * w < 2 ^ 64 }
+    ensures count { result ≡ count_by not (view_bits (read_by T.BitRegister O.position) off.entry) }
+    ensures rows { KeepsRows (read_by T.BitRegister O.position) (sweep_words sweep.old) (sweep_words sweep.new)
+        first w (view_bits (read_by T.BitRegister O.position) off.entry) }
+    ensures writes { writes_of sweep.new ≡ touched T.BITS first (result * w) }
+    ensures changed { changed T.number (sweep_words sweep.old) (sweep_words sweep.new) ≤ writes_of sweep.new }
+    ensures way { way_of sweep.new ≡ way_of sweep.old }
+    ensures lender { sweep_lender sweep.new ≡ sweep_lender sweep.old }
+{
+    // Found once: at each row it would cost more than the row where the compiler does not know it.
     let direction = direction_of::<T, O>();
     let few = most_singly::<T, O>(Walk::Keep);
     let mut word = T::ZERO;

@@ -9,7 +9,6 @@ mod edits;
 mod keep;
 mod letters;
 mod lists;
-mod one_bit;
 mod one_row;
 mod put;
 mod rows;

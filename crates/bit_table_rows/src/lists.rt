@@ -2,7 +2,6 @@
 
 ghost use Rattle.std.specs.Prelude.{◌≡◌, ◌+◌, ◌-◌, ◌*◌, ◌<◌, ◌≤◌, ◌++◌, false, length, slice_index_or, IfOk, IsOk, OnOk, OnErr};
 ghost use Rattle.bit_addressing_memory.specs.Memory.{read_by};
-ghost use Rattle.bit_addressing_memory.specs.Straight.{Goes};
 ghost use Rattle.bit_slice_views.specs.SpanLimits.{MAX_BITS};
 ghost use Rattle.bit_containers_vector.specs.Vector.{vec_bits, vec_head, room, HasRoomFor, IsAsBefore};
 ghost use Rattle.bit_table_rows.specs.Lists.{HasBits, IsColumn};
@@ -10,9 +9,9 @@ ghost use Rattle.bit_table_rows.specs.RowEdit.{added, count_after, edited_by, mo
 ghost use Rattle.bit_table_rows.specs.Walk.{Becomes, EachHas};
 
 use crate::edit::RowEdit;
-use crate::one_row::{delete_bit, insert_zero};
+use crate::one_row::insert_zero;
 use crate::vectors::edit_rows;
-use bit_addressing_memory::{BitOrder, Direction, direction_of, no_digits};
+use bit_addressing_memory::{BitOrder, no_digits};
 use bit_containers_vector::BitVec;
 use bit_slice_views::{BitSlice, BitStore};
 use std::alloc::AllocError;
@@ -32,41 +31,13 @@ pub(crate) fn edit_list<T: BitStore, O: BitOrder<T>>(
     ensures succeeds { HasRoomFor (read_by T.BitRegister O.position) list.old (added edit) → IsOk result }
     ensures writes { IfOk result (λ writes. writes ≤ most_moved T.BITS 1 n edit) }
 {
-    match direction_of::<T, O>() {
-        Some(direction) => edit_straight(list, direction, n, edit),
-        None => edit_by_rows(list, n, edit),
-    }
-}
-
-// The same where the positions go in `direction`: one row put in or taken out moves single bits, without a sweep.
-fn edit_straight<T: BitStore, O: BitOrder<T>>(
-    list: &mut BitVec<T, O>,
-    direction: Direction,
-    n: usize,
-    edit: RowEdit,
-) -> Result<usize, AllocError>
-    requires goes { Goes T.BITS O.position direction }
-    requires column { IsColumn (read_by T.BitRegister O.position) n list.old }
-    requires range { LiesIn n edit }
-    requires most { n + added edit ≤ MAX_BITS }
-    ensures ok { OnOk result (HasBits (read_by T.BitRegister O.position) (edited_by false edit) list.old list.new) }
-    ensures err { OnErr result (IsAsBefore (read_by T.BitRegister O.position) list.old list.new) }
-    ensures succeeds { HasRoomFor (read_by T.BitRegister O.position) list.old (added edit) → IsOk result }
-    ensures writes { IfOk result (λ writes. writes ≤ most_moved T.BITS 1 n edit) }
-{
     match edit {
-        RowEdit::Insert { place } => insert_zero(list, direction, n, place),
-        RowEdit::Delete { start, upto } => {
-            if upto - start == 1 {
-                return Ok(delete_bit(list, direction, n, start));
-            }
-            edit_by_rows(list, n, edit)
-        }
+        RowEdit::Insert { place } => insert_zero(list, n, place),
         _ => edit_by_rows(list, n, edit),
     }
 }
 
-// The same in any order, as an edit of rows of one bit each.
+// The same as an edit of rows of one bit each.
 fn edit_by_rows<T: BitStore, O: BitOrder<T>>(
     list: &mut BitVec<T, O>,
     n: usize,

@@ -1,7 +1,7 @@
-//! Moves of rows by one sweep over the words of a window, and zeros in their place, whose writes are counted: by its
-//! list, and by what stays beside it.
+//! Moves of rows by one sweep over the words of a window, whose writes are counted: by its list, and by what stays beside
+//! it.
 
-ghost use Rattle.std.specs.Prelude.{◌≡◌, ◌+◌, ◌-◌, ◌*◌, ◌^◌, ◌<◌, ◌≤◌, false, count_by, length, not, replicate};
+ghost use Rattle.std.specs.Prelude.{◌≡◌, ◌+◌, ◌-◌, ◌*◌, ◌^◌, ◌<◌, ◌≤◌, count_by, length, not};
 ghost use Rattle.bit_addressing_memory.specs.Memory.{memory, piece, read_by, touched};
 ghost use Rattle.bit_addressing_memory.specs.Moves.{changed};
 ghost use Rattle.bit_slice_views.specs.SpanLimits.{MAX_BITS};
@@ -13,7 +13,6 @@ use crate::keep::keep_rows;
 use crate::rows::move_rows;
 use bit_addressing_memory::{BitIdx, BitOrder, BitRegister, Sweep, Way, way_for};
 use bit_slice_views::BitSlice;
-use bit_slice_words::fill_counted;
 
 // Moves rows of a window that begins in the first word, by one sweep, and answers how many words it wrote.
 pub(crate) fn move_window_rows<R: BitRegister, O: BitOrder<R>>(
@@ -74,20 +73,4 @@ pub(crate) fn keep_window_rows<R: BitRegister, O: BitOrder<R>>(
     let off = BitSlice::<R, O>::from_parts(flags, index, n);
     let kept = keep_rows::<R, O>(&mut sweep, head, n, w, off);
     (kept, sweep.writes())
-}
-
-// Makes each bit of a window zero, and answers how many words it wrote.
-#[tactic(auto, using(bit_slice_views_mut::proofs::FrameLemmas::frames, bit_slice_words::proofs::ListLemmas::filled_list))]
-pub(crate) fn clear_window<R: BitRegister, O: BitOrder<R>>(
-    words: &mut [R],
-    place: usize,
-    len: usize,
-) -> usize
-    requires within { place + len ≤ length words.old * R.BITS }
-    requires ends { place + len < 2 ^ 64 }
-    ensures list { piece (memory (read_by R.BitRegister O.position) words.new) place len ≡ replicate len false }
-    ensures beside { KeepsBeside (read_by R.BitRegister O.position) words.old words.new place len }
-    ensures writes { result ≡ touched R.BITS place len }
-{
-    fill_counted::<R, O>(words, place, len, false)
 }

@@ -25,6 +25,8 @@ mod line_runs;
 #[cfg(test)]
 mod line_words;
 #[cfg(test)]
+mod moves;
+#[cfg(test)]
 mod numbers;
 #[cfg(test)]
 mod orders;

@@ -68,6 +68,19 @@ fn stretches_go_a_step_a_bit(rt: HostRuntime) {
 }
 
 #[test]
+fn up_to_64_bits_go_in_one_step(rt: HostRuntime) {
+    let mut steps = Steps::new();
+    let mut words = [0u64; 4];
+    let others = [0x0123_4567_89ab_cdefu64; 4];
+    // 200 bits are three times 64 and eight
+    HiLo::copy(&mut words, 3, &others, 2, 200, &mut steps);
+    assert!(rt; steps.taken() == 4);
+    HiLo::xor(&mut words, 3, &others, 2, 200, &mut steps);
+    assert!(rt; steps.taken() == 8);
+    assert!(rt; words == [0u64; 4]);
+}
+
+#[test]
 fn stretches_change_places(rt: HostRuntime) {
     let mut steps = Steps::new();
     let mut words = [0xf0u8, 0x00];

@@ -1,13 +1,9 @@
 //! A script read and answered in pieces, and runs that a fault ends.
-ghost use Rattle.std.specs.Prelude.{◌*◌, ◌≤◌, Some};
-ghost use Rattle.bit_table.specs.LayoutLimits.{MAX_ROW_BITS};
+ghost use Rattle.std.specs.Prelude.{Some};
 
-use bit_addressing_memory::{Lsb0, Msb0};
-use bit_slice_views::BitViewSized;
-use bit_slice_words::WordPaths;
-use bit_table::{Digits, HiLo, Input, Output, RunError, run};
+use bit_addressing_memory::Lsb0;
+use bit_table::{Input, Output, RunError, run};
 use bit_table_samples::{Cut, Narrow, Stop};
-use std::alloc::Global;
 use std::io::{self, Write};
 use std::test::Fail;
 
@@ -116,36 +112,6 @@ fn a_write_fault_ends_it(rt: HostRuntime) -> Result<(), Fail> {
         }
     }
     Ok(())
-}
-
-// Whether a writer that takes three bytes and then fails has taken an `ok` and its line end.
-fn stops_after_an_answer<A: BitViewSized, O: WordPaths<A::Store> + Digits<A::Store>>(
-    alloc: Global,
-) -> bool
-    requires { MAX_ROW_BITS ≤ A.COUNT * A.Store.BITS }
-{
-    let mut input = Input::new(SCRIPT.as_slice());
-    let mut output = Output::new(Narrow {
-        taken: Vec::new(alloc),
-        most: 3,
-        room: 3,
-        stop: Stop::Fails,
-    });
-    let outcome = run::<A, O, _, _>(alloc, &mut input, &mut output);
-    let Narrow {
-        taken,
-        most: _,
-        room: _,
-        stop: _,
-    } = output.into_inner();
-    outcome == Err(RunError::Write) && taken.as_slice() == b"ok\n".as_slice()
-}
-
-#[test]
-fn a_write_fault_ends_it_over_other_storages(rt: HostRuntime) {
-    assert!(rt; stops_after_an_answer::<[u8; 128], Msb0>(rt.alloc()));
-    assert!(rt; stops_after_an_answer::<[u16; 64], HiLo>(rt.alloc()));
-    assert!(rt; stops_after_an_answer::<[u32; 32], Lsb0>(rt.alloc()));
 }
 
 // Takes all that it is given, and counts how often it is given something.

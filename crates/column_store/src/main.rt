@@ -1,5 +1,6 @@
-//! A column store with selection bitmaps: it reads a table of whole numbers, packs each column into the narrowest field,
-//! and answers conditions on its rows.
+//! A column store with selection bitmaps: it reads a table of whole numbers as CSV, packs each column into the narrowest
+//! field that takes its numbers, and answers one question about the rows that meet some conditions. The table is read
+//! again at each run.
 #![tactic(auto)]
 
 ghost use Rattle.std.specs.Prelude.{◌*◌, ◌≤◌};

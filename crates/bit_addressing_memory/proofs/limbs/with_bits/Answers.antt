@@ -4,16 +4,16 @@ use Rattle.bit_addressing_memory.proofs.LimbLemmas.{limb_mixed, limb_whole}
 use Rattle.bit_addressing_memory.proofs.limbs.with_bits.Goals as goal
 
 pub returns-then-upto-from : goal.returns-then-upto-from
-returns-then-upto-from g c =
-    limb_whole (read_by g.R.BitRegister g.O.Positions.position) c.args.words.now c.args.word c.with_limb.result
-    c.args.base (min 64 g.R.BitRegister.BITS) c.args.from c.args.upto c.args.place c.bits_in-bits.result c.requires.low
-    c.requires.order c.requires.high (omega (arith, c.if-upto-from.true, c.min.ensures, c.BITS.ensures)) c.bits_in-bits.ensures
+returns-then-upto-from g c words place has =
+    limb_whole (read_by g.R.BitRegister g.O.Positions.position) words c.args.word c.with_limb.result
+    c.args.base (min 64 g.R.BitRegister.BITS) c.args.from c.args.upto place c.args.bits c.requires.low
+    c.requires.order c.requires.high (omega (arith, c.if-upto-from.true, c.min.ensures, c.BITS.ensures)) has
     c.with_limb.ensures
 
 pub returns : goal.returns
-returns g c =
-    limb_mixed (read_by g.R.BitRegister g.O.Positions.position) c.args.words.now c.args.word c.with_limb-2.result
-    c.args.base (min 64 g.R.BitRegister.BITS) c.args.from c.args.upto c.args.place c.bits_in-bits.result
+returns g c words place has =
+    limb_mixed (read_by g.R.BitRegister g.O.Positions.position) words c.args.word c.with_limb-2.result
+    c.args.base (min 64 g.R.BitRegister.BITS) c.args.from c.args.upto place c.args.bits
     c.limb_of-own.result c.spread_limb-limb.result c.requires.low c.requires.order c.requires.high (omega arith)
-    c.bits_in-bits.ensures c.limb_of-own.ensures.inside c.spread_limb-limb.ensures.inside
+    has c.limb_of-own.ensures.inside c.spread_limb-limb.ensures.inside
     c.spread_limb-limb.ensures.below c.spread_limb-limb.ensures.above c.with_limb-2.ensures

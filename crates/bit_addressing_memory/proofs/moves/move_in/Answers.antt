@@ -5,22 +5,22 @@ use Rattle.bit_addressing_memory.proofs.Changes.{unchanged}
 use Rattle.bit_addressing_memory.proofs.Sweeps.{moved_all}
 use Rattle.bit_addressing_memory.proofs.moves.move_in.Goals as goal
 
-pub put_shifted-requires-clause-goes : goal.put_shifted-requires-clause-goes
-put_shifted-requires-clause-goes g c = (c.direction_of.ensures c.in-Some.direction).0 c.in-Some.is
+pub put_straight-requires-clause-goes : goal.put_straight-requires-clause-goes
+put_straight-requires-clause-goes g c = (c.direction_of.ensures c.in-Some.direction).0 c.in-Some.is
 
 pub returns-in-Some-clause-moved : goal.returns-in-Some-clause-moved
 returns-in-Some-clause-moved g c =
     let b = g.R.BitRegister.BITS in
     let some : 0 < b = omega (arith, g.met.R.BitRegister.least_bits) in
     moved_all (read_by g.R.BitRegister g.O.Positions.position) c.args.sweep.now.words.now
-    c.put_shifted.new.sweep.words.now c.args.source c.args.target c.args.len (c.args.target / b)
-    ((c.args.target + c.args.len - 1) / b + 1) b some (omega arith) refl refl refl c.put_shifted.ensures.put.swept
+    c.put_straight.new.sweep.words.now c.args.source c.args.target c.args.len (c.args.target / b)
+    ((c.args.target + c.args.len - 1) / b + 1) b some (omega arith) refl refl refl c.put_straight.ensures.put.swept
 
 pub returns-in-Some-clause-changed : goal.returns-in-Some-clause-changed
 returns-in-Some-clause-changed g c =
     let number = g.R.BitRegister.number in
     let words = c.args.sweep.now.words.now in
-    let put = c.put_shifted.ensures.put in
+    let put = c.put_straight.ensures.put in
     omega (arith, put.few_changed number words, put.writes, unchanged number words, c.requires.fresh.writes)
 
 pub returns-in-None-clause-moved : goal.returns-in-None-clause-moved

@@ -1,5 +1,7 @@
-use Rattle.std.proofs.Common.{◌≡◌, ◌+◌, ◌*◌, ◌/◌, ◌%◌, ◌<◌, ◌≤◌, length, arith}
+use Rattle.std.proofs.Common.{◌≡◌, ◌+◌, ◌-◌, ◌*◌, ◌/◌, ◌%◌, ◌<◌, ◌≤◌, length, arith}
+use Rattle.std.proofs.lemmas.Nat.{mod_below}
 use Rattle.bit_addressing_memory.specs.Memory.{read_by}
+use Rattle.bit_addressing_memory.proofs.PlaceLemmas.{touched_words}
 use Rattle.bit_addressing_memory.proofs.ShiftedWords.{begins_aligned, begins_inside, place_at, word_within}
 use Rattle.bit_addressing_memory.proofs.shifted.bits_from.Goals as goal
 
@@ -39,3 +41,19 @@ returns-clause-digits g c i low =
     let at = place_at b c.bits_of-bits.result c.args.place c.bits_of-bits.ensures in
     let small : i < b = omega (arith, c.requires.most) in
     rw at at (c.cut.ensures.digits i small)
+
+-- the bits go on in the next word
+pub returns-clause-reads : goal.returns-clause-reads
+returns-clause-reads g c =
+    let b = g.R.BitRegister.BITS in
+    let bits = c.bits_of-bits.result in
+    let p = c.args.place in
+    let some : 0 < bits = omega (arith, g.met.R.BitRegister.least_bits, c.bits_of-bits.ensures) in
+    let at = place_at b bits p c.bits_of-bits.ensures in
+    let index : p % bits < b = omega (arith, mod_below p bits some, c.bits_of-bits.ensures) in
+    let past : b < p % bits + c.args.count = omega (arith, c.if-index-count.false, c.bits_of-bits.ensures) in
+    let two =
+    touched_words b p c.args.count (p / bits) (p % bits) (p / bits + 1) (p % bits + c.args.count - b) at
+    (omega (arith, at)) index (omega arith) (omega (arith, c.requires.most)) c.requires.some in
+    let read = c.cut.ensures.two (omega (arith, c.requires.most)) in
+    omega (arith, two, read)

@@ -1,7 +1,7 @@
 use Rattle.std.proofs.Common.{◌≡◌, ◌+◌, ◌*◌, min, arith}
 use Rattle.bit_addressing_memory.specs.Memory.{read_by}
 use Rattle.bit_slice_paths.specs.Combined.{combined_bit}
-use Rattle.bit_slice_paths.proofs.StepLemmas.{takes_join}
+use Rattle.bit_slice_paths.proofs.StepLemmas.{takes_more}
 use Rattle.bit_slice_paths.proofs.WalkLemmas.{combines_more}
 use Rattle.bit_slice_words.proofs.by_bits.combine_by_chunks.Goals as goal
 
@@ -19,7 +19,5 @@ loop-k-preserved g c =
           combines_more reading reading c.args.words.now c.loop-k.words c.combine.new.words c.args.others.now c.args.place
           c.args.other_place done count (min (64 * (c.loop-k.k + 1)) all) (combined_bit g.H.Combining.HOW) sum
           (rw low at c.loop-k.invariant.combined) c.combine.ensures;
-      steps =
-          takes_join c.args.steps.now c.loop-k.steps c.many.new.self done count (min (64 * (c.loop-k.k + 1)) all) sum
-          (rw low at c.loop-k.invariant.steps) c.many.ensures;
+      steps = takes_more _ _ _ c.loop-k.k c.step.ensures c.loop-k.invariant.steps;
     }

@@ -1,9 +1,8 @@
 use Rattle.std.proofs.Common.{◌≡◌, ◌+◌, ◌*◌, min, sym, ap, ◌∙◌, arith}
 use Rattle.std.proofs.lemmas.Bool.{false≢true}
 use Rattle.bit_addressing_memory.specs.Memory.{entry, read_by}
-use Rattle.bit_slice_paths.proofs.StepLemmas.{takes_join}
+use Rattle.bit_slice_paths.proofs.StepLemmas.{takes_more}
 use Rattle.bit_slice_paths.proofs.WalkLemmas.{equal_more}
-use Rattle.bit_slice_words.proofs.PathLemmas.{takes_few}
 use Rattle.bit_slice_words.proofs.by_bits.equal_by_chunks.Goals as goal
 
 pub returns-then-same-count-clause-value : goal.returns-then-same-count-clause-value
@@ -20,17 +19,6 @@ returns-then-same-count-clause-value g c =
           ∙ sym (ap (entry reading c.args.others.now) there))),
     )
 
-pub returns-then-same-count-clause-other : goal.returns-then-same-count-clause-other
-returns-then-same-count-clause-other g c _ =
-    let done = 64 * c.loop-k.k in
-    let at = c.agree_by_chunks-same.result in
-    let all = c.args.len in
-    let low : min (64 * c.loop-k.k) all ≡ done = omega (arith, c.div_ceil-k-end.ensures) in
-    takes_few c.args.steps.now c.many.new.self all (done + (at + 1)) (omega arith)
-    (omega (arith, c.min-count.ensures, c.if-same-count.true))
-    (takes_join c.args.steps.now c.loop-k.steps c.many.new.self done (at + 1) (done + (at + 1)) (omega arith)
-    (rw low at c.loop-k.invariant.steps) c.many.ensures)
-
 pub loop-k-preserved : goal.loop-k-preserved
 loop-k-preserved g c =
     let reading = read_by g.R.BitRegister g.O.Positions.position in
@@ -46,7 +34,5 @@ loop-k-preserved g c =
           equal_more reading reading c.args.words.now c.args.others.now c.args.place c.args.other_place done count
           (min (64 * (c.loop-k.k + 1)) all) sum (rw low at c.loop-k.invariant.same)
           (λ i small. c.agree_by_chunks-same.ensures.same i (omega (arith, whole)));
-      steps =
-          takes_join c.args.steps.now c.loop-k.steps c.many-in-loop-k.new.self done count (min (64 * (c.loop-k.k + 1)) all)
-          sum (rw low at c.loop-k.invariant.steps) c.many-in-loop-k.ensures;
+      steps = takes_more _ _ _ c.loop-k.k c.step.ensures c.loop-k.invariant.steps;
     }

@@ -14,7 +14,7 @@ returns g c =
     let at = g.P.Positions.position in
     let new = c.extend_from_bitslice.new.self in
     let ys = view_bits (read_by g.T.BitRegister g.O.Positions.position) c.args.bits in
-    let small = rw (c.as_slice.ensures.value, c.into_vec-bytes.ensures) at c.are_bytes.ensures in
-    subst (λ bytes. HoldBits at bytes ys) (sym c.into_vec-bytes.ensures)
+    let small = rw (c.as_slice.ensures.value, c.into_vec-bytes.ensures.items) at c.are_bytes.ensures in
+    subst (λ bytes. HoldBits at bytes ys) (sym c.into_vec-bytes.ensures.items)
     (holds_bits at c.in_ok-image.image new ys c.in_ok-image.ensures.bits c.in_ok-image.ensures.head new.fits
     small c.in_ok-extend_from_bitslice.ensures.ok)

@@ -19,16 +19,6 @@ drop_by-requires-clause-column g c =
     λ d. subst (IsColumn reading c.args.n) (sym ((c.loop-i.invariant.walked d).rest i d (omega arith)))
     (c.requires.columns i d (omega (arith, c.loop-i-test.true)))
 
--- so many bits stay
-pub drop_by-requires-clause-left : goal.drop_by-requires-clause-left
-drop_by-requires-clause-left g c d =
-    let reading = read_by g.T.BitRegister g.O.Positions.position in
-    let old = c.args.lists.now in
-    let v = c.index-lists-letter.result in
-    c.count_zeros-left.ensures
-    ∙ ap (λ u. count_by not (vec_bits reading u))
-    (get_or_default old c.args.letter v d c.requires.letter ∙ sym (c.loop-i.invariant.flags d))
-
 pub returns-clause-left : goal.returns-clause-left
 returns-clause-left g c d =
     let reading = read_by g.T.BitRegister g.O.Positions.position in
@@ -101,16 +91,16 @@ returns-clause-dropped g c =
     c.leave_zeros.new.list (h.walked d) (omega (arith, c.loop-i-test.false, (h.walked d).len))
     (λ e. record {
       bits =
-          (c.leave_zeros.ensures.bits).bits
+          c.leave_zeros.ensures.bits
           ∙ ap (λ n. replicate n false) (returns-clause-left g c d)
           ∙ sym (own_left (vec_bits reading (get_or old x d)))
           ∙ ap (λ u. left_of (vec_bits reading (get_or old x d)) (vec_bits reading u)) (sym (here d) ∙ here e);
-      head = (c.leave_zeros.ensures.bits).head ∙ ap vec_head (here e);
-      room = subst (λ u. room reading u ≤ room reading c.leave_zeros.new.list) (here e) (c.leave_zeros.ensures.bits).room;
+      head = c.leave_zeros.ensures.head ∙ ap vec_head (here e);
+      room = subst (λ u. room reading u ≤ room reading c.leave_zeros.new.list) (here e) c.leave_zeros.ensures.room;
     })
 
-pub leave_zeros-requires-clause-few : goal.leave_zeros-requires-clause-few
-leave_zeros-requires-clause-few g c =
+pub leave_zeros-requires : goal.leave_zeros-requires
+leave_zeros-requires g c =
     let reading = read_by g.T.BitRegister g.O.Positions.position in
     let x = c.args.letter in
     let old = c.args.lists.now in
@@ -120,8 +110,3 @@ leave_zeros-requires-clause-few g c =
     get_or_default old x v d c.requires.letter ∙ sym (c.loop-i.invariant.flags d) in
     let few = count_by-le-length not (vec_bits reading (get_or old x v)) in
     omega (arith, few, c.count_zeros-left.ensures, ap (λ u. length (vec_bits reading u)) same)
-
-pub leave_zeros-requires-clause-begin : goal.leave_zeros-requires-clause-begin
-leave_zeros-requires-clause-begin g c =
-    let d = c.index-lists-letter-2.result in
-    ap vec_head (c.loop-i.invariant.flags d) ∙ (c.requires.columns c.args.letter d c.requires.letter).head

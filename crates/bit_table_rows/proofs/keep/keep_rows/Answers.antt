@@ -1,139 +1,48 @@
-use Rattle.std.proofs.Common.{arith, ◌≡◌, ◌+◌, ◌-◌, ◌*◌, ◌<◌, ◌≤◌, ◌∙◌, ap, length, subst, sym}
-use Rattle.bit_addressing_memory.proofs.Changes.{unchanged}
+use Rattle.std.proofs.Common.{arith, ◌≡◌, ℕ, ◌+◌, ◌*◌, ◌<◌, ◌≤◌, ◌∙◌, ap, sym, subst, true, mul-le-mul_right}
+use Rattle.std.specs.Int.{div_ceil}
+use Rattle.std.proofs.lemmas.Grind.{div_ceil_times}
+use Rattle.bit_addressing_memory.proofs.ShiftedWords.{less_words}
 use Rattle.bit_addressing_memory.specs.Memory.{read_by}
 use Rattle.bit_addressing_memory.specs.Sweep.{sweep_words}
 use Rattle.bit_slice_views.specs.View.{view_bits}
-use Rattle.bit_table_rows.specs.KeepSteps.{AtRow}
-use Rattle.bit_table_rows.specs.RowsKept.{left_before}
-use Rattle.bit_table_rows.proofs.KeepRowLemmas.{at_gone, at_upto, keeps_rows, kept_list}
-use Rattle.bit_table_rows.proofs.KeptLemmas.{length-rows_left}
-use Rattle.bit_table_rows.proofs.RowLemmas.{rows_below, rows_join}
+use Rattle.bit_slice_words.specs.Stretch.{bit_found, Nowhere}
+use Rattle.bit_table_rows.specs.RowsKept.{KeepsRows}
+use Rattle.bit_table_rows.proofs.KeepRowLemmas.{kept_list}
 use Rattle.bit_table_rows.proofs.keep.keep_rows.Goals as goal
 
-pub keep_run-word-requires-clause-goes : goal.keep_run-word-requires-clause-goes
-keep_run-word-requires-clause-goes g c d is = (c.direction_of-direction.ensures d).0 is
+-- the words that were looked at have all bits of the rows
+pub keep_zeros-requires-clause-zeros : goal.keep_zeros-requires-clause-zeros
+keep_zeros-requires-clause-zeros g c upto low =
+    let reading = read_by g.T.BitRegister g.O.Positions.position in
+    let b = g.T.BitRegister.BITS in
+    let count = c.div_ceil.result in
+    let end : ℕ = c.into_inner-first.result + c.args.n * c.args.w in
+    let some : 0 < b = omega (arith, g.met.T.BitRegister.least_bits) in
+    let is : count ≡ div_ceil end b = c.div_ceil.ensures ∙ ap (div_ceil end) c.bits_of-bits.ensures in
+    let holds : end ≤ count * b = subst (λ m. end ≤ m * b) (sym is) ((div_ceil_times end b some).0) in
+    let less : upto < count + 1 = less_words upto (count + 1) b (omega (arith, low, holds)) in
+    let most : upto * b ≤ count * b = mul-le-mul_right b (omega (arith, less)) in
+    subst (λ ws. Nowhere (bit_found reading ws true) 0 (upto * b)) (sym c.holds_no_one.ensures.same.words)
+    (λ p from below. c.holds_no_one.ensures.zeros c.if-holds_no_one.true p from (omega (arith, below, most)))
 
--- rows that stay lie among all rows
-pub keep_run-word-requires-clause-within : goal.keep_run-word-requires-clause-within
-keep_run-word-requires-clause-within g c =
-    let upto = c.stay_upto-upto.result in
-    let order : c.rows.k ≤ upto = omega (arith, c.stay_upto-upto.ensures.low) in
-    let words = ap (λ k. k * g.T.BitRegister.BITS) c.rows.invariant.at.fills.words in
-    omega (
-      arith,
-      words,
-      rows_join c.rows.k upto c.args.w order,
-      rows_below upto c.args.n c.args.w c.stay_upto-upto.ensures.high,
-      c.requires.within,
-      c.into_inner-first.ensures.value,
-    )
-
-pub keep_run-word-requires-clause-ends : goal.keep_run-word-requires-clause-ends
-keep_run-word-requires-clause-ends g c =
-    let upto = c.stay_upto-upto.result in
-    let order : c.rows.k ≤ upto = omega (arith, c.stay_upto-upto.ensures.low) in
-    omega (
-      arith,
-      rows_join c.rows.k upto c.args.w order,
-      rows_below upto c.args.n c.args.w c.stay_upto-upto.ensures.high,
-      c.requires.ends,
-      c.into_inner-first.ensures.value,
-    )
-
-pub rows-preserved-then-bit : goal.rows-preserved-then-bit
-rows-preserved-then-bit g c =
+pub returns-then-holds_no_one-clause-list : goal.returns-then-holds_no_one-clause-list
+returns-then-holds_no_one-clause-list g c len rows within =
     let reading = read_by g.T.BitRegister g.O.Positions.position in
     let off = view_bits reading c.args.off in
-    let first = c.into_inner-first.result in
-    let zero = g.T.BitRegister.ZERO in
+    let before = sweep_words c.args.sweep.now in
+    let after = sweep_words c.keep_zeros.new.sweep in
     let some : 0 < reading.bits = omega (arith, g.met.T.BitRegister.least_bits) in
-    let low : c.rows.k < c.args.n = c.rows-test.true in
-    let within : first + c.args.n * c.args.w ≤ length (sweep_words c.args.sweep.now) * reading.bits =
-    omega (arith, c.requires.within, c.into_inner-first.ensures.value) in
-    record {
-      at = at_gone reading c.args.sweep.now c.rows.sweep zero c.rows.word first c.args.n c.args.w off c.rows.k
-          c.rows.kept some low within c.rows.invariant.at (sym c.bit.ensures ∙ c.if-bit.true);
-      inside = omega arith;
-    }
-
--- and the row behind them goes
-pub rows-preserved-then-k-n : goal.rows-preserved-then-k-n
-rows-preserved-then-k-n g c =
-    let reading = read_by g.T.BitRegister g.O.Positions.position in
-    let off = view_bits reading c.args.off in
-    let first = c.into_inner-first.result in
-    let zero = g.T.BitRegister.ZERO in
-    let some : 0 < reading.bits = omega (arith, g.met.T.BitRegister.least_bits) in
-    let within : first + c.args.n * c.args.w ≤ length (sweep_words c.args.sweep.now) * reading.bits =
-    omega (arith, c.requires.within, c.into_inner-first.ensures.value) in
-    let upto = c.stay_upto-upto.result in
-    let at = at_upto reading c.args.sweep.now c.rows.sweep zero c.rows.word first c.args.n c.args.w off c.rows.k
-    c.rows.kept some c.rows-test.true within c.rows.invariant.at c.keep_run-word.new.sweep c.keep_run-word.result upto
-    (omega (arith, c.stay_upto-upto.ensures.low)) c.stay_upto-upto.ensures.high (sym c.bit.ensures ∙ c.if-bit.false)
-    c.stay_upto-upto.ensures.stay c.keep_run-word.ensures in
-    record {
-      at = at_gone reading c.args.sweep.now c.keep_run-word.new.sweep zero c.keep_run-word.result first c.args.n c.args.w
-          off upto (c.rows.kept + (upto - c.rows.k)) some c.if-k-n.true within at
-          (c.stay_upto-upto.ensures.gone c.if-k-n.true);
-      inside = omega arith;
-    }
-
--- or there is none
-pub rows-preserved : goal.rows-preserved
-rows-preserved g c =
-    let reading = read_by g.T.BitRegister g.O.Positions.position in
-    let off = view_bits reading c.args.off in
-    let first = c.into_inner-first.result in
-    let zero = g.T.BitRegister.ZERO in
-    let some : 0 < reading.bits = omega (arith, g.met.T.BitRegister.least_bits) in
-    let within : first + c.args.n * c.args.w ≤ length (sweep_words c.args.sweep.now) * reading.bits =
-    omega (arith, c.requires.within, c.into_inner-first.ensures.value) in
-    let upto = c.stay_upto-upto.result in
-    let at = at_upto reading c.args.sweep.now c.rows.sweep zero c.rows.word first c.args.n c.args.w off c.rows.k
-    c.rows.kept some c.rows-test.true within c.rows.invariant.at c.keep_run-word.new.sweep c.keep_run-word.result upto
-    (omega (arith, c.stay_upto-upto.ensures.low)) c.stay_upto-upto.ensures.high (sym c.bit.ensures ∙ c.if-bit.false)
-    c.stay_upto-upto.ensures.stay c.keep_run-word.ensures in
-    record { at = at; inside = c.stay_upto-upto.ensures.high }
-
-pub returns-clause-count : goal.returns-clause-count
-returns-clause-count g c =
-    let off = view_bits (read_by g.T.BitRegister g.O.Positions.position) c.args.off in
-    let all : c.rows.k ≡ length off = omega arith in
-    c.rows.invariant.at.count_is ∙ ap (λ k. length (left_before off k)) all ∙ length-rows_left off
-
-pub returns-clause-rows : goal.returns-clause-rows
-returns-clause-rows g c =
-    let reading = read_by g.T.BitRegister g.O.Positions.position in
-    let off = view_bits reading c.args.off in
-    let first = c.into_inner-first.result in
-    let zero = g.T.BitRegister.ZERO in
-    let some : 0 < reading.bits = omega (arith, g.met.T.BitRegister.least_bits) in
-    let all : c.rows.k ≡ c.args.n = omega arith in
-    let at : AtRow reading c.args.sweep.now c.rows.sweep zero c.rows.word first c.args.n c.args.w off c.args.n
-    c.rows.kept =
-    subst (λ k. AtRow reading c.args.sweep.now c.rows.sweep zero c.rows.word first c.args.n c.args.w off k c.rows.kept)
-    all c.rows.invariant.at in
-    let within : first + c.args.n * c.args.w ≤ length (sweep_words c.args.sweep.now) * reading.bits =
-    omega (arith, c.requires.within, c.into_inner-first.ensures.value) in
-    rw (← c.into_inner-first.ensures.value)
-    (keeps_rows reading c.args.sweep.now c.rows.sweep zero c.rows.word first c.args.n c.args.w off c.rows.kept some
-    c.requires.flags within at (sweep_words c.put_rest.new.sweep) c.put_rest.ensures.filled)
+    let is : KeepsRows reading before after c.args.head c.args.w off =
+    rw (c.holds_no_one.ensures.same.words, c.into_inner-first.ensures.value) at c.keep_zeros.ensures.rows in
+    kept_list reading before after c.args.head len c.args.w off some (rw c.requires.flags rows) within is
 
 pub returns-clause-list : goal.returns-clause-list
 returns-clause-list g c len rows within =
     let reading = read_by g.T.BitRegister g.O.Positions.position in
+    let off = view_bits reading c.args.off in
+    let before = sweep_words c.args.sweep.now in
+    let after = sweep_words c.keep_runs.new.sweep in
     let some : 0 < reading.bits = omega (arith, g.met.T.BitRegister.least_bits) in
-    kept_list reading (sweep_words c.args.sweep.now) (sweep_words c.put_rest.new.sweep) c.args.head len c.args.w
-    (view_bits reading c.args.off) some (rw c.requires.flags rows) within (returns-clause-rows g c)
-
-pub returns-clause-changed : goal.returns-clause-changed
-returns-clause-changed g c =
-    let number = g.T.BitRegister.number in
-    let words = sweep_words c.args.sweep.now in
-    omega (
-      arith,
-      c.put_rest.ensures.changed words,
-      c.rows.invariant.at.fills.few_changed number words,
-      unchanged number words,
-      c.requires.fresh.writes,
-    )
+    let is : KeepsRows reading before after c.args.head c.args.w off =
+    rw (c.holds_no_one.ensures.same.words, c.into_inner-first.ensures.value) at c.keep_runs.ensures.rows in
+    kept_list reading before after c.args.head len c.args.w off some (rw c.requires.flags rows) within is

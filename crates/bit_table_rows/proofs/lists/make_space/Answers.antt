@@ -1,6 +1,5 @@
 use Rattle.std.proofs.Common.{◌<◌, length, ap, arith}
 use Rattle.bit_addressing_memory.specs.Memory.{read_by}
-use Rattle.bit_containers_vector.specs.Vector.{vec_bits}
 use Rattle.bit_table_rows.proofs.SpaceLemmas.{all_as_before}
 use Rattle.bit_table_rows.proofs.lists.make_space.Goals as goal
 

@@ -1,4 +1,4 @@
-use Rattle.std.proofs.Common.{◌-◌, ◌<◌, length, get_or, false, arith, rules, ap, ◌∙◌}
+use Rattle.std.proofs.Common.{◌-◌, ◌<◌, length, get_or, false, arith, rules, ap, ◌∙◌, refl}
 use Rattle.bit_addressing_memory.specs.Memory.{piece, read_by}
 use Rattle.bit_containers_array.specs.Array.{array_bits, array_words}
 use Rattle.bit_containers_array.proofs.LeftLemmas.{left_low, first_short, left-first}
@@ -24,10 +24,12 @@ returns-clause-steps g c =
     let shown = c.as_bitslice-left.ensures.bits in
     let size = ap length shown in
     let some : 0 < length (piece all it.from it.count) = search (rules, arith, size) in
-    left-first all it.from it.count c.bit-first.result (c.len.result - 1) some (omega (arith, size, c.len.ensures))
-    (c.bit-first.ensures ∙ ap (λ xs. get_or xs 0 false) shown)
+    let bits = left-first all it.from it.count c.bit-first.result (c.len.result - 1) some
+    (omega (arith, size, c.len.ensures)) (c.bit-first.ensures ∙ ap (λ xs. get_or xs 0 false) shown) in
+    let low = left_low all it.from it.count some in
+    (bits, refl, omega (arith, low))
 
 pub returns-clause-goes : goal.returns-clause-goes
 returns-clause-goes g c =
-    let size = ap length (returns-clause-steps g c) in
+    let size = ap length (returns-clause-steps g c).0 in
     search (rules, arith, size)

@@ -10,4 +10,4 @@ returns g c =
     let value = c.as_raw_slice.ensures.value in
     boxed_words reading c.in_ok-words.words (g.A.BitViewSized.words c.args.array.now) c.of_vector.result
     (omega (arith, g.met.T.BitRegister.least_bits)) (made.bits ∙ ap (memory reading) value) made.head
-    (made.words ∙ value) c.of_vector.ensures
+    (made.words ∙ value) c.of_vector.ensures.same

@@ -11,4 +11,4 @@ returns g c =
     let value = c.into_vec.ensures.items in
     boxed_words reading c.from_vec.result (boxed_slice_items c.args.words) c.of_vector.result
     (omega (arith, g.met.T.BitRegister.least_bits)) (made.bits ∙ ap (memory reading) value) made.head
-    (made.words ∙ value) c.of_vector.ensures
+    (made.words ∙ value) c.of_vector.ensures.same

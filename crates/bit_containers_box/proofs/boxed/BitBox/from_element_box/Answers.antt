@@ -10,4 +10,4 @@ returns-in-Ok-clause-ok g c =
     let value = ap (λ w. w ∷ []) c.deref.ensures in
     boxed_words reading c.in-Ok.made (c.args.word.value ∷ []) c.of_vector.result
     (omega (arith, g.met.T.BitRegister.least_bits)) (made.bits ∙ ap (memory reading) value) made.head
-    (made.words ∙ value) c.of_vector.ensures
+    (made.words ∙ value) c.of_vector.ensures.same

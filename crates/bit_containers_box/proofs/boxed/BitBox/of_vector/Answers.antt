@@ -11,7 +11,7 @@ invariant_of-result g c =
     let some : 0 < g.T.BitRegister.BITS = omega (arith, g.met.T.BitRegister.least_bits) in
     let size : length c.into_vec-words.result.items * g.T.BitRegister.BITS
     ≡ length (visible reading v) * g.T.BitRegister.BITS =
-    ap (λ ws. length ws * g.T.BitRegister.BITS) c.into_vec-words.ensures in
+    ap (λ ws. length ws * g.T.BitRegister.BITS) c.into_vec-words.ensures.items in
     record {
       inside = omega (arith, c.first_place-head.ensures.value, v.inside);
       short = omega (arith, c.len-len.ensures, c.first_place-head.ensures.short);
@@ -25,9 +25,9 @@ invariant_of-result g c =
     }
 
 -- the words are those that `into_vec` gave
-pub returns : goal.returns
-returns g c =
+pub returns-clause-same : goal.returns-clause-same
+returns-clause-same g c =
     let v = c.args.vector in
     boxed_whole (read_by g.T.BitRegister g.O.Positions.position) v (omega (arith, g.met.T.BitRegister.least_bits))
-    v.fits _ c.into_vec-words.ensures c.first_place-head.ensures.value
+    v.fits _ c.into_vec-words.ensures.items c.first_place-head.ensures.value
     c.len-len.ensures

@@ -1,4 +1,4 @@
-use Rattle.std.proofs.Common.{◌-◌, ◌∷◌, [], length, get_or, false, arith, rules, ap, ◌∙◌}
+use Rattle.std.proofs.Common.{◌-◌, ◌∷◌, [], length, get_or, false, arith, rules, ap, ◌∙◌, refl}
 use Rattle.std.proofs.lemmas.List.{length-append}
 use Rattle.bit_addressing_memory.specs.Memory.{memory, piece, read_by}
 use Rattle.bit_addressing_memory.proofs.WindowLemmas.{length-window}
@@ -17,14 +17,15 @@ pub returns-clause-steps : goal.returns-clause-steps
 returns-clause-steps g c =
     let iter = c.args.self.now in
     let reading = read_by g.T.BitRegister g.O.Positions.position in
-    left_last reading iter.words.items iter.place iter.len c.bit-last.result iter.fits
+    let bits = left_last reading iter.words.items iter.place iter.len c.bit-last.result iter.fits
     (omega (arith, c.if-self-eq0.false))
-    (c.bit-last.ensures ∙ ap (λ xs. get_or xs (iter.len - 1) false) c.as_bitslice.ensures.bits)
+    (c.bit-last.ensures ∙ ap (λ xs. get_or xs (iter.len - 1) false) c.as_bitslice.ensures.bits) in
+    (bits, refl, refl)
 
 pub returns-clause-goes : goal.returns-clause-goes
 returns-clause-goes g c =
     let iter = c.args.self.now in
     let reading = read_by g.T.BitRegister g.O.Positions.position in
-    let size = ap length (returns-clause-steps g c)
+    let size = ap length (returns-clause-steps g c).0
     ∙ length-append (piece (memory reading iter.words.items) iter.place (iter.len - 1)) (c.bit-last.result ∷ []) in
     search (rules, arith, size)

@@ -1,4 +1,4 @@
-use Rattle.std.proofs.Common.{◌%◌, length, ap, refl, rules, ◌∙◌}
+use Rattle.std.proofs.Common.{◌%◌, length, ap, refl, rules}
 use Rattle.bit_addressing_memory.specs.Memory.{read_by}
 use Rattle.bit_containers_vector.specs.Drained.{Cut}
 use Rattle.bit_containers_vector.specs.Vector.{vec_bits}
@@ -18,7 +18,8 @@ returns g c =
       (refl, λ _. tt, cut.cut),
       record {
         bits = search rules;
-        head = c.from_place.ensures.head ∙ ap (λ p. p % g.T.BitRegister.BITS) place;
+        head = ap (λ p. p % g.T.BitRegister.BITS) place;
+        place = place;
         after = tt;
       },
     )

@@ -7,7 +7,7 @@ use Rattle.bit_slice_views.specs.SpanLimits.{MAX_BITS}
 use Rattle.bit_containers_vector.specs.Vector.{vec_bits}
 use Rattle.bit_table_rows.specs.Marks.{marks_of}
 use Rattle.bit_table_rows.specs.RowEdit.{added, count_after, edited_by, LiesIn}
-use Rattle.bit_table_rows.proofs.ColumnLemmas.{column_size, column_after, columns_after, columns_same, columns_short}
+use Rattle.bit_table_rows.proofs.ColumnLemmas.{column_size, column_after, columns_after}
 use Rattle.bit_table_rows.proofs.LetterEditLemmas.{count_most, length-edited, marks_edited}
 use Rattle.bit_table_rows.proofs.MarkLemmas.{length-marks}
 use Rattle.bit_table_rows.proofs.SpaceLemmas.{refused_same, sets_are, space_after, space_is}

@@ -9,7 +9,7 @@ ghost use Rattle.bit_table_rows.specs.RowEdit.{added, count_after, edited_by, mo
 ghost use Rattle.bit_table_rows.specs.Walk.{Becomes, EachHas};
 
 use crate::edit::RowEdit;
-use crate::one_row::insert_zero;
+use crate::one_row::{delete_bit, insert_zero};
 use crate::vectors::edit_rows;
 use bit_addressing_memory::{BitOrder, no_digits};
 use bit_containers_vector::BitVec;
@@ -33,6 +33,12 @@ pub(crate) fn edit_list<T: BitStore, O: BitOrder<T>>(
 {
     match edit {
         RowEdit::Insert { place } => insert_zero(list, n, place),
+        RowEdit::Delete { start, upto } => {
+            if upto - start == 1 {
+                return Ok(delete_bit(list, n, start));
+            }
+            edit_by_rows(list, n, edit)
+        }
         _ => edit_by_rows(list, n, edit),
     }
 }

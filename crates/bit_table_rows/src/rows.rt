@@ -18,6 +18,7 @@ use bit_addressing_memory::{BitIdx, BitOrder, BitRegister, Sweep, move_in};
 /// `n` and up to the target's end are there. An insertion takes `q = p + 1`, a deletion `q < p`.
 ///
 /// No word is written twice, and none that the target does not touch.
+#[inline(always)]
 #[tactic(auto, using(crate::proofs::RowLemmas::rows))]
 pub fn move_rows<T: BitRegister, O: BitOrder<T>>(
     sweep: &mut Sweep<'_, T>,

@@ -15,6 +15,7 @@ use bit_addressing_memory::{BitIdx, BitOrder, BitRegister, Sweep, Way, way_for};
 use bit_slice_views::BitSlice;
 
 // Moves rows of a window that begins in the first word, by one sweep, and answers how many words it wrote.
+#[inline(always)]
 pub(crate) fn move_window_rows<R: BitRegister, O: BitOrder<R>>(
     words: &mut [R],
     place: usize,

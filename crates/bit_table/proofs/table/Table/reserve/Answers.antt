@@ -21,7 +21,7 @@ reserve-requires-2 g c =
     let t = c.self.inside in
     let h = c.self.invariant in
     let all = more_fit _ t.layout _ _ _ c.self.view_is h.0 h.1 h.2 c.args.k c.requires in
-    (omega arith, few_rows t.layout _ h.0 h.1 c.args.k all)
+    (omega arith, omega (arith, few_rows t.layout _ h.0 h.1 c.args.k all))
 
 pub invariant_of-self : goal.invariant_of-self
 invariant_of-self g c =

@@ -19,7 +19,6 @@ use bit_slice_views_mut::BitsMut;
 ///
 /// The list begins in the first of its words, as that of each container does. Rows up to before `n` and up to the
 /// target's end are there. No word is written twice, and none that the target does not touch.
-#[inline(always)]
 pub fn move_rows_in<V: BitsMut>(view: &mut V, p: usize, q: usize, n: usize, w: usize) -> usize
     requires head { V.place view.old < V.Store.BITS }
     requires order { p ≤ n }

@@ -82,7 +82,6 @@ fn open_row<T: BitStore, O: BitOrder<T>>(
 
 /// Takes the rows from `p` up to before `q` out of `n` rows of `w` bits each: the rows from `q` on move to where row
 /// `p` stands. It answers how many words that move wrote. No memory is taken, and none is given back.
-#[inline(always)]
 #[tactic(auto, using(crate::proofs::PlaceLemmas::row_places))]
 pub fn delete_rows<T: BitStore, O: BitOrder<T>>(
     vector: &mut BitVec<T, O>,

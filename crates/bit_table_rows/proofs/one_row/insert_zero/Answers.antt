@@ -15,13 +15,13 @@ returns-clause-ok g c =
     let n = c.args.n in
     let p = c.args.p in
     let xs = vec_bits reading c.args.list.now in
-    let zs = vec_bits reading c.move_rows_in-writes.new.view in
+    let zs = vec_bits reading c.move_on-writes.new.view in
     let grown = (c.in_ok-push.ensures).ok in
     let size = c.requires.column.len in
     let one : p * 1 ≡ p = omega arith in
     let rows : length xs ≡ n * 1 = omega (arith, size) in
     let moved : zs ≡ rows_moved 1 (xs ++ (false ∷ [])) p (p + 1) n =
-    c.move_rows_in-writes.ensures.bits ∙ ap (λ l. rows_moved 1 l p (p + 1) n) grown.bits in
+    c.move_on-writes.ensures.bits ∙ ap (λ l. rows_moved 1 l p (p + 1) n) grown.bits in
     let opened : Opens xs (rows_moved 1 (xs ++ (false ∷ [])) p (p + 1) n) (p * 1) 1 =
     rows_opened xs (false ∷ []) p n 1 c.requires.within rows refl in
     let here : Opens xs (rows_moved 1 (xs ++ (false ∷ [])) p (p + 1) n) p 1 =
@@ -30,7 +30,7 @@ returns-clause-ok g c =
     let inside : p < length zs =
     omega (
       arith,
-      c.move_rows_in-writes.ensures.len,
+      c.move_on-writes.ensures.len,
       ap length grown.bits,
       length-append xs (false ∷ []),
       size,
@@ -39,10 +39,10 @@ returns-clause-ok g c =
     record {
       bits = c.set.ensures.bits ∙ bit_filled xs zs p false inside is;
       head =
-          ap (λ (f : Frame ℕ). f.place) (c.set.ensures.frame ∙ c.move_rows_in-writes.ensures.frame) ∙ grown.head;
+          ap (λ (f : Frame ℕ). f.place) (c.set.ensures.frame ∙ c.move_on-writes.ensures.frame) ∙ grown.head;
       room = omega (
         arith,
         (c.in_ok-push.ensures).room,
-        room_framed reading c.push.new.self c.set.new.self (c.set.ensures.frame ∙ c.move_rows_in-writes.ensures.frame),
+        room_framed reading c.push.new.self c.set.new.self (c.set.ensures.frame ∙ c.move_on-writes.ensures.frame),
       );
     }

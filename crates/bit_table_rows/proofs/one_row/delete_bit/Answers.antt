@@ -1,4 +1,4 @@
-use Rattle.std.proofs.Common.{◌≡◌, ℕ, ◌+◌, ◌-◌, ◌*◌, List, Bool, length, take, subst, ap, ◌∙◌, arith}
+use Rattle.std.proofs.Common.{◌≡◌, ℕ, ◌+◌, ◌-◌, ◌*◌, ◌≤◌, List, Bool, length, take, subst, ap, ◌∙◌, arith}
 use Rattle.bit_addressing_memory.specs.Memory.{read_by}
 use Rattle.bit_containers_vector.proofs.CallerLemmas.{room_framed}
 use Rattle.bit_containers_vector.specs.Vector.{vec_bits}

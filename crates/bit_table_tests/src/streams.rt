@@ -1,5 +1,5 @@
 //! A script read and answered in pieces, and runs that a fault ends.
-ghost use Rattle.std.specs.Prelude.{Some};
+ghost use Rattle.std.specs.Prelude.{◌≤◌, Some};
 
 use bit_addressing_memory::Lsb0;
 use bit_table::{Input, Output, RunError, run};

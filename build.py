@@ -1,10 +1,10 @@
 #!/usr/bin/env python3
-"""Builds the program, or the library for C, where its sources have changed: what bit-table and bits-lib call. Each crate
-that it stands on is proved.
+"""Builds the program, or the library for C, if its sources have changed: bit-table and bits-lib call it. Each crate that it
+depends on is proved first.
 
-rt proves a crate by several jobs, but keeps about two of four processors busy, and it locks the folders of the crate
-and of all below it until it ends. So the crate with the longest chain above it is proved where it stands, and one that does
-not wait for it beside it: in a copy of what it reads, and on what the first one leaves of the processors.
+rt proves a crate with several jobs, but keeps only about two of four processors busy, and it locks the folders of the crate
+and of all its dependencies until it ends. So the ready crate with the longest chain of dependents is proved in place, and a
+second one at the same time in a copy of the files that it needs, at a lower priority.
 """
 
 import argparse
@@ -24,20 +24,20 @@ PLACES = 2 if len(os.sched_getaffinity(0)) >= 4 else 1
 
 
 class Target:
-    """What is built, who asks for it, and where what is made of it lies."""
+    """What is built, the command that asks for it, and the files of the build."""
 
     def __init__(self, crate):
         self.crate = crate
         self.caller, self.name = ("bit-table", "the program") if crate == PROGRAM else ("bits-lib", "the library")
         self.out = f"{HERE}/crates/{crate}/out"
         self.built = f"{self.out}/{crate}" if crate == PROGRAM else f"{self.out}/lib{crate}.a"
-        self.stamp, self.beside = f"{self.out}/sources", f"{self.out}/beside"
+        self.stamp, self.copy = f"{self.out}/sources", f"{self.out}/copy"
 
     def tell(self, text):
         print(f"{self.caller}: {text}", file=sys.stderr, flush=True)
 
     def is_current(self, sources):
-        """Whether it was built of these sources, and by this rt where there is one."""
+        """Whether it was built from these sources, and by this rt if there is one."""
         try:
             with open(self.stamp, encoding="utf-8") as stamp:
                 by, of, built = stamp.read().splitlines()
@@ -46,27 +46,27 @@ class Target:
             return False
 
     def put_stamp(self, sources):
-        """Notes of which sources it was built: whole, or not at all."""
+        """Records the sources that it was built from, atomically."""
         made = f"{self.stamp}.{os.getpid()}"
         with open(made, "w", encoding="utf-8") as stamp:
             stamp.write(f"{kit()}\n{sources}\n{sum_of(self.built)}\n")
         os.replace(made, self.stamp)
 
-    def put_looked_at(self, seen):
-        """Keeps what bit-table saw of the files of which it was built, and how it looks itself, for its next start."""
+    def put_built_from(self, files):
+        """Records bit-table's list of files, with the line of the program as it is now, for its next start."""
         name = os.path.relpath(self.built, HERE)
         it = os.stat(self.built)
         seconds, parts = divmod(it.st_mtime_ns, 1_000_000_000)
-        lines = [line for line in seen.splitlines() if not line.startswith(f"{name} ")]
-        made = f"{self.out}/looked_at.{os.getpid()}"
+        lines = [line for line in files.splitlines() if not line.startswith(f"{name} ")]
+        made = f"{self.out}/built_from.{os.getpid()}"
         with contextlib.suppress(OSError):
-            with open(made, "w", encoding="utf-8", errors="surrogateescape") as looked_at:
-                looked_at.writelines(f"{line}\n" for line in [*lines, f"{name} {it.st_ino} {it.st_size} {seconds}.{parts:09}0"])
-            os.replace(made, f"{self.out}/looked_at")
+            with open(made, "w", encoding="utf-8", errors="surrogateescape") as built_from:
+                built_from.writelines(f"{line}\n" for line in [*lines, f"{name} {it.st_ino} {it.st_size} {seconds}.{parts:09}0"])
+            os.replace(made, f"{self.out}/built_from")
 
 
 class Crates:
-    """The crates that a target stands on, and itself, each after those that it uses."""
+    """The target and the crates that it depends on, each after its dependencies."""
 
     def __init__(self, target):
         self.lines, self.heads, self.names = {}, {}, []
@@ -77,10 +77,10 @@ class Crates:
                     crate = head.split()[0]
                     self.lines[crate], self.heads[crate] = uses.split(), head.strip()
         self.add(target.crate)
-        # The seconds that each takes on four processors, by and large; what is built of the last one takes its own.
+        # Roughly the seconds that each takes on four processors; the target is also compiled.
         self.expected = {it: 15 + sum(map(os.path.getsize, self.sources(it))) / 2000 for it in self.names}
         self.expected[target.crate] += 160
-        # Those of the longest chain of crates from it on that wait for one another.
+        # The seconds of the longest chain of crates that starts at each.
         self.chain = dict(self.expected)
         for crate in reversed(self.names):
             self.chain[crate] += max((self.chain[it] for it in self.names if crate in self.lines[it]), default=0)
@@ -102,7 +102,7 @@ class Crates:
                     yield f"{folder}/{file}"
 
     def sum(self):
-        """The sum of all sources, and of the lines about their crates."""
+        """A checksum of all sources and of the lines about their crates."""
         sources = hashlib.sha256()
         for crate in self.names:
             sources.update(f"{self.heads[crate]}: {self.lines[crate]}\n".encode())
@@ -110,14 +110,14 @@ class Crates:
                 sources.update(f"{os.path.relpath(file, HERE)} {sum_of(file)}\n".encode())
         return sources.hexdigest()
 
-    def next_of(self, waiting, under_way):
-        """Of the crates that need wait for no other, the one with the longest chain; none where each has to."""
-        ready = (it for it in waiting if not any(use in waiting or use in under_way for use in self.uses(it)))
+    def next_of(self, waiting, running):
+        """Of the crates whose dependencies are proved, the one with the longest chain; None if there is none."""
+        ready = (it for it in waiting if not any(use in waiting or use in running for use in self.uses(it)))
         return max(ready, key=self.chain.get, default=None)
 
     def seconds_left(self, waiting, ends, pace):
-        """The seconds until all are proved, where those under way end in so many, and each other one takes what is
-        expected of it, times the pace."""
+        """The seconds until all are proved, if the running ones end after these seconds, and each waiting one takes its
+        expected seconds times the pace."""
         waiting, ends, now = list(waiting), dict(ends), 0
         while waiting or ends:
             crate = self.next_of(waiting, ends) if len(ends) < PLACES else None
@@ -135,7 +135,7 @@ def sum_of(file):
 
 
 def kit():
-    """What rt says that it is; nothing where there is none."""
+    """The version of rt; empty if there is no rt."""
     if not shutil.which("rt"):
         return ""
     said = subprocess.run(["rt", "version"], stdin=subprocess.DEVNULL, stdout=subprocess.PIPE, check=True, text=True)
@@ -143,19 +143,19 @@ def kit():
 
 
 def minutes(seconds):
-    return f"some {round(seconds / 60)} minutes" if seconds >= 90 else "a minute"
+    return f"about {round(seconds / 60)} minutes" if seconds >= 90 else "about a minute"
 
 
 def jobs():
-    """How many jobs prove a crate: one for each processor, and for each three gigabytes of memory. rt itself, which goes by
-    the lines of all crates below, would give the tall ones two."""
+    """The jobs for one crate: one per processor, if there are three gigabytes of memory for each. rt itself would choose two
+    for crates with many dependencies."""
     with open("/proc/meminfo", encoding="utf-8") as lines:
         kilobytes = next(int(line.split()[1]) for line in lines if line.startswith("MemAvailable:"))
     return max(1, min(len(os.sched_getaffinity(0)), kilobytes // 3_000_000))
 
 
 def lay_out(crate, crates, proved, place):
-    """Copies what a crate reads: second names of the files, since rt replaces a file and does not write to it."""
+    """Copies the files that a crate needs, as hard links, since rt replaces files and does not write into them."""
     shutil.rmtree(place, ignore_errors=True)
     os.makedirs(place)
     shutil.copy(f"{HERE}/HANDLES", place)
@@ -169,7 +169,7 @@ def lay_out(crate, crates, proved, place):
 
 
 class Proof:
-    """The proof of a crate under way, a group of processes."""
+    """The proof of a crate that is running, a group of processes."""
 
     def __init__(self, crate, place, target):
         self.crate, self.place, self.log = crate, place, f"{target.out}/said-{crate}"
@@ -189,7 +189,7 @@ class Proof:
         return time.monotonic() - self.start
 
     def end(self):
-        """Ends it where it has not ended, keeps what it made, and gives what it said."""
+        """Stops it if it is still running, keeps its output files, and returns the lines that it printed."""
         if self.group.poll() is None:
             os.killpg(self.group.pid, signal.SIGTERM)
             self.group.wait()
@@ -204,48 +204,48 @@ class Proof:
 
 
 class Build:
-    """The crates that wait to be proved, the proofs under way, and the seconds that the others took."""
+    """The crates that wait to be proved, the proofs that are running, and the seconds that the others took."""
 
     def __init__(self, target, crates):
         self.target, self.crates = target, crates
-        self.waiting, self.under_way, self.took = list(crates.names), [], {}
+        self.waiting, self.running, self.took = list(crates.names), [], {}
         self.start = self.told = time.monotonic()
 
     def run(self):
-        """Proves and builds all, and gives the status: 70 as soon as a crate is refused."""
+        """Proves and builds everything. Returns the exit status: 70 as soon as a proof fails."""
         try:
-            while self.waiting or self.under_way:
+            while self.waiting or self.running:
                 begun = self.begin()
                 while self.begin():
                     pass
                 if begun or time.monotonic() - self.told > 50:
                     self.tell()
                 time.sleep(0.1)
-                for proof in [it for it in self.under_way if it.group.poll() is not None]:
+                for proof in [it for it in self.running if it.group.poll() is not None]:
                     if not self.has_passed(proof):
                         return 70
         finally:
-            for proof in self.under_way:
+            for proof in self.running:
                 proof.end()
-            shutil.rmtree(self.target.beside, ignore_errors=True)
+            shutil.rmtree(self.target.copy, ignore_errors=True)
         return 0
 
     def begin(self):
-        """Begins the next proof, where a crate is ready and a place is free; whether it did."""
-        taken = [proof.place for proof in self.under_way]
-        place = next((it for it in [HERE, self.target.beside][:PLACES] if it not in taken), None)
-        crate = self.crates.next_of(self.waiting, [proof.crate for proof in self.under_way])
+        """Starts the next proof if a crate is ready and a place is free. Returns whether it did."""
+        taken = [proof.place for proof in self.running]
+        place = next((it for it in [HERE, self.target.copy][:PLACES] if it not in taken), None)
+        crate = self.crates.next_of(self.waiting, [proof.crate for proof in self.running])
         if not place or not crate:
             return False
         if place != HERE:
             lay_out(crate, self.crates, list(self.took), place)
         self.waiting.remove(crate)
-        self.under_way.append(Proof(crate, place, self.target))
+        self.running.append(Proof(crate, place, self.target))
         return True
 
     def has_passed(self, proof):
-        """Whether the proof, which has ended, was one; where not, what it said at last is told."""
-        self.under_way.remove(proof)
+        """Whether the proof, which has ended, succeeded; prints the end of its output if not."""
+        self.running.remove(proof)
         self.took[proof.crate] = proof.seconds()
         said = proof.end()
         if proof.group.returncode != 0:
@@ -254,32 +254,32 @@ class Build:
         return proof.group.returncode == 0
 
     def seconds_left(self):
-        """By the seconds that this machine took for what it proved. A crate that took hardly any was proved before."""
+        """An estimate by the speed of this machine so far. A crate that took hardly any time was up to date."""
         expected = self.crates.expected
         new = [it for it in self.took if self.took[it] > expected[it] / 10]
         pace = sum(self.took[it] for it in new) / sum(expected[it] for it in new) if new else 1
-        ends = {it.crate: max(pace * expected[it.crate] - it.seconds(), 0) for it in self.under_way}
+        ends = {it.crate: max(pace * expected[it.crate] - it.seconds(), 0) for it in self.running}
         return self.crates.seconds_left(self.waiting, ends, pace)
 
     def tell(self):
         self.told = time.monotonic()
-        now = " and ".join(proof.crate for proof in self.under_way)
-        done = f"{len(self.took)} of {len(self.crates.names)} crates are proved"
-        self.target.tell(f"{self.told - self.start:.0f} s: {done}, {minutes(self.seconds_left())} to go; now {now}")
+        now = " and ".join(proof.crate for proof in self.running)
+        done = f"{len(self.took)} of {len(self.crates.names)} crates proved"
+        self.target.tell(f"{self.told - self.start:.0f} s: {done}, {minutes(self.seconds_left())} left; proving {now}")
 
 
 def announce(target, crates):
-    """What is about to be done, how long it takes, and the way to a first look."""
-    time_wanted = minutes(crates.seconds_left(crates.names, {}, 1))
-    look = "; a first look, without proofs: (cd crates/bit_table_program && rt try)" if target.crate == PROGRAM else ""
+    """Says what happens now, how long it takes, and how to have a first look meanwhile."""
+    expected = minutes(crates.seconds_left(crates.names, {}, 1))
+    look = "; for a first look without proofs: (cd crates/bit_table_program && rt try)" if target.crate == PROGRAM else ""
     target.tell(
-        f"{target.name} is built once each of its {len(crates.names)} crates is proved: from nothing in {time_wanted}, "
-        f"else in less, and it goes on where it was cut off{look}"
+        f"building {target.name}; its {len(crates.names)} crates are proved first, which takes {expected} from scratch; "
+        f"an interrupted build resumes{look}"
     )
 
 
 def bring_up_to_date(target):
-    """Builds what is not built of these sources, and gives the status."""
+    """Builds the target if it is not up to date. Returns the exit status."""
     crates = Crates(target)
     sources = crates.sum()
     if target.is_current(sources):
@@ -288,12 +288,12 @@ def bring_up_to_date(target):
         target.tell("the command rt of the Rattle kit is not on the PATH")
         return 127
     os.makedirs(target.out, exist_ok=True)
-    # A second start waits for the first one, one of the other target too, since both prove the same crates.
+    # A second build waits for the first one, also if it has the other target, since both prove the same crates.
     turn = os.open(f"{HERE}/crates", os.O_RDONLY)
     try:
         fcntl.flock(turn, fcntl.LOCK_EX | fcntl.LOCK_NB)
     except BlockingIOError:
-        target.tell("another start builds these crates; waiting for it")
+        target.tell("another build is running; waiting for it")
         fcntl.flock(turn, fcntl.LOCK_EX)
         crates = Crates(target)
         sources = crates.sum()
@@ -309,24 +309,24 @@ def bring_up_to_date(target):
         built_of, sources = sources, crates.sum()
         if built_of == sources:
             break
-        target.tell("sources were changed meanwhile, so once more")
+        target.tell("the sources changed during the build; building again")
     target.put_stamp(sources)
-    target.tell(f"{time.monotonic() - start:.0f} s: built")
+    target.tell(f"built in {time.monotonic() - start:.0f} s")
     return 0
 
 
 def command_line():
-    """The words in front of a lone --, and those behind it."""
+    """The parsed arguments before `--`, and the arguments after it."""
     end = sys.argv.index("--") if "--" in sys.argv else len(sys.argv)
-    words = argparse.ArgumentParser(description="Proves what bit-table or bits-lib needs, and builds it.")
-    words.add_argument("crate", nargs="?", default=PROGRAM, choices=[PROGRAM, LIBRARY], help="what is built")
+    words = argparse.ArgumentParser(description="Proves and builds the program bit-table or the library libbits.")
+    words.add_argument("crate", nargs="?", default=PROGRAM, choices=[PROGRAM, LIBRARY], help="the crate to build")
     words.add_argument(
-        "--stamp", action="store_true", help="builds nothing, and notes that what is there was built of these sources"
+        "--stamp", action="store_true", help="build nothing; record that what is there was built from these sources"
     )
     words.add_argument(
         "--run",
         action="store_true",
-        help="runs the program then, on the words behind --; descriptor 3 tells what bit-table saw of the files",
+        help="run the program afterwards, with the arguments after --; descriptor 3 has bit-table's list of files",
     )
     return words.parse_args(sys.argv[1:end]), sys.argv[end + 1 :]
 
@@ -334,14 +334,14 @@ def command_line():
 def main():
     asked, words = command_line()
     target = Target(asked.crate)
-    with open(3, encoding="utf-8", errors="surrogateescape") if asked.run else contextlib.nullcontext() as seen:
-        seen = seen and seen.read()
+    with open(3, encoding="utf-8", errors="surrogateescape") if asked.run else contextlib.nullcontext() as listed:
+        files = listed.read() if asked.run else ""
     if asked.stamp:
         target.put_stamp(Crates(target).sum())
         return 0
     status = bring_up_to_date(target)
     if asked.run and status == 0:
-        target.put_looked_at(seen)
+        target.put_built_from(files)
         os.execv(target.built, [target.built, *words])
     return status
 

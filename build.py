@@ -3,8 +3,9 @@
 depends on is proved first.
 
 rt proves a crate with several jobs, but keeps only about two of four processors busy, and it locks the folders of the crate
-and of all its dependencies until it ends. So the ready crate with the longest chain of dependents is proved in place, and a
-second one at the same time in a copy of the files that it needs, at a lower priority.
+and of all its dependencies until it ends. So the ready crate with the longest chain of dependents is proved in place, and
+others at the same time, each with one job in a copy of the files that it needs, at a lower priority: one job loads the
+libraries of a crate once, several load them once each.
 """
 
 import argparse
@@ -20,7 +21,9 @@ import time
 
 HERE = os.path.dirname(os.path.realpath(__file__))
 PROGRAM, LIBRARY = "bit_table_program", "bits_c"
-PLACES = 2 if len(os.sched_getaffinity(0)) >= 4 else 1
+PROCESSORS = len(os.sched_getaffinity(0))
+# Where crates are proved at the same time: in place, and in copies.
+PLACES = PROCESSORS if PROCESSORS >= 4 else 1
 
 
 class Target:
@@ -31,7 +34,8 @@ class Target:
         self.caller, self.name = ("bit-table", "the program") if crate == PROGRAM else ("bits-lib", "the library")
         self.out = f"{HERE}/crates/{crate}/out"
         self.built = f"{self.out}/{crate}" if crate == PROGRAM else f"{self.out}/lib{crate}.a"
-        self.stamp, self.copy = f"{self.out}/sources", f"{self.out}/copy"
+        self.stamp = f"{self.out}/sources"
+        self.copies = [f"{self.out}/copy-{number}" for number in range(1, PLACES)]
 
     def tell(self, text):
         print(f"{self.caller}: {text}", file=sys.stderr, flush=True)
@@ -147,11 +151,11 @@ def minutes(seconds):
 
 
 def jobs():
-    """The jobs for one crate: one per processor, if there are three gigabytes of memory for each. rt itself would choose two
+    """As many jobs as there is memory for, at three gigabytes each, and at most one per processor. rt itself would choose two
     for crates with many dependencies."""
     with open("/proc/meminfo", encoding="utf-8") as lines:
         kilobytes = next(int(line.split()[1]) for line in lines if line.startswith("MemAvailable:"))
-    return max(1, min(len(os.sched_getaffinity(0)), kilobytes // 3_000_000))
+    return min(PROCESSORS, kilobytes // 3_000_000)
 
 
 def lay_out(crate, crates, proved, place):
@@ -174,7 +178,7 @@ class Proof:
     def __init__(self, crate, place, target):
         self.crate, self.place, self.log = crate, place, f"{target.out}/said-{crate}"
         self.start = time.monotonic()
-        words = ["rt", "run" if crate == PROGRAM else "lib", "--jobs", str(jobs())]
+        words = ["rt", "run" if crate == PROGRAM else "lib", "--jobs", str(max(1, jobs()) if place == HERE else 1)]
         with open(self.log, "w", encoding="utf-8") as log:
             self.group = subprocess.Popen(
                 words if place == HERE else ["nice", *words],
@@ -227,13 +231,16 @@ class Build:
         finally:
             for proof in self.running:
                 proof.end()
-            shutil.rmtree(self.target.copy, ignore_errors=True)
+            for copy in self.target.copies:
+                shutil.rmtree(copy, ignore_errors=True)
         return 0
 
     def begin(self):
-        """Starts the next proof if a crate is ready and a place is free. Returns whether it did."""
+        """Starts the next proof if a crate is ready and a place is free, which one in a copy only is where there is memory.
+        Returns whether it did."""
         taken = [proof.place for proof in self.running]
-        place = next((it for it in [HERE, self.target.copy][:PLACES] if it not in taken), None)
+        places = [HERE, *self.target.copies] if not taken or jobs() > 0 else [HERE]
+        place = next((it for it in places if it not in taken), None)
         crate = self.crates.next_of(self.waiting, [proof.crate for proof in self.running])
         if not place or not crate:
             return False

@@ -1,294 +1,106 @@
-/* Calls of libbits on words of 64 bits under lsb0, and the same by plain loops over the words, with masks at the edges.
+/* Calls of libbits on words of the type WORD, uint64_t or uint8_t, under lsb0, and the same by the loops of by_blocks.h.
 
    It prints a line for each call and window: CALL BITS START OTHER_START, and the nanoseconds of both, the least of ROUNDS. */
 #define _POSIX_C_SOURCE 199309L
 
 #include "bits.h"
 
+#include "../by_blocks.h"
+
 #include <stdio.h>
-#include <stdlib.h>
-#include <string.h>
 #include <time.h>
 
 #define APART __attribute__((noinline)) static
-#define ALL UINT64_MAX
 enum { ROUNDS = 24, BY = 61, SPARE = 4 };
 static const size_t NOWHERE = SIZE_MAX;
 
-/* --- plain loops */
+/* --- by hand */
 
-/* The first and the last word that a window touches, and a mask of each. */
-struct edges { size_t first, last; uint64_t head, tail; };
+APART uint64_t own_get(const word *w, size_t index) { return w[index / B] >> index % B & 1; }
 
-static inline struct edges edges_of(size_t start, size_t len)
+APART void own_set(word *w, size_t index, bool bit)
 {
-    size_t end = start + len - 1;
-    return (struct edges){start / 64, end / 64, ALL << start % 64, ALL >> (63 - end % 64)};
+    word *at = w + index / B;
+    *at = (word)((*at & ~((word)1 << index % B)) | (word)bit << index % B);
 }
 
-static inline uint64_t read_at(const uint64_t *w, size_t start)
+static size_t place_of(size_t index, size_t len) { return index == len ? NOWHERE : index; }
+
+APART uint64_t own_count_ones(const word *w, size_t start, size_t len) { return count_bits(w, start, len); }
+APART uint64_t own_first_one(const word *w, size_t start, size_t len)
 {
-    size_t k = start / 64, shift = start % 64;
-    return shift ? w[k] >> shift | w[k + 1] << (64 - shift) : w[k];
+    return place_of(first_bit(w, start, len, 0), len);
+}
+APART uint64_t own_last_one(const word *w, size_t start, size_t len)
+{
+    return place_of(last_bit(w, start, len, 0), len);
+}
+APART uint64_t own_first_zero(const word *w, size_t start, size_t len)
+{
+    return place_of(first_bit(w, start, len, ALL), len);
+}
+APART uint64_t own_last_zero(const word *w, size_t start, size_t len)
+{
+    return place_of(last_bit(w, start, len, ALL), len);
+}
+APART uint64_t own_any(const word *w, size_t start, size_t len) { return first_bit(w, start, len, 0) != len; }
+APART uint64_t own_all(const word *w, size_t start, size_t len) { return first_bit(w, start, len, ALL) == len; }
+
+APART uint64_t own_equal(const word *w, size_t start, size_t len, const word *o, size_t other)
+{
+    return (uint64_t)same_bits(w, start, o, other, len);
 }
 
-static inline void put(uint64_t *w, size_t k, uint64_t mask, uint64_t x)
+APART int own_compare(const word *w, size_t start, size_t len, const word *o, size_t other)
 {
-    w[k] = (w[k] & ~mask) | (x & mask);
+    size_t at = mismatch(w, start, o, other, len);
+    return at == len ? 0 : w[(start + at) / B] >> (start + at) % B & 1 ? 1 : -1;
 }
 
-static inline void write_at(uint64_t *w, size_t start, uint64_t x)
+APART uint64_t own_load(const word *w, size_t start, size_t len) { return read_bits(w, start, len); }
+
+APART int64_t own_load_signed(const word *w, size_t start, size_t len)
 {
-    size_t k = start / 64, shift = start % 64;
-    if (shift == 0) {
-        w[k] = x;
-        return;
-    }
-    put(w, k, ALL << shift, x << shift);
-    put(w, k + 1, ALL >> (64 - shift), x >> (64 - shift));
+    return (int64_t)(read_bits(w, start, len) << (64 - len)) >> (64 - len);
 }
 
-static inline uint64_t read_number(const uint64_t *w, size_t start, size_t len)
+APART void own_store(word *w, size_t start, size_t len, uint64_t value) { write_bits(w, start, len, value); }
+APART void own_fill(word *w, size_t start, size_t len, bool bit) { fill_bits(w, start, len, bit); }
+APART void own_not(word *w, size_t start, size_t len) { invert_bits(w, start, len); }
+APART void own_reverse(word *w, size_t start, size_t len) { reverse_bits(w, start, len); }
+APART void own_move(word *w, size_t from, size_t to, size_t len) { move_bits(w, from, to, len); }
+
+APART void own_rotate_left(word *w, size_t start, size_t len, size_t by) { rotate_bits_left(w, start, len, by); }
+APART void own_rotate_right(word *w, size_t start, size_t len, size_t by) { rotate_bits_left(w, start, len, len - by); }
+
+APART void own_copy(word *w, size_t start, size_t len, const word *o, size_t other)
 {
-    size_t k = start / 64, shift = start % 64;
-    uint64_t x = w[k] >> shift;
-    if (shift + len > 64)
-        x |= w[k + 1] << (64 - shift);
-    return x & ALL >> (64 - len);
+    copy_bits(w, start, o, other, len);
+}
+APART void own_and(word *w, size_t start, size_t len, const word *o, size_t other)
+{
+    combine_and(w, start, o, other, len);
+}
+APART void own_or(word *w, size_t start, size_t len, const word *o, size_t other)
+{
+    combine_or(w, start, o, other, len);
+}
+APART void own_xor(word *w, size_t start, size_t len, const word *o, size_t other)
+{
+    combine_xor(w, start, o, other, len);
 }
 
-static inline void write_number(uint64_t *w, size_t start, size_t len, uint64_t x)
-{
-    size_t k = start / 64, shift = start % 64;
-    uint64_t mask = ALL >> (64 - len);
-    put(w, k, mask << shift, x << shift);
-    if (shift + len > 64)
-        put(w, k + 1, mask >> (64 - shift), x >> (64 - shift));
-}
+/* --- each call, by the library and by hand */
 
-APART uint64_t own_get(const uint64_t *w, size_t index) { return w[index / 64] >> index % 64 & 1; }
-
-APART void own_set(uint64_t *w, size_t index, bool bit)
-{
-    put(w, index / 64, (uint64_t)1 << index % 64, bit ? ALL : 0);
-}
-
-APART uint64_t own_count_ones(const uint64_t *w, size_t start, size_t len)
-{
-    struct edges e = edges_of(start, len);
-    if (e.first == e.last)
-        return (uint64_t)__builtin_popcountll(w[e.first] & e.head & e.tail);
-    uint64_t sum = (uint64_t)__builtin_popcountll(w[e.first] & e.head);
-    for (size_t k = e.first + 1; k < e.last; k++)
-        sum += (uint64_t)__builtin_popcountll(w[k]);
-    return sum + (uint64_t)__builtin_popcountll(w[e.last] & e.tail);
-}
-
-/* The first 1 of the words, each flipped by a mask. */
-static inline size_t first_of(const uint64_t *w, size_t start, size_t len, uint64_t flip)
-{
-    struct edges e = edges_of(start, len);
-    size_t k = e.first;
-    uint64_t x = (w[k] ^ flip) & e.head;
-    if (e.first == e.last)
-        x &= e.tail;
-    else {
-        while (x == 0 && ++k < e.last)
-            x = w[k] ^ flip;
-        if (k == e.last)
-            x = (w[k] ^ flip) & e.tail;
-    }
-    return x ? k * 64 + (size_t)__builtin_ctzll(x) - start : NOWHERE;
-}
-
-static inline size_t last_of(const uint64_t *w, size_t start, size_t len, uint64_t flip)
-{
-    struct edges e = edges_of(start, len);
-    size_t k = e.last;
-    uint64_t x = (w[k] ^ flip) & e.tail;
-    if (e.first == e.last)
-        x &= e.head;
-    else {
-        while (x == 0 && --k > e.first)
-            x = w[k] ^ flip;
-        if (k == e.first)
-            x = (w[k] ^ flip) & e.head;
-    }
-    return x ? k * 64 + 63 - (size_t)__builtin_clzll(x) - start : NOWHERE;
-}
-
-APART uint64_t own_first_one(const uint64_t *w, size_t start, size_t len) { return first_of(w, start, len, 0); }
-APART uint64_t own_last_one(const uint64_t *w, size_t start, size_t len) { return last_of(w, start, len, 0); }
-APART uint64_t own_first_zero(const uint64_t *w, size_t start, size_t len) { return first_of(w, start, len, ALL); }
-APART uint64_t own_last_zero(const uint64_t *w, size_t start, size_t len) { return last_of(w, start, len, ALL); }
-APART uint64_t own_any(const uint64_t *w, size_t start, size_t len) { return first_of(w, start, len, 0) != NOWHERE; }
-APART uint64_t own_all(const uint64_t *w, size_t start, size_t len) { return first_of(w, start, len, ALL) == NOWHERE; }
-
-/* The first word of the first window in which the two differ, as the bits that do, and which word. */
-static inline uint64_t difference(const uint64_t *w, size_t start, size_t len, const uint64_t *o, size_t other, size_t *at)
-{
-    struct edges e = edges_of(start, len);
-    size_t from = other + 64 - start % 64, k = e.first;
-    uint64_t x = (w[k] ^ read_at(o, other) << start % 64) & e.head;
-    if (e.first == e.last)
-        x &= e.tail;
-    else {
-        for (; x == 0 && ++k < e.last; from += 64)
-            x = w[k] ^ read_at(o, from);
-        if (k == e.last)
-            x = (w[k] ^ read_at(o, from)) & e.tail;
-    }
-    *at = k;
-    return x;
-}
-
-APART uint64_t own_equal(const uint64_t *w, size_t start, size_t len, const uint64_t *o, size_t other)
-{
-    size_t at;
-    return difference(w, start, len, o, other, &at) == 0;
-}
-
-APART int own_compare(const uint64_t *w, size_t start, size_t len, const uint64_t *o, size_t other)
-{
-    size_t at;
-    uint64_t x = difference(w, start, len, o, other, &at);
-    return x == 0 ? 0 : w[at] & x & -x ? 1 : -1;
-}
-
-APART uint64_t own_load(const uint64_t *w, size_t start, size_t len) { return read_number(w, start, len); }
-
-APART int64_t own_load_signed(const uint64_t *w, size_t start, size_t len)
-{
-    return (int64_t)(read_number(w, start, len) << (64 - len)) >> (64 - len);
-}
-
-APART void own_store(uint64_t *w, size_t start, size_t len, uint64_t value) { write_number(w, start, len, value); }
-
-APART void own_fill(uint64_t *w, size_t start, size_t len, bool bit)
-{
-    struct edges e = edges_of(start, len);
-    uint64_t x = bit ? ALL : 0;
-    if (e.first == e.last) {
-        put(w, e.first, e.head & e.tail, x);
-        return;
-    }
-    put(w, e.first, e.head, x);
-    for (size_t k = e.first + 1; k < e.last; k++)
-        w[k] = x;
-    put(w, e.last, e.tail, x);
-}
-
-APART void own_not(uint64_t *w, size_t start, size_t len)
-{
-    struct edges e = edges_of(start, len);
-    if (e.first == e.last) {
-        w[e.first] ^= e.head & e.tail;
-        return;
-    }
-    w[e.first] ^= e.head;
-    for (size_t k = e.first + 1; k < e.last; k++)
-        w[k] = ~w[k];
-    w[e.last] ^= e.tail;
-}
-
-static inline uint64_t turned(uint64_t x)
-{
-    x = (x >> 1 & 0x5555555555555555) | (x & 0x5555555555555555) << 1;
-    x = (x >> 2 & 0x3333333333333333) | (x & 0x3333333333333333) << 2;
-    x = (x >> 4 & 0x0f0f0f0f0f0f0f0f) | (x & 0x0f0f0f0f0f0f0f0f) << 4;
-    return __builtin_bswap64(x);
-}
-
-APART void own_reverse(uint64_t *w, size_t start, size_t len)
-{
-    size_t i = 0;
-    for (; 2 * (i + 64) <= len; i += 64) {
-        uint64_t x = read_at(w, start + i), y = read_at(w, start + len - i - 64);
-        write_at(w, start + i, turned(y));
-        write_at(w, start + len - i - 64, turned(x));
-    }
-    size_t half = (len - 2 * i) / 2;
-    if (half == 0)
-        return;
-    uint64_t x = read_number(w, start + i, half), y = read_number(w, start + len - i - half, half);
-    write_number(w, start + i, half, turned(y) >> (64 - half));
-    write_number(w, start + len - i - half, half, turned(x) >> (64 - half));
-}
-
-/* Word by word, from that end on where nothing is lost. */
-static inline void move(uint64_t *w, size_t from, size_t to, size_t len)
-{
-    if (len == 0)
-        return;
-    struct edges e = edges_of(to, len);
-    size_t shift = to % 64, next = from + 64 - shift, whole = e.last - e.first;
-    if (whole == 0) {
-        put(w, e.first, e.head & e.tail, read_number(w, from, len) << shift);
-        return;
-    }
-    if (from >= to) {
-        put(w, e.first, e.head, read_at(w, from) << shift);
-        for (size_t k = e.first + 1; k < e.last; k++, next += 64)
-            w[k] = read_at(w, next);
-        put(w, e.last, e.tail, read_at(w, next));
-        return;
-    }
-    next += (whole - 1) * 64;
-    put(w, e.last, e.tail, read_at(w, next));
-    for (size_t k = e.last - 1; k > e.first; k--) {
-        next -= 64;
-        w[k] = read_at(w, next);
-    }
-    put(w, e.first, e.head, read_at(w, from) << shift);
-}
-
-APART void own_move(uint64_t *w, size_t from, size_t to, size_t len) { move(w, from, to, len); }
-
-APART void own_rotate_left(uint64_t *w, size_t start, size_t len, size_t by)
-{
-    uint64_t held = read_number(w, start, by);
-    move(w, start + by, start, len - by);
-    write_number(w, start + len - by, by, held);
-}
-
-APART void own_rotate_right(uint64_t *w, size_t start, size_t len, size_t by)
-{
-    uint64_t held = read_number(w, start + len - by, by);
-    move(w, start, start + by, len - by);
-    write_number(w, start, by, held);
-}
-
-/* Each word y of the window becomes what it and the bits x of the other one make. */
-#define COMBINE(NAME, MADE)                                                                                            \
-    APART void own_##NAME(uint64_t *w, size_t start, size_t len, const uint64_t *o, size_t other)                      \
-    {                                                                                                                  \
-        struct edges e = edges_of(start, len);                                                                         \
-        size_t from = other + 64 - start % 64;                                                                         \
-        uint64_t x = read_at(o, other) << start % 64, y = w[e.first];                                                  \
-        if (e.first == e.last) {                                                                                       \
-            put(w, e.first, e.head & e.tail, MADE);                                                                    \
-            return;                                                                                                    \
-        }                                                                                                              \
-        put(w, e.first, e.head, MADE);                                                                                 \
-        for (size_t k = e.first + 1; k < e.last; k++, from += 64) {                                                    \
-            x = read_at(o, from);                                                                                      \
-            y = w[k];                                                                                                  \
-            w[k] = MADE;                                                                                               \
-        }                                                                                                              \
-        x = read_at(o, from);                                                                                          \
-        y = w[e.last];                                                                                                 \
-        put(w, e.last, e.tail, MADE);                                                                                  \
-    }
-
-COMBINE(copy, ((void)y, x))
-COMBINE(and, x & y)
-COMBINE(or, x | y)
-COMBINE(xor, x ^ y)
-
-/* --- each call, by the library and by its loop */
+/* The library's call over words of the type WORD. */
+#define CALL_uint64_t(NAME) bits_u64_lsb0_##NAME
+#define CALL_uint8_t(NAME) bits_u8_lsb0_##NAME
+#define CALL_BY(WORD) CALL_OF(WORD)
+#define CALL_OF(WORD) CALL_##WORD
+#define LIBRARY(NAME) CALL_BY(WORD)(NAME)
 
 struct window {
-    uint64_t *words, *other;
+    word *words, *other;
     size_t count, start, other_start, len;
 };
 
@@ -302,7 +114,7 @@ struct window {
     {                                                                                                                  \
         TYPE answer = 0;                                                                                               \
         (void)n;                                                                                                       \
-        return bits_u64_lsb0_##NAME(WINDOW, &answer) == BITS_OK ? (uint64_t)answer : NOWHERE;                          \
+        return LIBRARY(NAME)(WINDOW, &answer) == BITS_OK ? (uint64_t)answer : NOWHERE;                                 \
     }                                                                                                                  \
     APART uint64_t own_##NAME##_call(const struct window *v, uint64_t n)                                               \
     {                                                                                                                  \
@@ -314,7 +126,7 @@ struct window {
     {                                                                                                                  \
         TYPE answer = 0;                                                                                               \
         (void)n;                                                                                                       \
-        return bits_u64_lsb0_##NAME(WINDOW, OTHER, v->len, &answer) == BITS_OK ? (uint64_t)answer : NOWHERE;           \
+        return LIBRARY(NAME)(WINDOW, OTHER, v->len, &answer) == BITS_OK ? (uint64_t)answer : NOWHERE;                  \
     }                                                                                                                  \
     APART uint64_t own_##NAME##_call(const struct window *v, uint64_t n)                                               \
     {                                                                                                                  \
@@ -322,11 +134,11 @@ struct window {
         return (uint64_t)own_##NAME(v->words, v->start, v->len, v->other, v->other_start);                             \
     }
 /* n is the number of the call. */
-#define CHANGES(NAME, LIBRARY, OWN)                                                                                    \
+#define CHANGES(NAME, GIVEN, OWN)                                                                                      \
     APART uint64_t lib_##NAME##_call(const struct window *v, uint64_t n)                                               \
     {                                                                                                                  \
         (void)n;                                                                                                       \
-        return bits_u64_lsb0_##NAME LIBRARY;                                                                           \
+        return LIBRARY(NAME) GIVEN;                                                                                    \
     }                                                                                                                  \
     APART uint64_t own_##NAME##_call(const struct window *v, uint64_t n)                                               \
     {                                                                                                                  \
@@ -340,7 +152,7 @@ struct window {
 APART uint64_t lib_get_call(const struct window *v, uint64_t n)
 {
     uint8_t bit = 0;
-    return bits_u64_lsb0_get(MEMORY, v->start + n % 64, &bit) == BITS_OK ? bit : NOWHERE;
+    return LIBRARY(get)(MEMORY, v->start + n % 64, &bit) == BITS_OK ? bit : NOWHERE;
 }
 APART uint64_t own_get_call(const struct window *v, uint64_t n) { return own_get(v->words, v->start + n % 64); }
 CHANGES(set, (MEMORY, v->start + n % 64, n & 64), own_set(v->words, v->start + n % 64, n & 64))
@@ -409,15 +221,15 @@ static uint64_t chance(void)
 
 static struct window window_of(size_t len, size_t start, size_t other_start, enum content content)
 {
-    struct window v = {NULL, NULL, len / 64 + SPARE, start, other_start, len};
+    struct window v = {NULL, NULL, (len / 64 + SPARE) * (64 / B), start, other_start, len};
     v.words = calloc(v.count, sizeof *v.words);
     v.other = calloc(v.count, sizeof *v.other);
     if (v.words == NULL || v.other == NULL)
         exit(2);
     state = len;
-    for (size_t k = 0; k < v.count; k++) {
-        v.words[k] = content == ZEROS ? 0 : content == ONES ? ALL : chance();
-        v.other[k] = chance();
+    for (size_t k = 0; k < len / 64 + SPARE; k++) {
+        store_block(BLOCK(v.words, k), content == ZEROS ? 0 : content == ONES ? ALL : chance());
+        store_block(BLOCK(v.other, k), chance());
     }
     for (size_t i = 0; content == ALIKE && i < len; i++)
         own_set(v.other, other_start + i, own_get(v.words, start + i));
@@ -444,7 +256,7 @@ static bool times(size_t number, size_t len, size_t start, size_t other_start)
         took = round_of(calls[number].own, &own, rounds_calls, &sums[1]);
         best[1] = took < best[1] ? took : best[1];
     }
-    bool same = sums[0] == sums[1] && memcmp(library.words, own.words, library.count * 8) == 0;
+    bool same = sums[0] == sums[1] && memcmp(library.words, own.words, library.count * sizeof(word)) == 0;
     printf("%s %zu %zu %zu %.3f %.3f%s\n", calls[number].name, len, start, other_start, best[0], best[1],
            same ? "" : " differ");
     free(library.words);

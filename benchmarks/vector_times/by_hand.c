@@ -1,4 +1,4 @@
-/* The calls of vector_times by plain loops over words, under Lsb0. */
+/* The calls of vector_times by the loops of by_blocks.h, under Lsb0. */
 #include <stdint.h>
 #include <stdio.h>
 #include <stdlib.h>
@@ -9,18 +9,19 @@
 #define WORD uint64_t
 #define NAME "u64"
 #endif
-typedef WORD word;
+#include "../by_blocks.h"
 typedef uint64_t u64;
-#define B (8 * sizeof(word))
 #define APART __attribute__((noinline))
 
-/* Bits in words that were asked for; those behind the last bit may be anything. */
+/* Bits in words that were allocated, whole blocks of them, 64 bytes at least; those behind the last bit may be anything.
+   `room` counts words. */
 typedef struct { word *w; size_t len, room; } vector;
 
 static size_t words_of(size_t bits) { return (bits + B - 1) / B; }
 static void grow(vector *v, size_t words) {
   if (words <= v->room) return;
-  v->room = words > 2 * v->room ? words : 2 * v->room;
+  size_t room = words > 2 * v->room ? words : 2 * v->room;
+  v->room = room < 512 / B ? 512 / B : (room + 64 / B - 1) / (64 / B) * (64 / B);
   v->w = realloc(v->w, v->room * sizeof(word));
   if (v->w == NULL) exit(1);
 }
@@ -28,10 +29,9 @@ static inline void push(vector *v, int bit) {
   size_t k = v->len / B, at = v->len % B;
   if (at == 0) {
     grow(v, k + 1);
-    v->w[k] = 0;
-  }
-  word one = (word)((word)1 << at);
-  v->w[k] = bit ? v->w[k] | one : v->w[k] & ~one;
+    v->w[k] = (word)bit;
+  } else
+    v->w[k] = (word)((v->w[k] & ~((word)1 << at)) | (word)bit << at);
   v->len++;
 }
 /* What is made is used, and goes. */
@@ -41,11 +41,7 @@ static void drop(vector *v) {
 }
 static inline int bit_of(const vector *v, size_t i) { return v->w[i / B] >> i % B & 1; }
 
-APART u64 equal(vector *v, vector *o, unsigned call) {
-  size_t whole = v->len / B, rest = v->len % B;
-  if (v->len != o->len || memcmp(v->w, o->w, whole * sizeof(word))) return 0;
-  return rest == 0 || (word)((v->w[whole] ^ o->w[whole]) << (B - rest)) == 0;
-}
+APART u64 equal(vector *v, vector *o, unsigned call) { return v->len == o->len && same_bits(v->w, 0, o->w, 0, v->len); }
 APART u64 clone(vector *v, vector *o, unsigned call) {
   vector made = {NULL, v->len, 0};
   grow(&made, words_of(v->len));
@@ -59,44 +55,44 @@ APART u64 pushed(vector *v, vector *o, unsigned call) {
   drop(&made);
   return made.len;
 }
+/* The length is known: room for all, and each word is put together from its bits. These are read one by one, as from any
+   iterator: no compiler may see that they come from a word that could be copied. */
+static inline word next_bit(const vector *v, size_t i) {
+  word bit = (word)bit_of(v, i);
+  __asm__("" : "+r"(bit));
+  return bit;
+}
 APART u64 collect(vector *v, vector *o, unsigned call) {
   vector made = {NULL, 0, 0};
-  for (size_t i = 0; i < o->len; i++) push(&made, bit_of(o, i));
+  grow(&made, words_of(o->len));
+  for (; made.len + B <= o->len; made.len += B) {
+    word x = 0;
+    for (size_t j = 0; j < B; j++) x |= (word)(next_bit(o, made.len + j) << j);
+    made.w[made.len / B] = x;
+  }
+  while (made.len < o->len) push(&made, (int)next_bit(o, made.len));
   drop(&made);
   return made.len;
 }
 /* A bit put in, and the others behind it moved up by one; and taken out. */
 APART u64 insert_remove(vector *v, vector *o, unsigned call) {
-  size_t at = v->len / 2, first = at / B, last = v->len / B;
-  word below = (word)(((word)1 << at % B) - 1);
-  grow(v, last + 1);
-  if (v->len % B == 0) v->w[last] = 0;
-  for (size_t k = last; k > first; k--) v->w[k] = (word)(v->w[k] << 1 | v->w[k - 1] >> (B - 1));
-  word one = (word)((word)(call % 2 == 0) << at % B);
-  v->w[first] = (word)((v->w[first] & below) | one | (word)((v->w[first] & ~below) << 1));
-  u64 taken = v->w[first] >> at % B & 1;
-  word above = (word)(v->w[first] >> 1 & ~below);
-  for (size_t k = first; k < last; k++) {
-    v->w[k] = (word)((k == first ? (v->w[k] & below) | above : (word)(v->w[k] >> 1)) | (word)(v->w[k + 1] << (B - 1)));
-  }
-  if (last > first) v->w[last] >>= 1;
-  else v->w[last] = (v->w[last] & below) | above;
+  size_t at = v->len / 2, first = at / 64, last = v->len / 64;
+  grow(v, words_of(v->len + 1));
+  word *w = v->w;
+  u64 below = ((u64)1 << at % 64) - 1, x = block(w, first);
+  for (size_t k = last; k > first; k--) store_block(BLOCK(w, k), block(w, k) << 1 | block(w, k - 1) >> 63);
+  store_block(BLOCK(w, first), (x & below) | (u64)(call % 2 == 0) << at % 64 | (x & ~below) << 1);
+  x = block(w, first);
+  u64 taken = x >> at % 64 & 1, next = first < last ? block(w, first + 1) << 63 : 0;
+  store_block(BLOCK(w, first), (x & below) | (x >> 1 & ~below) | next);
+  for (size_t k = first + 1; k < last; k++) store_block(BLOCK(w, k), block(w, k) >> 1 | block(w, k + 1) << 63);
+  if (first < last) store_block(BLOCK(w, last), block(w, last) >> 1);
   return taken;
 }
 APART u64 append(vector *v, vector *o, unsigned call) {
   v->len = o->len - 13;
-  size_t k = v->len / B, shift = v->len % B, words = words_of(o->len);
-  grow(v, words_of(v->len + o->len) + 1);
-  if (shift == 0) {
-    memcpy(v->w + k, o->w, words * sizeof(word));
-  } else {
-    word low = v->w[k] & (word)(((word)1 << shift) - 1);
-    for (size_t i = 0; i < words; i++) {
-      v->w[k + i] = (word)(low | (word)(o->w[i] << shift));
-      low = (word)(o->w[i] >> (B - shift));
-    }
-    v->w[k + words] = low;
-  }
+  grow(v, words_of(v->len + o->len));
+  copy_bits(v->w, v->len, o->w, 0, o->len);
   v->len += o->len;
   return v->len;
 }

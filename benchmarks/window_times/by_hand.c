@@ -1,4 +1,4 @@
-/* The calls of window_times by plain loops over words, under Lsb0: one word after the other, with masks at the edges. */
+/* The calls of window_times by the loops of by_blocks.h, under Lsb0. */
 #include <stdint.h>
 #include <stdio.h>
 #include <stdlib.h>
@@ -9,272 +9,116 @@
 #define WORD uint64_t
 #define NAME "u64"
 #endif
-typedef WORD word;
+#include "../by_blocks.h"
 typedef uint64_t u64;
-#define B (8 * sizeof(word))
-#define ALL ((word) ~(word)0)
 #define APART __attribute__((noinline))
 
 /* Bits of some words, from a place on. */
 typedef struct { word *w; size_t place, len; } window;
 
-/* The words that a window touches: the first and the last, and a mask of each. */
-typedef struct { size_t first, last; word head, tail; } edges;
-static inline edges edges_of(size_t place, size_t len) {
-  size_t end = place + len - 1;
-  return (edges){place / B, end / B, (word)(ALL << place % B), (word)(ALL >> (B - 1 - end % B))};
-}
-/* The bits of a word from a place on. */
-static inline word read_at(const word *w, size_t place) {
-  size_t k = place / B, shift = place % B;
-  return shift ? (word)(w[k] >> shift | w[k + 1] << (B - shift)) : w[k];
-}
-static inline void put(word *w, size_t k, word mask, word x) { w[k] = (w[k] & ~mask) | (x & mask); }
-static inline void write_at(word *w, size_t place, word x) {
-  size_t k = place / B, shift = place % B;
-  if (shift == 0) {
-    w[k] = x;
-    return;
-  }
-  put(w, k, (word)(ALL << shift), (word)(x << shift));
-  put(w, k + 1, (word)(ALL >> (B - shift)), (word)(x >> (B - shift)));
-}
-/* Up to 64 bits as a number, the first one its lowest digit. */
-static inline u64 read_number(const word *w, size_t place, size_t count) {
-  u64 x = 0;
-  for (size_t got = 0; got < count;) {
-    size_t shift = (place + got) % B, n = count - got < B - shift ? count - got : B - shift;
-    x |= (u64)((word)(w[(place + got) / B] >> shift) & (word)(ALL >> (B - n))) << got;
-    got += n;
-  }
-  return x;
-}
-static inline void write_number(word *w, size_t place, size_t count, u64 x) {
-  for (size_t done = 0; done < count;) {
-    size_t shift = (place + done) % B, n = count - done < B - shift ? count - done : B - shift;
-    put(w, (place + done) / B, (word)((word)(ALL >> (B - n)) << shift), (word)((word)(x >> done) << shift));
-    done += n;
-  }
-}
-
 /* ---- calls that read */
 
-APART u64 count_ones(window v, window o, u64 call) {
-  edges e = edges_of(v.place, v.len);
-  if (e.first == e.last) return call + __builtin_popcountll(v.w[e.first] & e.head & e.tail);
-  u64 sum = call + __builtin_popcountll(v.w[e.first] & e.head);
-  for (size_t k = e.first + 1; k < e.last; k++) sum += __builtin_popcountll(v.w[k]);
-  return sum + __builtin_popcountll(v.w[e.last] & e.tail);
+APART u64 count_ones(window v, window o, u64 call) { return call + count_bits(v.w, v.place, v.len); }
+/* Where there is no such bit, a number of its own is the answer. */
+APART u64 first_one(window v, window o, u64 call) {
+  size_t first = first_bit(v.w, v.place, v.len, 0);
+  return call + (first == v.len ? 1000003 : first);
 }
-/* The first bit that is 1 of the words, each flipped by a mask: none is a number of its own. */
-static inline size_t first_bit(window v, word flip) {
-  edges e = edges_of(v.place, v.len);
-  word x = (v.w[e.first] ^ flip) & e.head;
-  if (e.first == e.last) x &= e.tail;
-  if (x) return e.first * B + __builtin_ctzll(x) - v.place;
-  if (e.first == e.last) return 1000003;
-  for (size_t k = e.first + 1; k < e.last; k++) {
-    x = v.w[k] ^ flip;
-    if (x) return k * B + __builtin_ctzll(x) - v.place;
-  }
-  x = (v.w[e.last] ^ flip) & e.tail;
-  return x ? e.last * B + __builtin_ctzll(x) - v.place : 1000003;
-}
-APART u64 first_one(window v, window o, u64 call) { return call + first_bit(v, 0); }
-APART u64 all_ones(window v, window o, u64 call) { return call + (first_bit(v, ALL) == 1000003); }
-APART u64 iter_ones(window v, window o, u64 call) {
-  edges e = edges_of(v.place, v.len);
-  u64 sum = call;
-  for (size_t k = e.first; k <= e.last; k++) {
-    word x = v.w[k];
-    if (k == e.first) x &= e.head;
-    if (k == e.last) x &= e.tail;
-    for (; x; x &= x - 1) sum += k * B + __builtin_ctzll(x) - v.place;
-  }
+APART u64 all_ones(window v, window o, u64 call) { return call + (first_bit(v.w, v.place, v.len, ALL) == v.len); }
+static inline u64 sum_of_ones(u64 x, size_t from) {
+  u64 sum = 0;
+  for (; x; x &= x - 1) sum += from + __builtin_ctzll(x);
   return sum;
 }
-/* The first word in which two windows differ, as the bits that do; none is 0. */
-static inline word first_other(window v, window o, size_t *at) {
-  edges e = edges_of(v.place, v.len);
-  size_t from = o.place + B - v.place % B;
-  word x = (word)(v.w[e.first] ^ (word)(read_at(o.w, o.place) << v.place % B)) & e.head;
-  *at = e.first;
-  if (e.first == e.last) return x & e.tail;
-  if (x) return x;
-  for (size_t k = e.first + 1; k < e.last; k++, from += B)
-    if (v.w[k] != read_at(o.w, from)) {
-      *at = k;
-      return v.w[k] ^ read_at(o.w, from);
-    }
-  *at = e.last;
-  return (v.w[e.last] ^ read_at(o.w, from)) & e.tail;
+APART u64 iter_ones(window v, window o, u64 call) {
+  struct parts p = parts_of(v.place, v.len);
+  const word *m = v.w + (v.place + p.head) / B;
+  u64 sum = call;
+  if (p.head) sum += sum_of_ones(read_bits(v.w, v.place, p.head), 0);
+  for (size_t k = 0; k < p.blocks; k++) sum += sum_of_ones(block(m, k), p.head + 64 * k);
+  if (p.tail) sum += sum_of_ones(read_bits(m, 64 * p.blocks, p.tail), p.head + 64 * p.blocks);
+  return sum;
 }
-APART u64 eq_bits(window v, window o, u64 call) {
-  size_t at;
-  return call + (first_other(v, o, &at) == 0);
-}
+APART u64 eq_bits(window v, window o, u64 call) { return call + same_bits(v.w, v.place, o.w, o.place, v.len); }
 /* Whether the first bits that differ are 0 and 1 (-1), 1 and 0 (1), or none differ (0). */
 static APART int compared(window v, window o) {
-  size_t at;
-  word x = first_other(v, o, &at);
-  if (x == 0) return 0;
-  return v.w[at] & x & -x ? 1 : -1;
+  size_t at = mismatch(v.w, v.place, o.w, o.place, v.len);
+  if (at == v.len) return 0;
+  return v.w[(v.place + at) / B] >> (v.place + at) % B & 1 ? 1 : -1;
 }
 APART u64 cmp_bits(window v, window o, u64 call) { return call + (compared(v, o) == 0); }
 
 /* ---- calls that write */
 
-APART u64 fill(window v, window o, u64 call) {
-  edges e = edges_of(v.place, v.len);
-  word x = call % 2 == 0 ? ALL : 0;
-  if (e.first == e.last) {
-    put(v.w, e.first, e.head & e.tail, x);
-    return call;
-  }
-  put(v.w, e.first, e.head, x);
-  for (size_t k = e.first + 1; k < e.last; k++) v.w[k] = x;
-  put(v.w, e.last, e.tail, x);
-  return call;
-}
-APART u64 invert(window v, window o, u64 call) {
-  edges e = edges_of(v.place, v.len);
-  if (e.first == e.last) {
-    v.w[e.first] ^= e.head & e.tail;
-    return call;
-  }
-  v.w[e.first] ^= e.head;
-  for (size_t k = e.first + 1; k < e.last; k++) v.w[k] = ~v.w[k];
-  v.w[e.last] ^= e.tail;
-  return call;
-}
-/* Each word y of the first window becomes what it and the bits x of the other one make. */
-#define COMBINE(CALL, MADE)                                              \
-  APART u64 CALL(window v, window o, u64 call) {                         \
-    edges e = edges_of(v.place, v.len);                                  \
-    size_t from = o.place + B - v.place % B;                             \
-    word x = (word)(read_at(o.w, o.place) << v.place % B);               \
-    word y = v.w[e.first];                                               \
-    if (e.first == e.last) {                                             \
-      put(v.w, e.first, e.head & e.tail, MADE);                          \
-      return call;                                                       \
-    }                                                                    \
-    put(v.w, e.first, e.head, MADE);                                     \
-    for (size_t k = e.first + 1; k < e.last; k++, from += B) {           \
-      x = read_at(o.w, from);                                            \
-      y = v.w[k];                                                        \
-      v.w[k] = MADE;                                                     \
-    }                                                                    \
-    x = read_at(o.w, from);                                              \
-    y = v.w[e.last];                                                     \
-    put(v.w, e.last, e.tail, MADE);                                      \
-    return call;                                                         \
-  }
-COMBINE(and_bits, x & y)
-COMBINE(or_bits, x | y)
-COMBINE(xor_bits, x ^ y)
-COMBINE(copy, x)
-APART u64 swap_with(window v, window o, u64 call) {
-  size_t i = 0;
-  for (; i + B <= v.len; i += B) {
-    word x = read_at(v.w, v.place + i), y = read_at(o.w, o.place + i);
-    write_at(v.w, v.place + i, y);
-    write_at(o.w, o.place + i, x);
-  }
-  u64 x = read_number(v.w, v.place + i, v.len - i), y = read_number(o.w, o.place + i, v.len - i);
-  write_number(v.w, v.place + i, v.len - i, y);
-  write_number(o.w, o.place + i, v.len - i, x);
-  return call;
-}
-/* Bits moved, overlap allowed: word by word from that end on where none is lost. */
-static inline void move(word *w, size_t from, size_t to, size_t len) {
-  if (len == 0) return;
-  edges e = edges_of(to, len);
-  size_t shift = to % B, next = from + B - shift, whole = e.last - e.first;
-  if (from >= to) {
-    put(w, e.first, whole ? e.head : e.head & e.tail, (word)(read_at(w, from) << shift));
-    if (whole == 0) return;
-    for (size_t k = e.first + 1; k < e.last; k++, next += B) w[k] = read_at(w, next);
-    put(w, e.last, e.tail, read_at(w, next));
-    return;
-  }
-  if (whole) {
-    next += (whole - 1) * B;
-    put(w, e.last, e.tail, read_at(w, next));
-    for (size_t k = e.last - 1; k > e.first; k--) {
-      next -= B;
-      w[k] = read_at(w, next);
-    }
-  }
-  put(w, e.first, whole ? e.head : e.head & e.tail, (word)(read_at(w, from) << shift));
-}
 #define PLACES 61
-APART u64 copy_down(window v, window o, u64 call) {
-  move(v.w, v.place + PLACES, v.place, v.len - PLACES);
-  return call;
-}
-APART u64 copy_up(window v, window o, u64 call) {
-  move(v.w, v.place, v.place + PLACES, v.len - PLACES);
-  return call;
-}
-APART u64 rotate_left(window v, window o, u64 call) {
-  u64 held = read_number(v.w, v.place, PLACES);
-  move(v.w, v.place + PLACES, v.place, v.len - PLACES);
-  write_number(v.w, v.place + v.len - PLACES, PLACES, held);
-  return call;
-}
+#define WRITES(CALL, WORK)                       \
+  APART u64 CALL(window v, window o, u64 call) { \
+    WORK;                                        \
+    return call;                                 \
+  }
+WRITES(fill, fill_bits(v.w, v.place, v.len, call % 2 == 0))
+WRITES(invert, invert_bits(v.w, v.place, v.len))
+WRITES(and_bits, combine_and(v.w, v.place, o.w, o.place, v.len))
+WRITES(or_bits, combine_or(v.w, v.place, o.w, o.place, v.len))
+WRITES(xor_bits, combine_xor(v.w, v.place, o.w, o.place, v.len))
+WRITES(copy, copy_bits(v.w, v.place, o.w, o.place, v.len))
+WRITES(swap_with, swap_bits(v.w, v.place, o.w, o.place, v.len))
+WRITES(copy_down, move_bits(v.w, v.place + PLACES, v.place, v.len - PLACES))
+WRITES(copy_up, move_bits(v.w, v.place, v.place + PLACES, v.len - PLACES))
+WRITES(reverse, reverse_bits(v.w, v.place, v.len))
+WRITES(rotate_left, rotate_bits_left(v.w, v.place, v.len, PLACES))
+WRITES(rotate_third, rotate_bits_left(v.w, v.place, v.len, v.len / 3))
 APART u64 shift_left(window v, window o, u64 call) {
-  move(v.w, v.place + PLACES, v.place, v.len - PLACES);
-  write_number(v.w, v.place + v.len - PLACES, PLACES, 0);
+  move_bits(v.w, v.place + PLACES, v.place, v.len - PLACES);
+  write_bits(v.w, v.place + v.len - PLACES, PLACES, 0);
   return call;
 }
 APART u64 shift_right(window v, window o, u64 call) {
-  move(v.w, v.place, v.place + PLACES, v.len - PLACES);
-  write_number(v.w, v.place, PLACES, 0);
-  return call;
-}
-static inline u64 turned(u64 x) {
-  x = (x >> 1 & 0x5555555555555555) | (x & 0x5555555555555555) << 1;
-  x = (x >> 2 & 0x3333333333333333) | (x & 0x3333333333333333) << 2;
-  x = (x >> 4 & 0x0f0f0f0f0f0f0f0f) | (x & 0x0f0f0f0f0f0f0f0f) << 4;
-  return __builtin_bswap64(x);
-}
-static inline void turn(word *w, size_t place, size_t len) {
-  size_t i = 0;
-  for (; 2 * (i + B) <= len; i += B) {
-    word x = read_at(w, place + i), y = read_at(w, place + len - i - B);
-    write_at(w, place + i, (word)(turned(y) >> (64 - B)));
-    write_at(w, place + len - i - B, (word)(turned(x) >> (64 - B)));
-  }
-  size_t half = (len - 2 * i) / 2;
-  if (half == 0) return;
-  u64 x = read_number(w, place + i, half), y = read_number(w, place + len - i - half, half);
-  write_number(w, place + i, half, turned(y) >> (64 - half));
-  write_number(w, place + len - i - half, half, turned(x) >> (64 - half));
-}
-APART u64 reverse(window v, window o, u64 call) {
-  turn(v.w, v.place, v.len);
-  return call;
-}
-APART u64 rotate_third(window v, window o, u64 call) {
-  size_t by = v.len / 3;
-  turn(v.w, v.place, by);
-  turn(v.w, v.place + by, v.len - by);
-  turn(v.w, v.place, v.len);
+  move_bits(v.w, v.place, v.place + PLACES, v.len - PLACES);
+  write_bits(v.w, v.place, PLACES, 0);
   return call;
 }
 
-/* ---- fields */
+/* ---- fields: those of which all blocks lie in the window's words go by these, and the last ones by read_bits */
 
 static inline u64 load(window v, size_t width, u64 call) {
+  const word *m = v.w + v.place / B;
+  size_t s = v.place % B, fields = v.len / width, bytes = (s + fields * width + B - 1) / B * sizeof(word), k = 0;
   u64 sum = call;
-  for (size_t k = 0; k < v.len / width; k++) sum += read_number(v.w, v.place + k * width, width);
+  if (width == 64) {
+    if (s == 0)
+      for (; k < fields; k++) sum += block(m, k);
+    else
+      for (; k < fields; k++) sum += shifted(m, k, s);
+    return sum;
+  }
+  /* A field of up to 57 bits lies in the eight bytes from its first one on. */
+  for (size_t at = s; k < fields && at / 8 + 8 <= bytes; k++, at += width) {
+    u64 x;
+    memcpy(&x, (const char *)m + at / 8, 8);
+    sum += x >> at % 8 & ALL >> (64 - width);
+  }
+  for (; k < fields; k++) sum += read_bits(m, s + k * width, width);
   return sum;
 }
 static inline u64 store(window v, size_t width, u64 call) {
-  u64 value = call;
-  for (size_t k = 0; k < v.len / width; k++) {
+  word *m = v.w + v.place / B;
+  size_t s = v.place % B, fields = v.len / width, bits = (s + fields * width) / 64 * 64, k = 0;
+  u64 value = call, mask = ALL >> (64 - width);
+  for (size_t at = s; k < fields && at + width <= bits; k++, at += width) {
+    size_t shift = at % 64;
+    word *w = BLOCK(m, at / 64);
     value += 0x9e3779b97f4a7c15;
-    write_number(v.w, v.place + k * width, width, value);
+    u64 x = value & mask;
+    store_block(w, (load_block(w) & ~(mask << shift)) | x << shift);
+    if (shift + width > 64) {
+      w = BLOCK(w, 1);
+      store_block(w, (load_block(w) & ~(mask >> (64 - shift))) | x >> (64 - shift));
+    }
+  }
+  for (; k < fields; k++) {
+    value += 0x9e3779b97f4a7c15;
+    write_bits(m, s + k * width, width, value);
   }
   return call;
 }
@@ -285,26 +129,33 @@ APART u64 store_7(window v, window o, u64 call) { return store(v, 7, call); }
 APART u64 store_17(window v, window o, u64 call) { return store(v, 17, call); }
 APART u64 store_64(window v, window o, u64 call) { return store(v, 64, call); }
 
-/* ---- bits of 64 under Lsb0 copied into bytes under Msb0, a byte at a time */
+/* ---- bits of 64 under Lsb0 copied into bytes under Msb0, 64 at a time: the bits of each byte in reverse */
 
 static u64 source[15700];
-static inline unsigned char bits_at(size_t place) {
-  size_t k = place / 64, shift = place % 64;
-  u64 x = source[k] >> shift;
-  if (shift > 56) x |= source[k + 1] << (64 - shift);
-  return (unsigned char)(turned(x) >> 56);
+static inline u64 source_bits(size_t place, size_t len) {
+  size_t k = place / 64, s = place % 64;
+  u64 x = source[k] >> s;
+  if (s + len > 64) x |= source[k + 1] << (64 - s);
+  return x & ALL >> (64 - len);
+}
+static inline void put_reversed(word *w, size_t s, size_t len, u64 x) {
+  u64 mask = ALL >> (64 - len) << s;
+  store_some(w, s + len, bytes_reversed((bytes_reversed(load_some(w, s + len)) & ~mask) | (x << s & mask)));
 }
 APART u64 copy_words(window v, window o, u64 call) {
-  unsigned char *w = (unsigned char *)v.w;
-  size_t end = v.place + v.len - 1, first = v.place / 8, last = end / 8, shift = v.place % 8, from = 29 + 8 - shift;
-  unsigned char head = 0xff >> shift, tail = (unsigned char)(0xff << (7 - end % 8)), x = bits_at(29) >> shift;
-  if (first == last) {
-    w[first] = (w[first] & ~(head & tail)) | (x & head & tail);
-    return call;
-  }
-  w[first] = (w[first] & ~head) | (x & head);
-  for (size_t k = first + 1; k < last; k++, from += 8) w[k] = bits_at(from);
-  w[last] = (w[last] & ~tail) | (bits_at(from) & tail);
+  word *m = v.w + v.place / B;
+  size_t from = 29, s = v.place % B, head = s == 0 ? 0 : s + v.len < 64 ? v.len : 64 - s, blocks = (v.len - head) / 64;
+  if (head) put_reversed(m, s, head, source_bits(from, head));
+  m += (s + head) / B;
+  from += head;
+  const u64 *n = source + from / 64;
+  size_t d = from % 64;
+  if (d == 0)
+    for (size_t k = 0; k < blocks; k++) store_block(BLOCK(m, k), bytes_reversed(n[k]));
+  else
+    for (size_t k = 0; k < blocks; k++) store_block(BLOCK(m, k), bytes_reversed(n[k] >> d | n[k + 1] << (64 - d)));
+  size_t tail = (v.len - head) % 64;
+  if (tail) put_reversed(BLOCK(m, blocks), 0, tail, source_bits(from + 64 * blocks, tail));
   return call;
 }
 
@@ -323,7 +174,8 @@ static inline int bit_at(window v, size_t i) {
 static inline void set_at(window v, size_t i, int bit) {
   size_t at = (v.place + i) % B;
   word one = (word)((word)1 << (msb0 ? B - 1 - at : at));
-  put(v.w, (v.place + i) / B, one, bit ? one : 0);
+  word *w = v.w + (v.place + i) / B;
+  *w = bit ? *w | one : *w & ~one;
 }
 static u64 mixed(window v) {
   u64 mixed = 1;

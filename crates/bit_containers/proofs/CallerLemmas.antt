@@ -6,7 +6,7 @@ use Rattle.std.proofs.Common.{◌≡◌, ℕ, ◌+◌, Bool, Bor, List, [], ◌�
 use Rattle.std.specs.Fn.{Mut}
 use Rattle.std.specs.List.{items_where_true}
 use Rattle.std.specs.List.Retain.{ReturnsInTurn}
-use Rattle.bit_slice_splits.specs.Ways.{Asked}
+use Rattle.bit_slice.specs.Ways.{Asked}
 use Rattle.bit_containers.specs.Retained.{Keeps, answers_of}
 pub use Rattle.bit_containers_vector.proofs.CallerLemmas.{vec_short, vec_inside, room_holds, room_left}
 

@@ -11,8 +11,8 @@ use Rattle.std.proofs.lemmas.Bool.{cases_eq}
 use Rattle.std.proofs.lemmas.List.{places, same_lists, get_or-drop, length-take-le}
 use Rattle.std.specs.List.{items_where_true}
 use Rattle.std.specs.List.Retain.{ReturnsInTurn}
-use Rattle.bit_addressing_memory.specs.Memory.{Reading, memory, piece, with_piece}
-use Rattle.bit_addressing_memory.proofs.MemoryLemmas.{length-memory, memory-take}
+use Rattle.bit_slice.specs.Memory.{Reading, memory, piece, with_piece}
+use Rattle.bit_slice.proofs.MemoryLemmas.{length-memory, memory-take}
 use Rattle.bit_containers_vector.specs.Count.{words_for}
 use Rattle.bit_containers_vector.specs.Vector.{Shortens, vec_bits, vec_frame, vec_head, visible}
 use Rattle.bit_containers_vector.specs.declared.vector.BitVec.{BitVec}

@@ -17,31 +17,31 @@ pub use Rattle.bit_containers_box.specs.Box
 pub use Rattle.bit_containers_box.specs.Fill as BoxFill
 pub use Rattle.bit_containers_box.specs.Left as BoxLeft
 pub use Rattle.bit_containers_box.specs.Lending as BoxLending
-pub use Rattle.bit_slice_views.specs.BitRef
-pub use Rattle.bit_slice_views.specs.Compare
-pub use Rattle.bit_slice_views.specs.Ends
-pub use Rattle.bit_slice_views.specs.Parts as DomainParts
-pub use Rattle.bit_slice_views.specs.Texts
-pub use Rattle.bit_slice_views.specs.View
-pub use Rattle.bit_slice_views_mut.specs.Combined
-pub use Rattle.bit_slice_views_mut.specs.Frame
-pub use Rattle.bit_slice_views_mut.specs.Pair
-pub use Rattle.bit_slice_views_mut.specs.Parts
-pub use Rattle.bit_slice_views_mut.specs.ViewMut
-pub use Rattle.bit_slice_access.specs.BitMut
-pub use Rattle.bit_slice_access.specs.Fills
-pub use Rattle.bit_slice_access.specs.Part
-pub use Rattle.bit_slice_access.specs.PartLender
-pub use Rattle.bit_slice_access.specs.Shows
-pub use Rattle.bit_slice_iterators.specs.Indices
-pub use Rattle.bit_slice_splits.specs.Ways
-pub use Rattle.bit_slice_words.specs.Found
-pub use Rattle.bit_slice_words.specs.PathLaws
-pub use Rattle.bit_slice_words.specs.Steps
-pub use Rattle.bit_addressing_memory.specs.BitOrder
-pub use Rattle.bit_addressing_memory.specs.BitRegister
-pub use Rattle.bit_addressing_memory.specs.Memory
-pub use Rattle.bit_addressing_memory.specs.Moves
-pub use Rattle.bit_addressing_memory.specs.OrderLaws
-pub use Rattle.bit_addressing_memory.specs.Sweep
-pub use Rattle.bit_addressing_memory.specs.Ways as SweepWays
+pub use Rattle.bit_slice.specs.BitRef
+pub use Rattle.bit_slice.specs.Compare
+pub use Rattle.bit_slice.specs.Ends
+pub use Rattle.bit_slice.specs.DomainParts as DomainParts
+pub use Rattle.bit_slice.specs.Texts
+pub use Rattle.bit_slice.specs.View
+pub use Rattle.bit_slice.specs.Combined
+pub use Rattle.bit_slice.specs.Frame
+pub use Rattle.bit_slice.specs.Pair
+pub use Rattle.bit_slice.specs.Parts
+pub use Rattle.bit_slice.specs.ViewMut
+pub use Rattle.bit_slice.specs.BitMut
+pub use Rattle.bit_slice.specs.Fills
+pub use Rattle.bit_slice.specs.Part
+pub use Rattle.bit_slice.specs.PartLender
+pub use Rattle.bit_slice.specs.Shows
+pub use Rattle.bit_slice.specs.Indices
+pub use Rattle.bit_slice.specs.Ways
+pub use Rattle.bit_slice.specs.Found
+pub use Rattle.bit_slice.specs.PathLaws
+pub use Rattle.bit_slice.specs.Steps
+pub use Rattle.bit_slice.specs.BitOrder
+pub use Rattle.bit_slice.specs.BitRegister
+pub use Rattle.bit_slice.specs.Memory
+pub use Rattle.bit_slice.specs.Moves
+pub use Rattle.bit_slice.specs.OrderLaws
+pub use Rattle.bit_slice.specs.Sweep
+pub use Rattle.bit_slice.specs.SweepWays as SweepWays

@@ -3,10 +3,10 @@ use Rattle.std.specs.Prelude.{ℕ, ◌≡◌, ◌+◌, ◌*◌, Bool, List, [], 
 use Rattle.std.specs.Fn.{Mut}
 use Rattle.std.specs.List.Retain.{IsFiltered}
 use Rattle.std.proofs.Common.{Bor}
-use Rattle.bit_addressing_memory.specs.Memory.{Reading, memory, with_piece}
+use Rattle.bit_slice.specs.Memory.{Reading, memory, with_piece}
 use Rattle.bit_containers_vector.specs.Vector.{vec_bits, vec_head, visible, room}
 use Rattle.bit_containers_vector.specs.declared.vector.BitVec.{BitVec}
-use Rattle.bit_slice_splits.specs.Ways.{Asked}
+use Rattle.bit_slice.specs.Ways.{Asked}
 
 -- ys has the bits of xs at which the predicate, asked of each index and the bit there in turn, answered true
 abbrev pub Keeps : {F : Type 0} → Mut F (ℕ × (Bor Bool × Unit {0})) Bool → F → List Bool → List Bool → Type 0

@@ -1,14 +1,12 @@
 //! Vectors that keep the bits that a predicate chooses.
 
 ghost use Rattle.std.specs.Prelude.{◌≡◌, ◌≤◌, length, take, drop};
-ghost use Rattle.bit_addressing_memory.specs.Memory.{read_by};
+ghost use Rattle.bit_slice.specs.Memory.{read_by};
 ghost use Rattle.bit_containers.specs.Retained.{Keeps, LeavesFirst};
 ghost use Rattle.bit_containers_vector.specs.Vector.{vec_bits};
 
-use bit_addressing_memory::{BitOrder, BitRegister};
 use bit_containers_vector::BitVec;
-use bit_slice_views::{BitStore, Bits};
-use bit_slice_views_mut::BitsMut;
+use bit_slice::{BitOrder, BitRegister, BitStore, Bits, BitsMut};
 
 /// What lets go of the bits that a predicate does not choose. It takes no memory.
 pub trait Retain: Bits {

@@ -1,18 +1,17 @@
 //! Windows made into vectors of their own.
 
 ghost use Rattle.std.specs.Prelude.{◌≡◌, ℕ, ◌+◌, ◌*◌, ◌%◌, ◌^◌, ◌<◌, ◌≤◌, ◌++◌, length, replicate, IfOk};
-ghost use Rattle.bit_addressing_memory.specs.Memory.{read_by, Copies};
-ghost use Rattle.bit_addressing_span.specs.declared.span.TheConstants.{MAX_BITS};
+ghost use Rattle.bit_slice.specs.Memory.{read_by, Copies};
+ghost use Rattle.bit_slice.specs.SpanLimits.{MAX_BITS};
 ghost use Rattle.bit_containers.specs.Repeated.{repeated};
 ghost use Rattle.bit_containers_vector.specs.Count.{words_for};
 ghost use Rattle.bit_containers_vector.specs.Grown.{HoldsAlone};
 ghost use Rattle.bit_containers_vector.specs.Vector.{vec_bits, vec_head};
-ghost use Rattle.bit_slice_views.specs.View.{view_bits};
+ghost use Rattle.bit_slice.specs.View.{view_bits};
 
-use bit_addressing_memory::{BitOrder, BitRegister, mem};
 use bit_containers_vector::BitVec;
-use bit_slice_views::{BitSlice, BitStore, Bits};
-use bit_slice_views_mut::{BitSliceMut, copy_in};
+use bit_slice::words::copy_in;
+use bit_slice::{BitOrder, BitRegister, BitSlice, BitSliceMut, BitStore, Bits, mem};
 use std::alloc::{AllocError, Global};
 
 /// What windows make of themselves: vectors of their bits. Each call takes memory.
@@ -45,7 +44,7 @@ pub trait ToBits<T: BitStore, O: BitOrder<T>>: Bits<Store = T, Order = O> {
 }
 
 impl<'a, T: BitStore, O: BitOrder<T>> ToBits<T, O> for BitSlice<'a, T, O> {
-    ghost use Rattle.bit_slice_views.specs.View.{view_head};
+    ghost use Rattle.bit_slice.specs.View.{view_head};
 
     ghost head = { view_head };
 
@@ -55,7 +54,7 @@ impl<'a, T: BitStore, O: BitOrder<T>> ToBits<T, O> for BitSlice<'a, T, O> {
 }
 
 impl<'a, T: BitStore, O: BitOrder<T>> ToBits<T, O> for BitSliceMut<'a, T, O> {
-    ghost use Rattle.bit_slice_views_mut.specs.ViewMut.{lent_place};
+    ghost use Rattle.bit_slice.specs.ViewMut.{lent_place};
 
     ghost head = { λ view. lent_place view % T.BITS };
 

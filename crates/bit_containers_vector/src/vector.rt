@@ -100,6 +100,7 @@ impl<T: BitStore, O: BitOrder<T>> BitsMut for BitVec<T, O> {
 }
 
 // A function's work on words, which keeps how many there are.
+#[inline(always)]
 fn apply<T: BitRegister, A, F: FnOnce(&mut [T]) -> A>(words: &mut [T], f: F) -> A
     requires callable { (w : _) → w.now ≡ words.old → F.pre f w }
     requires keeps { (w : _) (r : A) (a : _) → FnOnceReturnsAtMut F.FnOnce f w r a → length a ≡ length w }

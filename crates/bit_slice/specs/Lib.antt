@@ -49,6 +49,7 @@ pub use Rattle.bit_addressing_order.specs.Text
 pub use Rattle.bit_addressing_verify.specs.OrderFault
 pub use Rattle.bit_addressing_verify.specs.WordFault
 pub use Rattle.bit_addressing_span.specs.Span
+pub use Rattle.bit_addressing_span.specs.declared.span.TheConstants as SpanLimits
 pub use Rattle.bit_addressing_span.specs.Domain as SpanDomain
 pub use Rattle.bit_addressing_span.specs.Parts as SpanParts
 pub use Rattle.bit_addressing_memory.specs.Memory

@@ -3,12 +3,69 @@
 //! other end, and is in place.
 
 ghost use Rattle.std.specs.Prelude.{◌≡◌, ◌+◌, ◌-◌, ◌*◌, ◌^◌, ◌<◌, ◌≤◌, length, true};
-ghost use Rattle.bit_addressing_memory.specs.Memory.{entry, read_by, Overwrites};
+ghost use Rattle.bit_addressing_memory.specs.Memory.{entry, read_by, Copies, Overwrites};
 ghost use Rattle.bit_slice_paths.specs.Rotations.{rotated_from};
 
+use crate::by_words::copy_over;
 use crate::exchange::exchange;
-use bit_addressing_memory::{BitOrder, BitRegister, Direction, Sweep, move_in, way_for};
+use crate::steps::Steps;
+use bit_addressing_memory::{
+    BitOrder, BitRegister, Direction, Sweep, direction_of, move_in, way_for,
+};
 use bit_slice_chunks::any_order::{read_bits, write_bits};
+
+// Words of fewer bits are narrow: a chunk has several of them.
+const WIDE: u8 = 32;
+
+// Moves bits to another place of the same memory. The two stretches may overlap.
+#[inline(always)]
+fn move_bits<R: BitRegister, O: BitOrder<R>>(
+    words: &mut [R],
+    source: usize,
+    target: usize,
+    len: usize,
+)
+    requires source_within { source + len ≤ length words.old * R.BITS }
+    requires source_ends { source + len < 2 ^ 64 }
+    requires target_within { target + len ≤ length words.old * R.BITS }
+    requires target_ends { target + len < 2 ^ 64 }
+    ensures { Copies (read_by R.BitRegister O.position) words.old words.new
+        (read_by R.BitRegister O.position) words.old source target len }
+{
+    if R::BITS < WIDE {
+        move_narrow::<R, O>(words, source, target, len);
+        return;
+    }
+    let mut sweep = Sweep::new(words, way_for(source, target));
+    move_in::<R, O>(&mut sweep, source, target, len);
+}
+
+// The same in narrow words: by chunks of 64 bits, where the order goes straight. One place apart few bits take less time by
+// a sweep. Out of line, so that the rotation of wide words stays short.
+#[inline(never)]
+fn move_narrow<R: BitRegister, O: BitOrder<R>>(
+    words: &mut [R],
+    source: usize,
+    target: usize,
+    len: usize,
+)
+    requires source_within { source + len ≤ length words.old * R.BITS }
+    requires source_ends { source + len < 2 ^ 64 }
+    requires target_within { target + len ≤ length words.old * R.BITS }
+    requires target_ends { target + len < 2 ^ 64 }
+    ensures { Copies (read_by R.BitRegister O.position) words.old words.new
+        (read_by R.BitRegister O.position) words.old source target len }
+{
+    if source.abs_diff(target) > 1 {
+        if let Some(direction) = direction_of::<R, O>() {
+            let mut steps = Steps::new();
+            copy_over::<R, O>(direction, words, source, target, len, &mut steps);
+            return;
+        }
+    }
+    let mut sweep = Sweep::new(words, way_for(source, target));
+    move_in::<R, O>(&mut sweep, source, target, len);
+}
 
 // Moves each of `len` bits towards the first of them by up to 64 places; those that leave become the last.
 #[inline(always)]
@@ -28,8 +85,7 @@ fn hold_first<R: BitRegister, O: BitOrder<R>>(
         (λ k. entry (read_by R.BitRegister O.position) words.old (place + rotated_from len by k)) }
 {
     let held = read_bits::<R, O>(direction, words, place, by);
-    let mut sweep = Sweep::new(words, way_for(place + by, place));
-    move_in::<R, O>(&mut sweep, place + by, place, len - by);
+    move_bits::<R, O>(words, place + by, place, len - by);
     write_bits::<R, O>(direction, words, place + (len - by), by, held);
 }
 
@@ -51,8 +107,7 @@ fn hold_last<R: BitRegister, O: BitOrder<R>>(
         (λ k. entry (read_by R.BitRegister O.position) words.old (place + rotated_from len (len - by) k)) }
 {
     let held = read_bits::<R, O>(direction, words, place + (len - by), by);
-    let mut sweep = Sweep::new(words, way_for(place, place + by));
-    move_in::<R, O>(&mut sweep, place, place + by, len - by);
+    move_bits::<R, O>(words, place, place + by, len - by);
     write_bits::<R, O>(direction, words, place, by, held);
 }
 

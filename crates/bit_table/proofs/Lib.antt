@@ -1,21 +1,15 @@
-pub mod AcceptedLemmas
-pub mod LetteredLemmas
-pub mod MarkedLemmas
-pub mod NumberLemmas
-pub mod TableLemmas
-pub mod RoomLemmas
-pub mod MovedLemmas
-pub mod RowCommandLemmas
-pub mod Sending
-pub mod LineLemmas
-pub mod GoingLemmas
-pub mod Pieces
-pub mod ReachedLemmas
-pub mod ScriptCallerLemmas
-mod KnownRuns
-pub mod AnswerLemmas
-pub mod SessionLemmas
-pub mod CallerLemmas
-mod KnownRows
--- what proofs of callers cite of the crates below
-pub use Rattle.bit_table_layout.proofs.LoadLemmas
+-- what the crates below show, under the names that they have there
+pub use Rattle.bit_table_script.proofs.AcceptedLemmas
+pub use Rattle.bit_table_script.proofs.LetteredLemmas
+pub use Rattle.bit_table_script.proofs.MarkedLemmas
+pub use Rattle.bit_table_script.proofs.NumberLemmas
+pub use Rattle.bit_table_script.proofs.TableLemmas
+pub use Rattle.bit_table_script.proofs.RoomLemmas
+pub use Rattle.bit_table_script.proofs.MovedLemmas
+pub use Rattle.bit_table_script.proofs.RowCommandLemmas
+pub use Rattle.bit_table_script.proofs.AnswerLemmas
+pub use Rattle.bit_table_script.proofs.SessionLemmas
+pub use Rattle.bit_table_script.proofs.CallerLemmas
+pub use Rattle.bit_table_script.proofs.LineLemmas
+pub use Rattle.bit_table_script.proofs.ScriptCallerLemmas
+pub use Rattle.bit_table_script.proofs.LoadLemmas

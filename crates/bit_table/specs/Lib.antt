@@ -1,60 +1,62 @@
-pub mod Lettered
-pub mod Moved
-pub mod RowCommands
-pub mod Room
-pub mod Told
-pub mod View
-pub mod Lines
-pub mod Streams
-pub mod Ends
-pub mod Runs
-pub mod Going
-pub mod Shapes
-pub mod Scripts
-pub mod Sessions
-pub mod ScriptLaws
--- what public clauses cite of the crates below
-pub use Rattle.bit_table_layout.specs.Digits
-pub use Rattle.bit_table_layout.specs.Fields
-pub use Rattle.bit_table_layout.specs.Images
-pub use Rattle.bit_table_layout.specs.Layouts
-pub use Rattle.bit_table_layout.specs.LineWords
-pub use Rattle.bit_table_layout.specs.LineWordsLeft
-pub use Rattle.bit_table_layout.specs.Loads
-pub use Rattle.bit_table_layout.specs.Numerals
-pub use Rattle.bit_table_layout.specs.Readings
-pub use Rattle.bit_table_layout.specs.Rows
-pub use Rattle.bit_table_layout.specs.CauseWords
-pub use Rattle.bit_table_layout.specs.declared.layout.TheConstants as LayoutLimits
-pub use Rattle.bit_table_layout.specs.declared.cause.Cause.TheVariants as CauseVariants
-pub use Rattle.bit_table_commands.specs.declared.command.Command
-pub use Rattle.bit_table_commands.specs.declared.command.Command.TheVariants as CommandVariants
-pub use Rattle.bit_table_commands.specs.declared.reply.Reply.TheVariants as ReplyVariants
-pub use Rattle.bit_table_commands.specs.declared.bool_op.BoolOp
-pub use Rattle.bit_table_commands.specs.declared.bool_op.BoolOp.TheVariants as BoolOpVariants
-pub use Rattle.bit_table_commands.specs.declared.test.Test
-pub use Rattle.bit_table_commands.specs.declared.test.Test.TheVariants as TestVariants
-pub use Rattle.bit_table_commands.specs.Tables
-pub use Rattle.bit_table_commands.specs.Causes
-pub use Rattle.bit_table_commands.specs.Edits
-pub use Rattle.bit_table_commands.specs.CuttingOff
-pub use Rattle.bit_table_commands.specs.Commands
-pub use Rattle.bit_table_commands.specs.Marks
-pub use Rattle.bit_table_commands.specs.Replies
-pub use Rattle.bit_table_commands.specs.Letters
-pub use Rattle.bit_table_commands.specs.LetterSets as LetterMarks
-pub use Rattle.bit_table_fields.specs.Windows
-pub use Rattle.bit_table_rows.specs.RowMoves
-pub use Rattle.bit_table_rows.specs.RowsKept
+-- what the crates below show, under the names that they have there
+pub use Rattle.bit_table_script.specs.Lettered
+pub use Rattle.bit_table_script.specs.Moved
+pub use Rattle.bit_table_script.specs.RowCommands
+pub use Rattle.bit_table_script.specs.Room
+pub use Rattle.bit_table_script.specs.Told
+pub use Rattle.bit_table_script.specs.View
+pub use Rattle.bit_table_script.specs.Shapes
+pub use Rattle.bit_table_script.specs.Scripts
+pub use Rattle.bit_table_script.specs.Sessions
+pub use Rattle.bit_table_script.specs.ScriptLaws
+pub use Rattle.bit_table_script.specs.Lines
+pub use Rattle.bit_table_script.specs.Streams
+pub use Rattle.bit_table_script.specs.Ends
+pub use Rattle.bit_table_script.specs.Runs
+pub use Rattle.bit_table_script.specs.Going
+pub use Rattle.bit_table_script.specs.RunError
+pub use Rattle.bit_table_script.specs.RunErrorVariants
+pub use Rattle.bit_table_script.specs.Digits
+pub use Rattle.bit_table_script.specs.Fields
+pub use Rattle.bit_table_script.specs.Images
+pub use Rattle.bit_table_script.specs.Layouts
+pub use Rattle.bit_table_script.specs.LineWords
+pub use Rattle.bit_table_script.specs.LineWordsLeft
+pub use Rattle.bit_table_script.specs.Loads
+pub use Rattle.bit_table_script.specs.Numerals
+pub use Rattle.bit_table_script.specs.Readings
+pub use Rattle.bit_table_script.specs.Rows
+pub use Rattle.bit_table_script.specs.CauseWords
+pub use Rattle.bit_table_script.specs.LayoutLimits
+pub use Rattle.bit_table_script.specs.CauseVariants
+pub use Rattle.bit_table_script.specs.Command
+pub use Rattle.bit_table_script.specs.CommandVariants
+pub use Rattle.bit_table_script.specs.ReplyVariants
+pub use Rattle.bit_table_script.specs.BoolOp
+pub use Rattle.bit_table_script.specs.BoolOpVariants
+pub use Rattle.bit_table_script.specs.Test
+pub use Rattle.bit_table_script.specs.TestVariants
+pub use Rattle.bit_table_script.specs.Tables
+pub use Rattle.bit_table_script.specs.Causes
+pub use Rattle.bit_table_script.specs.Edits
+pub use Rattle.bit_table_script.specs.CuttingOff
+pub use Rattle.bit_table_script.specs.Commands
+pub use Rattle.bit_table_script.specs.Marks
+pub use Rattle.bit_table_script.specs.Replies
+pub use Rattle.bit_table_script.specs.Letters
+pub use Rattle.bit_table_script.specs.LetterMarks
+pub use Rattle.bit_table_script.specs.Windows
+pub use Rattle.bit_table_script.specs.RowMoves
+pub use Rattle.bit_table_script.specs.RowsKept
+pub use Rattle.bit_table_script.specs.Vector
+pub use Rattle.bit_table_script.specs.BitsView
+pub use Rattle.bit_table_script.specs.Steps
+pub use Rattle.bit_table_script.specs.Memory
+pub use Rattle.bit_table_script.specs.Sweep
+pub use Rattle.bit_table_script.specs.SweepWays
+pub use Rattle.bit_table_script.specs.BitOrder
+pub use Rattle.bit_table_script.specs.BitRegister
+pub use Rattle.bit_table_script.specs.OrderLaws
+pub use Rattle.bit_table_script.specs.PathLaws
 pub use Rattle.bit_table_command_line.specs.Choices
 pub use Rattle.bit_table_command_line.specs.Options
-pub use Rattle.bit_containers_vector.specs.Vector
-pub use Rattle.bit_slice_views.specs.View as BitsView
-pub use Rattle.bit_slice_words.specs.Steps
-pub use Rattle.bit_addressing_memory.specs.Memory
-pub use Rattle.bit_addressing_memory.specs.Sweep
-pub use Rattle.bit_addressing_memory.specs.Ways as SweepWays
-pub use Rattle.bit_addressing_memory.specs.BitOrder
-pub use Rattle.bit_addressing_memory.specs.BitRegister
-pub use Rattle.bit_addressing_memory.specs.OrderLaws
-pub use Rattle.bit_slice_words.specs.PathLaws

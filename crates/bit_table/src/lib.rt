@@ -1,39 +1,14 @@
-//! A table of packed rows over any storage word and any lawful order of bits, edited by the lines of a script, and the
-//! run of a script from a reader to a writer.
+//! The table, whole: rows of whole numbers packed bit by bit, edited by the lines of a script; the run of a script;
+//! what a command line asks for.
 #![tactic(auto)]
 
-mod kept;
-mod machine;
-mod marks;
-mod run_error;
-mod script_run;
-mod session;
-mod streams;
-mod table;
-
-pub use bit_addressing_memory::{
-    BitIdx, BitOrder, BitRegister, LocalBits, Lsb0, Msb0, OrderCandidate, Positions, Sweep, Way,
-    mask_from_at, select_from_at, way_for,
-};
-pub use bit_containers_vector::BitVec;
-pub use bit_slice_views::{BitSlice, BitStore, BitViewSized, Bits};
-pub use bit_slice_views_mut::{BitSliceMut, BitsMut};
-pub use bit_slice_words::{Steps, WordPaths, by_bits};
 pub use bit_table_command_line::{Choice, Order, Word, choose};
-pub use bit_table_commands::{
-    BoolOp, Command, ImageBytes, Items, Letter, Numbers, Reply, RowNumbers, Test, Values,
-    cutting_off_changes_nothing,
+pub use bit_table_script::{
+    BitIdx, BitOrder, BitRegister, BitSlice, BitSliceMut, BitStore, BitVec, BitViewSized, Bits,
+    BitsMut, BoolOp, Cause, Command, Digits, Fault, Field, HiLo, ImageBytes, Input, Items, Layout,
+    LayoutError, Letter, LineMachine, LocalBits, Lsb0, MAX_BITS, MAX_ROW_BITS, Msb0, Numbers,
+    OrderCandidate, Output, Positions, Reply, RowNumbers, Rule, RunError, Steps, Sweep, Table,
+    Test, Values, Way, WordPaths, Words, by_bits, cutting_off_changes_nothing, digits_by_bits,
+    drive, image, is_image, is_name, is_number, is_separator, keep_rows, loads_take_images,
+    mask_from_at, move_rows, number_up_to, run, select_from_at, way_for,
 };
-pub use bit_table_fields::{Digits, HiLo, digits_by_bits};
-pub use bit_table_image as image;
-pub use bit_table_layout::image::{is_image, loads_take_images};
-pub use bit_table_layout::{
-    Cause, Fault, Field, Layout, LayoutError, MAX_BITS, MAX_ROW_BITS, Rule, Words, is_name,
-    is_number, is_separator, number_up_to,
-};
-pub use bit_table_rows::{keep_rows, move_rows};
-pub use machine::{LineMachine, drive};
-pub use run_error::RunError;
-pub use script_run::run;
-pub use streams::{Input, Output};
-pub use table::Table;

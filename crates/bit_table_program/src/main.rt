@@ -6,8 +6,8 @@ ghost use Rattle.std.specs.Prelude.{◌≡◌, OnOk, OnErr, true, false};
 
 mod storages;
 
-use bit_table::{Input, Output, RunError};
 use bit_table_command_line::{Choice, Order, Word, choose};
+use bit_table_script::{Input, Output, RunError};
 use std::alloc::AllocGlobal;
 use std::env::Env;
 use std::io::{ErrorKind, Write};

@@ -1,13 +1,12 @@
 //! The run of a script over the storage that is asked for.
 ghost use Rattle.std.specs.Prelude.{◌≡◌, ◌-◌, ◌^◌, ◌<◌, ◌↔◌, false, OnOk, IfSome, IsErrOf, IsTrue, length};
-ghost use Rattle.bit_table.specs.Ends.{input_reader, input_failed, output_writer, output_failed};
-ghost use Rattle.bit_table.specs.Runs.{RanToEnd, StoppedByRead, StoppedByWrite, StoppedByMemory};
-ghost use Rattle.bit_table.specs.Scripts.{answers};
-ghost use Rattle.bit_table.specs.Tables.{start};
+ghost use Rattle.bit_table_script.specs.Ends.{input_reader, input_failed, output_writer, output_failed};
+ghost use Rattle.bit_table_script.specs.Runs.{RanToEnd, StoppedByRead, StoppedByWrite, StoppedByMemory};
+ghost use Rattle.bit_table_script.specs.Scripts.{answers};
+ghost use Rattle.bit_table_script.specs.Tables.{start};
 
-use bit_addressing_memory::{Lsb0, Msb0};
-use bit_table::{HiLo, Input, Output, RunError, run};
 use bit_table_command_line::{Order, Word};
+use bit_table_script::{HiLo, Input, Lsb0, Msb0, Output, RunError, run};
 use std::alloc::Global;
 use std::io::{Read, Write};
 

@@ -8,7 +8,7 @@ ghost use Rattle.bit_table_rows.specs.Lists.{HasBits, IsColumn};
 ghost use Rattle.bit_table_rows.specs.Walk.{Becomes, ChangesAt, EachHas};
 ghost use Rattle.bit_table_rows.specs.RowsKept.{left_of};
 
-use crate::vectors::keep_rows_of;
+use crate::vectors::keep_counted_of;
 use bit_addressing_memory::BitOrder;
 use bit_containers_vector::BitVec;
 use bit_slice_views::{BitStore, Bits};
@@ -40,20 +40,22 @@ pub(crate) fn drop_marked<T: BitStore, O: BitOrder<T>>(
         writes[i] = if i == letter {
             0
         } else {
-            drop_by(lists, n, i, letter)
+            drop_by(lists, n, i, letter, left)
         };
     }
     leave_zeros(&mut lists[letter], left);
     left
 }
 
-// Takes the bits out of one list of `n` bits where another one of the lists has a one, and returns how many words the
-// move wrote.
+// Takes the bits out of one list of `n` bits where another one of the lists has a one, which leaves so many, and returns
+// how many words the move wrote.
+#[inline(always)]
 fn drop_by<T: BitStore, O: BitOrder<T>>(
     lists: &mut [BitVec<T, O>],
     n: usize,
     list: usize,
     letter: usize,
+    left: usize,
 ) -> usize
     requires list { list < length lists.old }
     requires letter { letter < length lists.old }
@@ -62,37 +64,40 @@ fn drop_by<T: BitStore, O: BitOrder<T>>(
         → IsColumn (read_by T.BitRegister O.position) n (slice_index_or lists.old list d) }
     requires flags { (d : BitVec T O T.BitRegister)
         → IsColumn (read_by T.BitRegister O.position) n (slice_index_or lists.old letter d) }
+    requires left { (d : BitVec T O T.BitRegister) → left
+        ≡ count_by not (vec_bits (read_by T.BitRegister O.position) (slice_index_or lists.old letter d)) }
     ensures changed { ChangesAt (λ old new. (d : BitVec T O T.BitRegister)
         → HasBits (read_by T.BitRegister O.position)
         (left_of (vec_bits (read_by T.BitRegister O.position) (slice_index_or lists.old letter d))) old new)
         list lists.old lists.new }
-    ensures writes { (d : BitVec T O T.BitRegister) → result ≤ touched T.BITS 0
-        (count_by not (vec_bits (read_by T.BitRegister O.position) (slice_index_or lists.old letter d))) }
+    ensures writes { result ≤ touched T.BITS 0 left }
 {
     if list < letter {
         let (front, back) = lists.split_at_mut(letter);
-        drop_flagged(&mut front[list], n, &back[0])
+        drop_flagged(&mut front[list], n, &back[0], left)
     } else {
         let (front, back) = lists.split_at_mut(list);
-        drop_flagged(&mut back[0], n, &front[letter])
+        drop_flagged(&mut back[0], n, &front[letter], left)
     }
 }
 
-// Takes the bits out of a list of `n` bits where another one has a one, and returns how many words the move wrote.
+// Takes the bits out of a list of `n` bits where another one has a one, which leaves so many, and returns how many words
+// the move wrote.
+#[inline(always)]
 fn drop_flagged<T: BitStore, O: BitOrder<T>>(
     list: &mut BitVec<T, O>,
     n: usize,
     flags: &BitVec<T, O>,
+    left: usize,
 ) -> usize
     requires column { IsColumn (read_by T.BitRegister O.position) n list.old }
     requires flags { length (vec_bits (read_by T.BitRegister O.position) flags.now) ≡ n }
+    requires left { left ≡ count_by not (vec_bits (read_by T.BitRegister O.position) flags.now) }
     ensures bits { HasBits (read_by T.BitRegister O.position)
         (left_of (vec_bits (read_by T.BitRegister O.position) flags.now)) list.old list.new }
-    ensures writes { result
-        ≤ touched T.BITS 0 (count_by not (vec_bits (read_by T.BitRegister O.position) flags.now)) }
+    ensures writes { result ≤ touched T.BITS 0 left }
 {
-    let (_left, writes) = keep_rows_of(list, n, 1, flags.as_bitslice());
-    writes
+    keep_counted_of(list, n, 1, flags.as_bitslice(), left)
 }
 
 // Makes a list so many zeros, no more than it has bits. No word is counted: no row of the list is moved.

@@ -61,11 +61,36 @@ pub fn keep_rows_in<V: BitsMut>(
     ensures writes { result.1 ≤ touched V.Store.BITS (V.place view.old) (result.0 * w) }
     ensures changed { changed V.Store.number (V.words view.old) (V.words view.new) ≤ result.1 }
 {
+    let left = off.count_zeros();
+    let writes = keep_counted_in(view, n, w, off, left);
+    (left, writes)
+}
+
+// The same, where one knows how many rows stay.
+#[inline(always)]
+pub(crate) fn keep_counted_in<V: BitsMut>(
+    view: &mut V,
+    n: usize,
+    w: usize,
+    off: BitSlice<'_, V::Store, V::Order>,
+    left: usize,
+) -> usize
+    requires head { V.place view.old < V.Store.BITS }
+    requires flags { length (view_bits (read_by V.Store.BitRegister V.Order.position) off) ≡ n }
+    requires left { left ≡ count_by not (view_bits (read_by V.Store.BitRegister V.Order.position) off) }
+    requires rows { n * w ≤ length (V.bits view.old) }
+    ensures bits { V.bits view.new
+        ≡ rows_kept w (view_bits (read_by V.Store.BitRegister V.Order.position) off.entry) (V.bits view.old) }
+    ensures len { length (V.bits view.new) ≡ length (V.bits view.old) }
+    ensures frame { V.frame view.new ≡ V.frame view.old }
+    ensures writes { result ≤ touched V.Store.BITS (V.place view.old) (left * w) }
+    ensures changed { changed V.Store.number (V.words view.old) (V.words view.new) ≤ result }
+{
     let place = view.first_place();
     let len = view.len();
     let (flags, index, _) = off.parts();
     view.write(|words| {
-        keep_window_rows::<V::Store, V::Order>(words, place, len, n, w, flags, index)
+        keep_window_rows::<V::Store, V::Order>(words, place, len, n, w, flags, index, left)
     })
 }
 

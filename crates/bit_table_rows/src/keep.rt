@@ -64,12 +64,40 @@ pub fn keep_rows<T: BitRegister, O: BitOrder<T>>(
     ensures way { way_of sweep.new ≡ way_of sweep.old }
     ensures lender { sweep_lender sweep.new ≡ sweep_lender sweep.old }
 {
+    let left = off.count_zeros();
+    keep_counted::<T, O>(sweep, head, n, w, off, left);
+    left
+}
+
+// The same, where one knows how many rows stay.
+#[inline(always)]
+pub(crate) fn keep_counted<T: BitRegister, O: BitOrder<T>>(
+    sweep: &mut Sweep<'_, T>,
+    head: BitIdx<T>,
+    n: usize,
+    w: usize,
+    off: BitSlice<'_, T, O>,
+    left: usize,
+)
+    requires fresh { IsFresh sweep.old Up }
+    requires flags { length (view_bits (read_by T.BitRegister O.position) off) ≡ n }
+    requires left { left ≡ count_by not (view_bits (read_by T.BitRegister O.position) off) }
+    requires within { head + n * w ≤ length (sweep_words sweep.old) * T.BITS }
+    requires ends { head + n * w < 2 ^ 64 }
+    ensures rows { KeepsRows (read_by T.BitRegister O.position) (sweep_words sweep.old) (sweep_words sweep.new)
+        head w (view_bits (read_by T.BitRegister O.position) off.entry) }
+    ensures writes { writes_of sweep.new ≡ touched T.BITS head (left * w) }
+    ensures changed { changed T.number (sweep_words sweep.old) (sweep_words sweep.new) ≤ writes_of sweep.new }
+    ensures way { way_of sweep.new ≡ way_of sweep.old }
+    ensures lender { sweep_lender sweep.new ≡ sweep_lender sweep.old }
+{
     let first = head.into_inner() as usize;
     let bits = bits_of::<T>();
     if holds_no_one::<T, O>(sweep, (first + n * w).div_ceil(bits)) {
-        return keep_zeros::<T, O>(sweep, first, n, w, off);
+        put_zeros::<T, O>(sweep, first, left * w);
+    } else {
+        keep_runs::<T, O>(sweep, first, n, w, off);
     }
-    keep_runs::<T, O>(sweep, first, n, w, off)
 }
 
 // Whether no bit of the first `count` words is 1, by one comparison a word.
@@ -90,36 +118,8 @@ fn holds_no_one<T: BitRegister, O: BitOrder<T>>(sweep: &mut Sweep<'_, T>, count:
     true
 }
 
-// Keeps rows where no bit of their words is 1: what stays is zeros, and each word that it touches is put once.
-fn keep_zeros<T: BitRegister, O: BitOrder<T>>(
-    sweep: &mut Sweep<'_, T>,
-    first: usize,
-    n: usize,
-    w: usize,
-    off: BitSlice<'_, T, O>,
-) -> usize
-    requires way { way_of sweep.old ≡ Up }
-    requires edge { edge_of sweep.old ≡ 0 }
-    requires writes { writes_of sweep.old ≡ 0 }
-    requires flags { length (view_bits (read_by T.BitRegister O.position) off) ≡ n }
-    requires within { first + n * w ≤ length (sweep_words sweep.old) * T.BITS }
-    requires ends { first + n * w < 2 ^ 64 }
-    requires zeros { (upto : ℕ) → upto * T.BITS < first + n * w + T.BITS
-        → Nowhere (bit_found (read_by T.BitRegister O.position) (sweep_words sweep.old) true) 0 (upto * T.BITS) }
-    ensures count { result ≡ count_by not (view_bits (read_by T.BitRegister O.position) off.entry) }
-    ensures rows { KeepsRows (read_by T.BitRegister O.position) (sweep_words sweep.old) (sweep_words sweep.new)
-        first w (view_bits (read_by T.BitRegister O.position) off.entry) }
-    ensures writes { writes_of sweep.new ≡ touched T.BITS first (result * w) }
-    ensures changed { changed T.number (sweep_words sweep.old) (sweep_words sweep.new) ≤ writes_of sweep.new }
-    ensures way { way_of sweep.new ≡ way_of sweep.old }
-    ensures lender { sweep_lender sweep.new ≡ sweep_lender sweep.old }
-{
-    let left = off.count_zeros();
-    put_zeros::<T, O>(sweep, first, left * w);
-    left
-}
-
 // Puts zeros in each word that `len` bits from a place on touch. No bit of these words is 1, so all bits stay.
+#[inline(always)]
 fn put_zeros<T: BitRegister, O: BitOrder<T>>(sweep: &mut Sweep<'_, T>, first: usize, len: usize)
     requires way { way_of sweep.old ≡ Up }
     requires edge { edge_of sweep.old ≡ 0 }
@@ -145,7 +145,9 @@ fn put_zeros<T: BitRegister, O: BitOrder<T>>(sweep: &mut Sweep<'_, T>, first: us
     }
 }
 
-// Keeps rows run by run: those that stay one behind the other move as one.
+// Keeps rows run by run: those that stay one behind the other move as one. Out of line, so that lists without a one are
+// passed by a short loop.
+#[inline(never)]
 fn keep_runs<T: BitRegister, O: BitOrder<T>>(
     sweep: &mut Sweep<'_, T>,
     first: usize,

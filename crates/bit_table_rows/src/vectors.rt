@@ -10,7 +10,7 @@ ghost use Rattle.bit_table_rows.specs.RowEdit.{added, bits_edited_by, count_afte
 ghost use Rattle.bit_table_rows.specs.RowEdits.{deleted, inserted, repeated, Opens};
 
 use crate::edit::RowEdit;
-use crate::edits::{copy_rows, keep_rows_in, move_rows_in, rotate_rows, swap_rows, write_row};
+use crate::edits::{copy_rows, keep_counted_in, move_rows_in, rotate_rows, swap_rows, write_row};
 use bit_addressing_memory::BitOrder;
 use bit_containers_vector::BitVec;
 use bit_slice_views::{BitSlice, BitStore, Bits};
@@ -111,7 +111,6 @@ pub fn delete_rows<T: BitStore, O: BitOrder<T>>(
 
 /// Takes those of the `n` rows out whose entry in `off` is true: the others move together, in their order. It answers how
 /// many rows stay, and how many words their move wrote. No memory is taken, and none is given back.
-#[tactic(auto, using(crate::proofs::PlaceLemmas::row_places))]
 pub fn keep_rows_of<T: BitStore, O: BitOrder<T>>(
     vector: &mut BitVec<T, O>,
     n: usize,
@@ -132,11 +131,38 @@ pub fn keep_rows_of<T: BitStore, O: BitOrder<T>>(
     // At most the words that the rows touch at their new places.
     ensures writes { result.1 ≤ touched T.BITS (vec_head vector.old) (result.0 * w) }
 {
+    let left = off.count_zeros();
+    let writes = keep_counted_of(vector, n, w, off, left);
+    (left, writes)
+}
+
+// The same, where one knows how many rows stay.
+#[inline(always)]
+#[tactic(auto, using(crate::proofs::PlaceLemmas::row_places))]
+pub(crate) fn keep_counted_of<T: BitStore, O: BitOrder<T>>(
+    vector: &mut BitVec<T, O>,
+    n: usize,
+    w: usize,
+    off: BitSlice<'_, T, O>,
+    left: usize,
+) -> usize
+    requires rows { length (vec_bits (read_by T.BitRegister O.position) vector.old) ≡ n * w }
+    requires flags { length (view_bits (read_by T.BitRegister O.position) off) ≡ n }
+    requires left { left ≡ count_by not (view_bits (read_by T.BitRegister O.position) off) }
+    ensures bits { vec_bits (read_by T.BitRegister O.position) vector.new
+        ≡ kept w (view_bits (read_by T.BitRegister O.position) off.entry)
+        (vec_bits (read_by T.BitRegister O.position) vector.old) }
+    ensures len { length (vec_bits (read_by T.BitRegister O.position) vector.new) ≡ left * w }
+    ensures head { vec_head vector.new ≡ vec_head vector.old }
+    ensures room { room (read_by T.BitRegister O.position) vector.new
+        ≡ room (read_by T.BitRegister O.position) vector.old }
+    ensures writes { result ≤ touched T.BITS (vec_head vector.old) (left * w) }
+{
     // As many bits as a `usize` counts, and so are those of the rows that stay.
     let _bits = vector.len();
-    let (left, writes) = keep_rows_in(vector, n, w, off);
+    let writes = keep_counted_in(vector, n, w, off, left);
     vector.truncate(left * w);
-    (left, writes)
+    writes
 }
 
 /// Appends the rows from `p` up to before `q` of `n` rows of `w` bits each.

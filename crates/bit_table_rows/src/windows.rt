@@ -9,7 +9,7 @@ ghost use Rattle.bit_slice_views_mut.specs.Frame.{KeepsBeside};
 ghost use Rattle.bit_table_rows.specs.RowMoves.{rows_moved};
 ghost use Rattle.bit_table_rows.specs.RowsKept.{rows_kept};
 
-use crate::keep::keep_rows;
+use crate::keep::keep_counted;
 use crate::rows::move_rows;
 use bit_addressing_memory::{BitIdx, BitOrder, BitRegister, Sweep, Way, way_for};
 use bit_slice_views::BitSlice;
@@ -43,8 +43,9 @@ pub(crate) fn move_window_rows<R: BitRegister, O: BitOrder<R>>(
     sweep.writes()
 }
 
-// Keeps rows of a window that begins in the first word, by one sweep, and answers how many, and how many words it wrote.
-// Their flags are `n` bits of other words, from an index of the first of these on.
+// Keeps rows of a window that begins in the first word, by one sweep, where one knows how many stay, and answers how
+// many words it wrote. Their flags are `n` bits of other words, from an index of the first of these on.
+#[inline(always)]
 pub(crate) fn keep_window_rows<R: BitRegister, O: BitOrder<R>>(
     words: &mut [R],
     place: usize,
@@ -53,7 +54,8 @@ pub(crate) fn keep_window_rows<R: BitRegister, O: BitOrder<R>>(
     w: usize,
     flags: &[R],
     index: u8,
-) -> (usize, usize)
+    left: usize,
+) -> usize
     requires head { place < R.BITS }
     requires within { place + len ≤ length words.old * R.BITS }
     requires ends { place + len < 2 ^ 64 }
@@ -61,17 +63,17 @@ pub(crate) fn keep_window_rows<R: BitRegister, O: BitOrder<R>>(
     requires flags_begin { index < R.BITS }
     requires flags_short { n ≤ MAX_BITS }
     requires flags_within { index + n ≤ length flags.now * R.BITS }
-    ensures count { result.0 ≡ count_by not (piece (memory (read_by R.BitRegister O.position) flags.now) index n) }
+    requires left { left ≡ count_by not (piece (memory (read_by R.BitRegister O.position) flags.now) index n) }
     ensures list { piece (memory (read_by R.BitRegister O.position) words.new) place len
         ≡ rows_kept w (piece (memory (read_by R.BitRegister O.position) flags.now) index n)
         (piece (memory (read_by R.BitRegister O.position) words.old) place len) }
     ensures beside { KeepsBeside (read_by R.BitRegister O.position) words.old words.new place len }
-    ensures writes { result.1 ≤ touched R.BITS place (result.0 * w) }
-    ensures changed { changed R.number words.old words.new ≤ result.1 }
+    ensures writes { result ≤ touched R.BITS place (left * w) }
+    ensures changed { changed R.number words.old words.new ≤ result }
 {
     let mut sweep = Sweep::new(words, Way::Up);
     let head = BitIdx::new_unchecked(place as u8);
     let off = BitSlice::<R, O>::from_parts(flags, index, n);
-    let kept = keep_rows::<R, O>(&mut sweep, head, n, w, off);
-    (kept, sweep.writes())
+    keep_counted::<R, O>(&mut sweep, head, n, w, off, left);
+    sweep.writes()
 }

@@ -1,7 +1,7 @@
 -- What stands in the room for an answer.
 use Rattle.std.proofs.Common.{ℕ, List, ◌++◌, take, drop, sym, ap, ◌∙◌, append_assoc}
 use Rattle.std.proofs.lemmas.List.{take-append-drop}
-use Rattle.bit_table.specs.Lines.{IsBeginning}
+use Rattle.bit_table_script.specs.Lines.{IsBeginning}
 use Rattle.bits_c.specs.Table.{BeginsIn, Fills}
 
 -- a front of a beginning is a beginning

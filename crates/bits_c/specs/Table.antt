@@ -1,6 +1,6 @@
 -- A run of a table's script.
 use Rattle.std.specs.Prelude.{◌≡◌, ◌⊎◌, ℕ, ◌<◌, ◌≤◌, List, length, take, drop}
-use Rattle.bit_table.specs.Lines.{IsBeginning}
+use Rattle.bit_table_script.specs.Lines.{IsBeginning}
 use Rattle.bits_c.specs.declared.status.TheConstants.{OK, NO_ROOM, NO_MEMORY, BAD_STORAGE}
 
 -- there are words of so many bits

@@ -1,16 +1,15 @@
 //! The run of a table's script, over the storage that is asked for.
 
 ghost use Rattle.std.specs.Prelude.{◌≡◌, ◌≢◌, ◌*◌, ◌<◌, ◌≤◌, ◌↔◌, IsSome, IsTrue, length, min, take};
-ghost use Rattle.bit_table.specs.LayoutLimits.{MAX_ROW_BITS};
-ghost use Rattle.bit_table.specs.Lines.{IsBeginning};
-ghost use Rattle.bit_table.specs.Scripts.{script_answer};
+ghost use Rattle.bit_table_script.specs.LayoutLimits.{MAX_ROW_BITS};
+ghost use Rattle.bit_table_script.specs.Lines.{IsBeginning};
+ghost use Rattle.bit_table_script.specs.Scripts.{script_answer};
 ghost use Rattle.bits_c.specs.Table.{BeginsIn, Fills, HasOrder, HasWord, Ran};
 ghost use Rattle.bits_c.specs.declared.status.TheConstants.{OK, NO_ROOM, NO_MEMORY, BAD_STORAGE};
 
 use crate::status::{BAD_STORAGE, NO_MEMORY, NO_ROOM, OK};
-use bit_table::{
-    BitViewSized, Digits, HiLo, Input, Lsb0, Msb0, Order, Output, Word, WordPaths, run,
-};
+use bit_table_command_line::{Order, Word};
+use bit_table_script::{BitViewSized, Digits, HiLo, Input, Lsb0, Msb0, Output, WordPaths, run};
 use std::alloc::Global;
 
 /// Runs a script over words of `word_bits` bits, 8 to 128, in the order 0 (`lsb0`), 1 (`msb0`) or 2 (`hilo`), and puts

@@ -3,7 +3,7 @@ use Rattle.std.proofs.Common.{arith, refl, ap, ap₂, sym, ◌∙◌}
 use Rattle.std.proofs.Common.{ℕ, drop, take, set}
 use Rattle.std.proofs.Common.{of_calls, length-append}
 use Rattle.std.proofs.iter.Next.{called}
-use Rattle.bit_slice_splits.specs.Ways.{Asked}
+use Rattle.bit_slice.specs.Ways.{Asked}
 use Rattle.bit_containers.proofs.RetainLemmas.{answered, chosen_more, chosen_same, moved_front}
 use Rattle.bit_containers.proofs.RetainLemmas.{moved_rest, not_yet_moved}
 use Rattle.bit_containers.proofs.retain.gather.Goals.{then-keep, else-keep}

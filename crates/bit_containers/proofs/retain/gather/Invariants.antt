@@ -1,7 +1,7 @@
 use Rattle.std.proofs.Common.{◌≡◌, ℕ, ◌≤◌, ◌+◌, List, Bool, length, take, drop}
 use Rattle.std.specs.List.{items_where_true}
 use Rattle.std.specs.List.Retain.{ReturnsInTurn}
-use Rattle.bit_slice_splits.specs.Ways.{Asked}
+use Rattle.bit_slice.specs.Ways.{Asked}
 use Rattle.bit_containers.proofs.retain.gather.Given as goal
 
 abbrev pub invariant-loop-i : goal.invariant-loop-i

@@ -1,5 +1,5 @@
-use Rattle.bit_addressing_memory.specs.Memory.{read_by}
-use Rattle.bit_slice_views.specs.View.{view_bits}
+use Rattle.bit_slice.specs.Memory.{read_by}
+use Rattle.bit_slice.specs.View.{view_bits}
 use Rattle.bit_containers.proofs.RepeatedLemmas.{once_more}
 use Rattle.bit_containers.proofs.to_bits.repeat_bits.Goals as goal
 

@@ -1,8 +1,8 @@
 use Rattle.std.proofs.Common.{◌≡◌}
-use Rattle.bit_addressing_memory.specs.Memory.{read_by}
+use Rattle.bit_slice.specs.Memory.{read_by}
 use Rattle.bit_containers.specs.Repeated.{repeated}
 use Rattle.bit_containers_vector.specs.Vector.{vec_bits, vec_head}
-use Rattle.bit_slice_views.specs.View.{view_bits}
+use Rattle.bit_slice.specs.View.{view_bits}
 use Rattle.bit_containers.proofs.to_bits.repeat_bits.Given as goal
 
 abbrev pub invariant-loop-i : goal.invariant-loop-i

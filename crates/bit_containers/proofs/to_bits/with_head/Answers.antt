@@ -1,7 +1,7 @@
 use Rattle.std.proofs.Common.{◌≡◌, ◌+◌, ◌<◌, ◌*◌, length, arith, sym, ap, ◌∙◌, refl}
-use Rattle.bit_addressing_memory.specs.Memory.{read_by}
+use Rattle.bit_slice.specs.Memory.{read_by}
 use Rattle.std.proofs.lemmas.List.{length-replicate}
-use Rattle.bit_addressing_memory.proofs.WindowLemmas.{length-window}
+use Rattle.bit_slice.proofs.WindowLemmas.{length-window}
 use Rattle.bit_containers_vector.specs.Count.{words_for}
 use Rattle.bit_containers_vector.proofs.CountLemmas.{words_hold}
 use Rattle.bit_containers_vector.proofs.MadeLemmas.{holds_copy}

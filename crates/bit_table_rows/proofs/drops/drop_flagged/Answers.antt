@@ -15,9 +15,9 @@ returns-clause-bits g c =
     let all : length xs ≡ c.args.n * 1 = omega (arith, c.requires.column.len) in
     record {
       bits =
-          c.keep_rows_of-left.ensures.bits
+          c.keep_counted_of.ensures.bits
           ∙ ap (λ flags. kept 1 flags xs) c.as_bitslice.ensures.bits
           ∙ rows_that_stay 1 (λ n bits. bits) bits_as_rows c.args.n off xs c.requires.flags all;
-      head = c.keep_rows_of-left.ensures.head;
-      room = omega (arith, c.keep_rows_of-left.ensures.room);
+      head = c.keep_counted_of.ensures.head;
+      room = omega (arith, c.keep_counted_of.ensures.room);
     }

@@ -19,6 +19,14 @@ drop_by-requires-clause-column g c =
     λ d. subst (IsColumn reading c.args.n) (sym ((c.loop-i.invariant.walked d).rest i d (omega arith)))
     (c.requires.columns i d (omega (arith, c.loop-i-test.true)))
 
+pub drop_by-requires-clause-left : goal.drop_by-requires-clause-left
+drop_by-requires-clause-left g c d =
+    let reading = read_by g.T.BitRegister g.O.Positions.position in
+    c.count_zeros-left.ensures
+    ∙ ap (λ u. count_by not (vec_bits reading u))
+    (get_or_default c.args.lists.now c.args.letter c.index-lists-letter.result d c.requires.letter
+    ∙ sym (c.loop-i.invariant.flags d))
+
 pub returns-clause-left : goal.returns-clause-left
 returns-clause-left g c d =
     let reading = read_by g.T.BitRegister g.O.Positions.position in
@@ -37,6 +45,10 @@ loop-i-preserved g c =
     let h = c.loop-i.invariant in
     let low : i < length old = omega (arith, c.loop-i-test.true) in
     let inside : i < length writes = omega (arith, low, h.count, c.requires.count) in
+    let left_is : (d : _) → c.count_zeros-left.result ≡ count_by not (vec_bits reading (get_or old x d)) =
+    (λ d. c.count_zeros-left.ensures
+    ∙ ap (λ u. count_by not (vec_bits reading u))
+    (get_or_default old x c.index-lists-letter.result d c.requires.letter)) in
     let Few : ℕ → List Bool → Type 0 =
     (λ k off. k ≤ touched g.T.BitRegister.BITS 0 (count_by not off)) in
     elim c.if-i-letter.branch [
@@ -71,7 +83,7 @@ loop-i-preserved g c =
             writes = λ k e d below.
                 holds_goes_on (λ v. Few v (vec_bits reading (get_or old x d))) i writes w.drop_by.result inside
                 (λ j b under. h.writes j b d under)
-                (subst (λ v. Few w.drop_by.result (vec_bits reading v)) (h.flags d) (w.drop_by.ensures.writes d))
+                (subst (λ m. w.drop_by.result ≤ touched g.T.BitRegister.BITS 0 m) (left_is d) w.drop_by.ensures.writes)
                 k e below;
             own = λ below. get_or-set_other writes i x w.drop_by.result 0 apart ∙ h.own (omega (arith, below, apart));
           })

@@ -1,5 +1,5 @@
 use Rattle.std.proofs.Common.{◌<◌, arith}
-use Rattle.bit_addressing_memory.specs.Memory.{read_by}
+use Rattle.bit_slice.specs.Memory.{read_by}
 use Rattle.bit_containers.proofs.RetainLemmas.{leaves_first}
 use Rattle.bit_containers.proofs.retain.BitVecRetain.retain.Goals as goal
 

@@ -28,4 +28,5 @@ returns-clause-digits g c i low =
     let next : c.args.k + 1 < length words =
     less_words (c.args.k + 1) (length words) reading.bits
     (omega (arith, c.requires.within, c.if-upto-bits_of.false, c.bits_of.ensures)) in
-    behind_digits reading words c.args.k c.args.own c.read-behind.result c.joined-2.result i next c.requires.own c.read-behind.ensures.value c.joined-2.ensures small
+    behind_digits reading words c.args.k c.args.own c.read-behind.result c.joined-2.result i next c.requires.own
+    c.read-behind.ensures.value c.joined-2.ensures small

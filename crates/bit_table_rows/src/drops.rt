@@ -82,8 +82,9 @@ fn drop_by<T: BitStore, O: BitOrder<T>>(
 }
 
 // Takes the bits out of a list of `n` bits where another one has a one, which leaves so many, and returns how many words
-// the move wrote.
-#[inline(always)]
+// the move wrote. Out of line, so that a list without a one is passed by a function of four numbers, and what sweeps it
+// stands in line there.
+#[inline(never)]
 fn drop_flagged<T: BitStore, O: BitOrder<T>>(
     list: &mut BitVec<T, O>,
     n: usize,

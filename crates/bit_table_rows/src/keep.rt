@@ -92,11 +92,24 @@ pub(crate) fn keep_counted<T: BitRegister, O: BitOrder<T>>(
     ensures lender { sweep_lender sweep.new ≡ sweep_lender sweep.old }
 {
     let first = head.into_inner() as usize;
-    let bits = bits_of::<T>();
-    if holds_no_one::<T, O>(sweep, (first + n * w).div_ceil(bits)) {
+    if holds_no_one::<T, O>(sweep, words_before::<T>(first + n * w)) {
         put_zeros::<T, O>(sweep, first, left * w);
     } else {
         keep_runs::<T, O>(sweep, first, n, w, off);
+    }
+}
+
+// How many words have the bits before a place.
+#[inline(always)]
+fn words_before<T: BitRegister>(end: usize) -> usize
+    ensures holds { end ≤ result * T.BITS }
+    ensures fits { (n : ℕ) → end ≤ n * T.BITS → result ≤ n }
+{
+    // `div_ceil` takes twice as many instructions.
+    if end == 0 {
+        0
+    } else {
+        (end - 1) / bits_of::<T>() + 1
     }
 }
 

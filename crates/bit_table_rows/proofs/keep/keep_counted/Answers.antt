@@ -1,7 +1,5 @@
 use Rattle.std.proofs.Common.{arith, ◌≡◌, ℕ, ◌+◌, ◌*◌, ◌/◌, ◌^◌, ◌<◌, ◌≤◌, ◌∙◌, ap, sym, subst, List, true, not, length}
 use Rattle.std.proofs.Common.{mul-le-mul_right}
-use Rattle.std.specs.Int.{div_ceil}
-use Rattle.std.proofs.lemmas.Grind.{div_ceil_times}
 use Rattle.std.proofs.lemmas.List.Sums.{count_by-le-length}
 use Rattle.std.proofs.lemmas.Nat.{div-add-mod', mod_below}
 use Rattle.bit_addressing_memory.proofs.Changes.{unchanged}
@@ -16,13 +14,12 @@ use Rattle.bit_table_rows.proofs.PlaceLemmas.{place_order}
 use Rattle.bit_table_rows.proofs.keep.keep_counted.Goals as goal
 
 -- the words that were looked at have all bits of the rows, and none of their bits is 1
-looked_at : {R : Type 0} (reading : Reading R) (words : List R) (end count : ℕ) → 0 < reading.bits
-    → count ≡ div_ceil end reading.bits → Nowhere (bit_found reading words true) 0 (count * reading.bits)
+looked_at : {R : Type 0} (reading : Reading R) (words : List R) (end count : ℕ) → end ≤ count * reading.bits
+    → Nowhere (bit_found reading words true) 0 (count * reading.bits)
     → (upto : ℕ) → upto * reading.bits < end + reading.bits
     → Nowhere (bit_found reading words true) 0 (upto * reading.bits)
-looked_at reading words end count some is none upto low =
+looked_at reading words end count holds none upto low =
     let b = reading.bits in
-    let holds : end ≤ count * b = subst (λ m. end ≤ m * b) (sym is) ((div_ceil_times end b some).0) in
     let less : upto < count + 1 = less_words upto (count + 1) b (omega (arith, low, holds)) in
     let most : upto * b ≤ count * b = mul-le-mul_right b (omega (arith, less)) in
     λ p from below. none p from (omega (arith, below, most))
@@ -32,9 +29,6 @@ put_zeros-requires g c =
     let reading = read_by g.T.BitRegister g.O.Positions.position in
     let off = view_bits reading c.args.off in
     let end : ℕ = c.into_inner-first.result + c.args.n * c.args.w in
-    let some : 0 < reading.bits = omega (arith, g.met.T.BitRegister.least_bits) in
-    let is : c.div_ceil.result ≡ div_ceil end reading.bits =
-    c.div_ceil.ensures ∙ ap (div_ceil end) c.bits_of-bits.ensures in
     let few = count_by-le-length not off in
     let left : c.args.left ≤ c.args.n = omega (arith, few, c.requires.flags, c.requires.left) in
     let rows = place_order c.args.left c.args.n c.args.w left in
@@ -48,7 +42,7 @@ put_zeros-requires g c =
       within = rw same (omega (arith, rows, within));
       ends = omega (arith, rows, ends);
       zeros = λ upto low. subst (λ ws. Nowhere (bit_found reading ws true) 0 (upto * reading.bits)) (sym same)
-          (looked_at reading (sweep_words c.args.sweep.now) end c.div_ceil.result some is
+          (looked_at reading (sweep_words c.args.sweep.now) end c.words_before.result c.words_before.ensures.holds
           (c.holds_no_one.ensures.zeros c.if-holds_no_one.true) upto (omega (arith, rows, low)));
     }
 
@@ -59,7 +53,6 @@ returns-then-holds_no_one-clause-rows g c =
     let off = view_bits reading c.args.off in
     let end : ℕ = c.into_inner-first.result + c.args.n * c.args.w in
     let some : 0 < b = omega (arith, g.met.T.BitRegister.least_bits) in
-    let is : c.div_ceil.result ≡ div_ceil end b = c.div_ceil.ensures ∙ ap (div_ceil end) c.bits_of-bits.ensures in
     let rows : length off * c.args.w ≡ c.args.n * c.args.w = ap (λ m. m * c.args.w) c.requires.flags in
     let same = c.holds_no_one.ensures.same.words in
     let first = c.into_inner-first.ensures.value in
@@ -71,7 +64,7 @@ returns-then-holds_no_one-clause-rows g c =
     (λ p low.
     let rest = mod_below p b some in
     let whole = div-add-mod' p b in
-    looked_at reading before end c.div_ceil.result some is (c.holds_no_one.ensures.zeros c.if-holds_no_one.true)
+    looked_at reading before end c.words_before.result c.words_before.ensures.holds (c.holds_no_one.ensures.zeros c.if-holds_no_one.true)
     (p / b + 1) (omega (arith, rows, whole, low)) p (omega arith) (omega (arith, rest, whole)))
     (rw same at c.put_zeros.ensures.same) (rw same at c.put_zeros.ensures.words) in
     rw first at kept

@@ -1,3 +1,4 @@
+pub mod Lies
 pub mod Limbs
 pub mod Memory
 pub mod Place

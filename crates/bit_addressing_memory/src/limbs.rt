@@ -2,7 +2,8 @@
 //! the other, or at all of a narrower word, the first lowest. Eight of them are put at a time, so that a compiler joins
 //! those whose positions lie side by side. A limb costs the same however few of its bits are wanted.
 
-ghost use Rattle.std.specs.Prelude.{◌≡◌, ℕ, ◌+◌, ◌-◌, ◌*◌, ◌/◌, ◌^◌, ◌<◌, ◌≤◌, false, List, length, min};
+ghost use Rattle.std.specs.Prelude.{◌≡◌, ℕ, ◌+◌, ◌-◌, ◌*◌, ◌^◌, ◌<◌, ◌≤◌, false, List, length, min};
+ghost use Rattle.bit_addressing_memory.specs.Lies.{Lies};
 ghost use Rattle.bit_addressing_order.specs.Bits.{digit_at};
 ghost use Rattle.bit_addressing_memory.specs.Limbs.{HasEntries};
 ghost use Rattle.bit_addressing_memory.specs.Memory.{entry, indexed, read_by, Overwrites};
@@ -20,8 +21,7 @@ use bit_addressing_order::{BitEnd, BitIdx, BitOrder, BitRegister, Lsb0};
 pub fn bits_in<R: BitRegister, O: BitOrder<R>>(words: &[R], place: usize, count: usize) -> u64
     requires some { 0 < count }
     requires few { count ≤ 64 }
-    requires within { place + count ≤ length words.now * R.BITS }
-    requires ends { place + count < 2 ^ 64 }
+    requires lies { Lies R.BITS words.now place count }
     ensures { HasEntries (read_by R.BitRegister O.position) words.now place count result }
 {
     let bits = limb_bits::<R>();
@@ -45,8 +45,7 @@ pub fn put_bits_in<R: BitRegister, O: BitOrder<R>>(
 )
     requires some { 0 < count }
     requires few { count ≤ 64 }
-    requires within { place + count ≤ length words.old * R.BITS }
-    requires ends { place + count < 2 ^ 64 }
+    requires lies { Lies R.BITS words.old place count }
     ensures { Overwrites (read_by R.BitRegister O.position) words.old words.new place count (digit_at number) }
 {
     let bits = limb_bits::<R>();

@@ -1,6 +1,7 @@
 //! Bits that move inside one memory: each word of the target is gathered and then written once.
 
 ghost use Rattle.std.specs.Prelude.{◌≡◌, ◌+◌, ◌-◌, ◌*◌, ◌/◌, ◌^◌, ◌<◌, ◌≤◌, Some, length, min};
+ghost use Rattle.bit_addressing_memory.specs.Lies.{Lies};
 ghost use Rattle.bit_addressing_memory.specs.Memory.{read_by, entry, touched};
 ghost use Rattle.bit_addressing_memory.specs.Partial.{IsStored};
 ghost use Rattle.bit_addressing_memory.specs.Straight.{Goes, IsStraight};
@@ -75,10 +76,8 @@ fn put_gathered<R: BitRegister, O: BitOrder<R>>(
 )
     requires fresh { IsFresh sweep.old (way_for source target) }
     requires some { 0 < len }
-    requires source_within { source + len ≤ length (sweep_words sweep.old) * R.BITS }
-    requires target_within { target + len ≤ length (sweep_words sweep.old) * R.BITS }
-    requires source_ends { source + len < 2 ^ 64 }
-    requires target_ends { target + len < 2 ^ 64 }
+    requires source_lies { Lies R.BITS (sweep_words sweep.old) source len }
+    requires target_lies { Lies R.BITS (sweep_words sweep.old) target len }
     ensures { PutsWords (read_by R.BitRegister O.position) sweep.old sweep.new source target len
         (target / R.BITS) ((target + len - 1) / R.BITS + 1) }
 {
@@ -111,8 +110,7 @@ fn gathered<R: BitRegister, O: BitOrder<R>>(
 ) -> R
     requires some { 0 < len }
     requires within { k < length (sweep_words sweep.old) }
-    requires source_within { source + len ≤ length (sweep_words sweep.old) * R.BITS }
-    requires source_ends { source + len < 2 ^ 64 }
+    requires source_lies { Lies R.BITS (sweep_words sweep.old) source len }
     requires target_ends { target + len < 2 ^ 64 }
     requires begins { k * R.BITS < target + len }
     requires ends { target < k * R.BITS + R.BITS }
@@ -145,8 +143,7 @@ pub fn taken<R: BitRegister, O: BitOrder<R>>(
     requires goes { (d : Direction) → direction ≡ Some d → Goes R.BITS O.position d }
     requires order { from < upto }
     requires index { upto ≤ R.BITS }
-    requires within { place + (upto - from) ≤ length (sweep_words sweep.old) * R.BITS }
-    requires ends { place + (upto - from) < 2 ^ 64 }
+    requires lies { Lies R.BITS (sweep_words sweep.old) place (upto - from) }
     ensures stored { IsStored (read_by R.BitRegister O.position) own result from upto
         (λ i. entry (read_by R.BitRegister O.position) (sweep_words sweep.old) (place + (i - from))) }
     ensures reads { reads_of sweep.new ≤ reads_of sweep.old + (upto - from) }
@@ -173,8 +170,7 @@ fn taken_turned<R: BitRegister, O: BitOrder<R>>(
 ) -> R
     requires order { from < upto }
     requires index { upto ≤ R.BITS }
-    requires within { place + (upto - from) ≤ length (sweep_words sweep.old) * R.BITS }
-    requires ends { place + (upto - from) < 2 ^ 64 }
+    requires lies { Lies R.BITS (sweep_words sweep.old) place (upto - from) }
     ensures stored { IsStored (read_by R.BitRegister O.position) own result from upto
         (λ i. entry (read_by R.BitRegister O.position) (sweep_words sweep.old) (place + (i - from))) }
     ensures reads { reads_of sweep.new ≤ reads_of sweep.old + (upto - from) }
@@ -200,8 +196,7 @@ fn taken_by_limbs<R: BitRegister, O: BitOrder<R>>(
 ) -> R
     requires order { from < upto }
     requires index { upto ≤ R.BITS }
-    requires within { place + (upto - from) ≤ length (sweep_words sweep.old) * R.BITS }
-    requires ends { place + (upto - from) < 2 ^ 64 }
+    requires lies { Lies R.BITS (sweep_words sweep.old) place (upto - from) }
     ensures stored { IsStored (read_by R.BitRegister O.position) own result from upto
         (λ i. entry (read_by R.BitRegister O.position) (sweep_words sweep.old) (place + (i - from))) }
     ensures reads { reads_of sweep.new ≤ reads_of sweep.old + (upto - from) }
@@ -237,8 +232,7 @@ fn taken_limb<R: BitRegister, O: BitOrder<R>>(
     requires low { base ≤ from }
     requires order { from < upto }
     requires high { upto ≤ base + min 64 R.BITS }
-    requires within { place + (upto - from) ≤ length (sweep_words sweep.old) * R.BITS }
-    requires ends { place + (upto - from) < 2 ^ 64 }
+    requires lies { Lies R.BITS (sweep_words sweep.old) place (upto - from) }
     ensures stored { IsStored (read_by R.BitRegister O.position) own result from upto
         (λ i. entry (read_by R.BitRegister O.position) (sweep_words sweep.old) (place + (i - from))) }
     ensures reads { reads_of sweep.new ≤ reads_of sweep.old + (upto - from) }
@@ -261,8 +255,7 @@ fn taken_singly<R: BitRegister, O: BitOrder<R>>(
 ) -> R
     requires order { from ≤ upto }
     requires index { upto ≤ R.BITS }
-    requires within { place + (upto - from) ≤ length (sweep_words sweep.old) * R.BITS }
-    requires ends { place + (upto - from) < 2 ^ 64 }
+    requires lies { Lies R.BITS (sweep_words sweep.old) place (upto - from) }
     ensures stored { IsStored (read_by R.BitRegister O.position) own result from upto
         (λ i. entry (read_by R.BitRegister O.position) (sweep_words sweep.old) (place + (i - from))) }
     ensures reads { reads_of sweep.new ≡ min (reads_of sweep.old + (upto - from)) (2 ^ 64 - 1) }

@@ -2,9 +2,10 @@
 //! itself and of the word beside it, by shifts of one.
 
 ghost use Rattle.std.specs.Prelude.{◌≡◌, ℕ, ◌+◌, ◌-◌, ◌*◌, ◌/◌, ◌^◌, ◌<◌, ◌≤◌, length, slice_index_or};
+ghost use Rattle.bit_addressing_memory.specs.Lies.{Lies};
 ghost use Rattle.bit_addressing_memory.specs.Memory.{entry, indexed, read_by};
 ghost use Rattle.bit_addressing_memory.specs.Straight.{Goes};
-ghost use Rattle.bit_addressing_memory.specs.MoveSteps.{IsGathered, PutsWords};
+ghost use Rattle.bit_addressing_memory.specs.MoveSteps.{PutsWords};
 ghost use Rattle.bit_addressing_memory.specs.Sweep.{IsFresh, SameButReads, edge_of, reads_of, sweep_lender, sweep_words, way_of};
 ghost use Rattle.bit_addressing_memory.specs.Ways.{IsPast, edge_after, way_for};
 
@@ -28,10 +29,8 @@ pub(crate) fn put_straight<R: BitRegister, O: BitOrder<R>>(
     requires goes { Goes R.BITS O.position direction }
     requires fresh { IsFresh sweep.old (way_for source target) }
     requires some { 0 < len }
-    requires source_within { source + len ≤ length (sweep_words sweep.old) * R.BITS }
-    requires target_within { target + len ≤ length (sweep_words sweep.old) * R.BITS }
-    requires source_ends { source + len < 2 ^ 64 }
-    requires target_ends { target + len < 2 ^ 64 }
+    requires source_lies { Lies R.BITS (sweep_words sweep.old) source len }
+    requires target_lies { Lies R.BITS (sweep_words sweep.old) target len }
     ensures put { PutsWords (read_by R.BitRegister O.position) sweep.old sweep.new source target len
         (target / R.BITS) ((target + len - 1) / R.BITS + 1) }
     ensures reads { reads_of sweep.new + 3 * (target / R.BITS) ≤ 3 * ((target + len - 1) / R.BITS + 1) }
@@ -60,10 +59,8 @@ fn move_up_by_one<R: BitRegister, O: BitOrder<R>>(
     requires fresh { IsFresh sweep.old (way_for source target) }
     requires some { 0 < len }
     requires near { source + 1 ≡ target }
-    requires source_within { source + len ≤ length (sweep_words sweep.old) * R.BITS }
-    requires target_within { target + len ≤ length (sweep_words sweep.old) * R.BITS }
-    requires source_ends { source + len < 2 ^ 64 }
-    requires target_ends { target + len < 2 ^ 64 }
+    requires source_lies { Lies R.BITS (sweep_words sweep.old) source len }
+    requires target_lies { Lies R.BITS (sweep_words sweep.old) target len }
     ensures put { PutsWords (read_by R.BitRegister O.position) sweep.old sweep.new source target len
         (target / R.BITS) ((target + len - 1) / R.BITS + 1) }
     ensures reads { reads_of sweep.new + 3 * (target / R.BITS) ≤ 3 * ((target + len - 1) / R.BITS + 1) }
@@ -101,10 +98,8 @@ fn move_down_by_one<R: BitRegister, O: BitOrder<R>>(
     requires fresh { IsFresh sweep.old (way_for source target) }
     requires some { 0 < len }
     requires near { target + 1 ≡ source }
-    requires source_within { source + len ≤ length (sweep_words sweep.old) * R.BITS }
-    requires target_within { target + len ≤ length (sweep_words sweep.old) * R.BITS }
-    requires source_ends { source + len < 2 ^ 64 }
-    requires target_ends { target + len < 2 ^ 64 }
+    requires source_lies { Lies R.BITS (sweep_words sweep.old) source len }
+    requires target_lies { Lies R.BITS (sweep_words sweep.old) target len }
     ensures put { PutsWords (read_by R.BitRegister O.position) sweep.old sweep.new source target len
         (target / R.BITS) ((target + len - 1) / R.BITS + 1) }
     ensures reads { reads_of sweep.new + 3 * (target / R.BITS) ≤ 3 * ((target + len - 1) / R.BITS + 1) }

@@ -5,6 +5,7 @@
 //! sweep's counts in registers.
 
 ghost use Rattle.std.specs.Prelude.{◌≡◌, ◌+◌, ◌-◌, ◌*◌, ◌/◌, ◌^◌, ◌<◌, ◌≤◌, length, min};
+ghost use Rattle.bit_addressing_memory.specs.Lies.{Lies};
 ghost use Rattle.bit_addressing_memory.specs.Memory.{entry, read_by, touched};
 ghost use Rattle.bit_addressing_memory.specs.Partial.{IsStored};
 ghost use Rattle.bit_addressing_memory.specs.Straight.{Goes};
@@ -32,10 +33,8 @@ pub(crate) fn put_shifted<R: BitRegister, O: BitOrder<R>>(
     requires goes { Goes R.BITS O.position direction }
     requires fresh { IsFresh sweep.old (way_for source target) }
     requires some { 0 < len }
-    requires source_within { source + len ≤ length (sweep_words sweep.old) * R.BITS }
-    requires target_within { target + len ≤ length (sweep_words sweep.old) * R.BITS }
-    requires source_ends { source + len < 2 ^ 64 }
-    requires target_ends { target + len < 2 ^ 64 }
+    requires source_lies { Lies R.BITS (sweep_words sweep.old) source len }
+    requires target_lies { Lies R.BITS (sweep_words sweep.old) target len }
     ensures put { PutsWords (read_by R.BitRegister O.position) sweep.old sweep.new source target len
         (target / R.BITS) ((target + len - 1) / R.BITS + 1) }
     ensures reads { reads_of sweep.new + 3 * (target / R.BITS) ≤ 3 * ((target + len - 1) / R.BITS + 1) }
@@ -79,10 +78,8 @@ fn put_up<R: BitRegister, O: BitOrder<R>>(
     requires ahead { target ≤ source }
     requires begins { target ≤ low * R.BITS }
     requires ends { high * R.BITS ≤ target + len }
-    requires source_within { source + len ≤ length (sweep_words sweep.old) * R.BITS }
-    requires target_within { target + len ≤ length (sweep_words sweep.old) * R.BITS }
-    requires source_ends { source + len < 2 ^ 64 }
-    requires target_ends { target + len < 2 ^ 64 }
+    requires source_lies { Lies R.BITS (sweep_words sweep.old) source len }
+    requires target_lies { Lies R.BITS (sweep_words sweep.old) target len }
     ensures put { PutsWords (read_by R.BitRegister O.position) sweep.old sweep.new source target len low high }
     ensures edge { edge_of sweep.new ≤ high }
     ensures reads { reads_of sweep.new + 3 * low ≤ reads_of sweep.old + 3 * high }
@@ -120,10 +117,8 @@ fn put_down<R: BitRegister, O: BitOrder<R>>(
     requires behind { source ≤ target }
     requires begins { target ≤ low * R.BITS }
     requires ends { high * R.BITS ≤ target + len }
-    requires source_within { source + len ≤ length (sweep_words sweep.old) * R.BITS }
-    requires target_within { target + len ≤ length (sweep_words sweep.old) * R.BITS }
-    requires source_ends { source + len < 2 ^ 64 }
-    requires target_ends { target + len < 2 ^ 64 }
+    requires source_lies { Lies R.BITS (sweep_words sweep.old) source len }
+    requires target_lies { Lies R.BITS (sweep_words sweep.old) target len }
     ensures put { PutsWords (read_by R.BitRegister O.position) sweep.old sweep.new source target len low high }
     ensures edge { low ≤ edge_of sweep.new }
     ensures reads { reads_of sweep.new + 3 * low ≤ reads_of sweep.old + 3 * high }
@@ -165,10 +160,8 @@ pub(crate) fn put_joined_up<R: BitRegister, O: BitOrder<R>>(
     requires ends { high * R.BITS ≤ target + len }
     requires index { by < R.BITS }
     requires first { word * R.BITS + by ≡ source + (low * R.BITS - target) }
-    requires source_within { source + len ≤ length (sweep_words sweep.old) * R.BITS }
-    requires target_within { target + len ≤ length (sweep_words sweep.old) * R.BITS }
-    requires source_ends { source + len < 2 ^ 64 }
-    requires target_ends { target + len < 2 ^ 64 }
+    requires source_lies { Lies R.BITS (sweep_words sweep.old) source len }
+    requires target_lies { Lies R.BITS (sweep_words sweep.old) target len }
     ensures put { PutsWords (read_by R.BitRegister O.position) sweep.old sweep.new source target len low high }
     ensures edge { edge_of sweep.new ≤ high }
     ensures reads { reads_of sweep.new + 3 * low ≤ reads_of sweep.old + 3 * high }
@@ -201,10 +194,8 @@ pub(crate) fn put_joined_down<R: BitRegister, O: BitOrder<R>>(
     requires ends { high * R.BITS ≤ target + len }
     requires index { by < R.BITS }
     requires first { word * R.BITS + by ≡ source + (low * R.BITS - target) }
-    requires source_within { source + len ≤ length (sweep_words sweep.old) * R.BITS }
-    requires target_within { target + len ≤ length (sweep_words sweep.old) * R.BITS }
-    requires source_ends { source + len < 2 ^ 64 }
-    requires target_ends { target + len < 2 ^ 64 }
+    requires source_lies { Lies R.BITS (sweep_words sweep.old) source len }
+    requires target_lies { Lies R.BITS (sweep_words sweep.old) target len }
     ensures put { PutsWords (read_by R.BitRegister O.position) sweep.old sweep.new source target len low high }
     ensures edge { low ≤ edge_of sweep.new }
     ensures reads { reads_of sweep.new + 3 * low ≤ reads_of sweep.old + 3 * high }
@@ -229,8 +220,7 @@ fn put_edge<R: BitRegister, O: BitOrder<R>>(
     requires some { 0 < len }
     requires past { IsPast (way_of sweep.old) (edge_of sweep.old) k }
     requires within { k < length (sweep_words sweep.old) }
-    requires source_within { source + len ≤ length (sweep_words sweep.old) * R.BITS }
-    requires source_ends { source + len < 2 ^ 64 }
+    requires source_lies { Lies R.BITS (sweep_words sweep.old) source len }
     requires target_ends { target + len < 2 ^ 64 }
     requires begins { k * R.BITS < target + len }
     requires ends { target < k * R.BITS + R.BITS }
@@ -254,8 +244,7 @@ fn shifted<R: BitRegister, O: BitOrder<R>>(
     requires goes { Goes R.BITS O.position direction }
     requires some { 0 < len }
     requires within { k < length (sweep_words sweep.old) }
-    requires source_within { source + len ≤ length (sweep_words sweep.old) * R.BITS }
-    requires source_ends { source + len < 2 ^ 64 }
+    requires source_lies { Lies R.BITS (sweep_words sweep.old) source len }
     requires target_ends { target + len < 2 ^ 64 }
     requires begins { k * R.BITS < target + len }
     requires ends { target < k * R.BITS + R.BITS }

@@ -3,7 +3,9 @@
 //!
 //! While a sweep is there, its words are read and written through it alone.
 
-ghost use Rattle.std.specs.Prelude.{◌≡◌, ℕ, ◌+◌, ◌-◌, ◌*◌, ◌^◌, ◌<◌, ◌≤◌, length, min, slice_index_or, slice_set};
+ghost use Rattle.std.specs.Prelude.{◌≡◌, ◌≢◌, ℕ, ◌+◌, ◌-◌, ◌^◌, ◌<◌, ◌≤◌, length, min};
+ghost use Rattle.std.specs.Prelude.{slice_index_or, slice_set};
+ghost use Rattle.bit_addressing_memory.specs.Lies.{Lies};
 ghost use Rattle.bit_addressing_memory.specs.Limbs.{HasEntries};
 ghost use Rattle.bit_addressing_memory.specs.Memory.{read_by, touched};
 ghost use Rattle.bit_addressing_memory.specs.Ways.{IsPast, edge_after, passed, way_for};
@@ -155,8 +157,7 @@ impl<'a, R: BitRegister> Sweep<'a, R> {
     pub(crate) fn read_bits<O: BitOrder<R>>(&mut self, place: usize, count: usize) -> u64
         requires some { 0 < count }
         requires few { count ≤ 64 }
-        requires within { place + count ≤ length (sweep_words self.old) * R.BITS }
-        requires ends { place + count < 2 ^ 64 }
+        requires lies { Lies R.BITS (sweep_words self.old) place count }
         ensures digits { HasEntries (read_by R.BitRegister O.position) (sweep_words self.old) place count result }
         ensures reads { reads_of self.new
             ≡ min (reads_of self.old + touched (min 64 R.BITS) place count) (2 ^ 64 - 1) }
@@ -169,4 +170,39 @@ impl<'a, R: BitRegister> Sweep<'a, R> {
         self.reads = self.reads.saturating_add(limbs as u64);
         number
     }
+
+    /// How many of the first `count` words, which are there, hold the number of `word` before the first one that does not.
+    /// That one is read too; each read is counted.
+    #[inline(always)]
+    pub fn leading(&mut self, count: usize, word: R) -> usize
+        requires { count ≤ length (sweep_words self.old) }
+        ensures most { result ≤ count }
+        ensures equal { (k : ℕ) → k < result
+            → R.number (slice_index_or (sweep_words self.old) k word) ≡ R.number word }
+        ensures other { result < count → R.number (slice_index_or (sweep_words self.old) result word) ≢ R.number word }
+        ensures reads { reads_of self.new ≡ min (reads_of self.old + min (result + 1) count) (2 ^ 64 - 1) }
+        ensures same { SameButReads self.old self.new }
+        ensures lender { sweep_lender self.new ≡ sweep_lender self.old }
+    {
+        let equal = equal_words(self.all(), count, word);
+        let reads = if equal < count { equal + 1 } else { count };
+        self.reads = self.reads.saturating_add(reads as u64);
+        equal
+    }
+}
+
+// How many of the first `count` words hold the number of `word` before the first one that does not.
+#[inline(always)]
+fn equal_words<R: BitRegister>(words: &[R], count: usize, word: R) -> usize
+    requires { count ≤ length words.now }
+    ensures most { result ≤ count }
+    ensures equal { (k : ℕ) → k < result → R.number (slice_index_or words.now k word) ≡ R.number word }
+    ensures other { result < count → R.number (slice_index_or words.now result word) ≢ R.number word }
+{
+    for k in 0..count {
+        if !words[k].equals(word) {
+            return k;
+        }
+    }
+    count
 }

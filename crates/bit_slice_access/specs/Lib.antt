@@ -13,5 +13,6 @@ pub use Rattle.bit_addressing_memory.specs.BitOrder
 pub use Rattle.bit_addressing_memory.specs.BitRegister
 pub use Rattle.bit_addressing_memory.specs.Bits
 pub use Rattle.bit_addressing_memory.specs.Memory
-pub use Rattle.bit_slice_views.specs.View
+pub use Rattle.bit_slice_views_mut.specs.View
 pub use Rattle.bit_slice_views_mut.specs.Frame
+pub use Rattle.bit_slice_views_mut.specs.Parts

@@ -6,8 +6,7 @@ ghost use Rattle.bit_slice_access.specs.BitMut.{bit_view, bit_loan, bit_index};
 
 use crate::bit_mut::BitMut;
 use crate::index_mut::BitSliceIndexMut;
-use bit_slice_views::Bits;
-use bit_slice_views_mut::BitsMut;
+use bit_slice_views_mut::{Bits, BitsMut};
 
 /// The accesses of a window by an index: of every `BitsMut`.
 ///

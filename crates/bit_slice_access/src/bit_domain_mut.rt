@@ -6,8 +6,7 @@ ghost use Rattle.bit_addressing_span.specs.declared.span.TheConstants.{MAX_BITS}
 ghost use Rattle.bit_slice_access.specs.Lending.{LendsPart};
 
 use bit_addressing_memory::{BitRegister, mem};
-use bit_slice_views::Bits;
-use bit_slice_views_mut::{BitsMut, BitsShown, BitsWindow, MayWriteBeside};
+use bit_slice_views_mut::{Bits, BitsMut, BitsShown, BitsWindow, MayWriteBeside};
 
 /// A window cut at the borders of its words: the bits before the first border, the whole words behind it, and the bits
 /// behind the last border. A part may have no bits. One part is lent at a time.

@@ -2,8 +2,7 @@
 
 ghost use Rattle.std.specs.Prelude.{◌≡◌, ◌<◌, length, slice_set, slice_index_or, false};
 
-use bit_slice_views::Bits;
-use bit_slice_views_mut::BitsMut;
+use bit_slice_views_mut::{Bits, BitsMut};
 use std::ops::Deref;
 
 /// One bit of a window, to write: bitvec's `BitRef` of a writable window.

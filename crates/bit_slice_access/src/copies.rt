@@ -6,8 +6,7 @@ ghost use Rattle.bit_addressing_memory.specs.Memory.{memory, piece, read_by, wit
 use crate::edits::BitsEdits;
 use crate::parts::BitsParts;
 use bit_addressing_memory::{BitOrder, BitRegister, Lsb0, Walk, most_singly_of_two};
-use bit_slice_views::{BitRange, BitSlice, Bits};
-use bit_slice_views_mut::{BitsMut, copy_in};
+use bit_slice_views_mut::{BitRange, BitSlice, Bits, BitsMut, copy_in};
 
 /// The copies of a window that no single lower call makes: of every `BitsMut`.
 pub trait BitsCopy: BitsMut {

@@ -4,8 +4,7 @@ ghost use Rattle.std.specs.Prelude.{◌≡◌, ◌-◌, ◌<◌, ◌≤◌, ◌�
 ghost use Rattle.bit_slice_access.specs.Shows.{SplitsAt};
 ghost use Rattle.bit_slice_views_mut.specs.Pair.{pair_loan};
 
-use bit_slice_views::Bits;
-use bit_slice_views_mut::{BitsMut, BitsWindow, Pair};
+use bit_slice_views_mut::{Bits, BitsMut, BitsWindow, Pair};
 
 /// The cuts of a window beside `split_at_mut`: of every `BitsWindow`.
 pub trait BitsCut: BitsWindow {

@@ -10,8 +10,7 @@ use crate::parts::BitsParts;
 use crate::words::{bounds_in, invert_in, load_in, make_in, span_of, store_in};
 use bit_addressing_memory::{BitEnd, BitIdx, BitRegister, mem};
 use bit_addressing_span::Domain;
-use bit_slice_views::Bits;
-use bit_slice_views_mut::BitsMut;
+use bit_slice_views_mut::{Bits, BitsMut};
 
 /// The words of a writable window, each read and written in the part of it that lies in the window.
 ///

@@ -11,8 +11,7 @@ use crate::bit_domain_mut::BitDomainMut;
 use crate::domain_mut::WindowDomainMut;
 use crate::halves::{Halves, split_in};
 use bit_addressing_memory::BitRegister;
-use bit_slice_views::Bits;
-use bit_slice_views_mut::{BitsMut, BitsWindow, MayWriteBeside};
+use bit_slice_views_mut::{Bits, BitsMut, BitsWindow, MayWriteBeside};
 
 /// What a writable window lends by words: of every `BitsWindow`.
 pub trait BitsDomains: BitsWindow {

@@ -4,8 +4,7 @@ ghost use Rattle.std.specs.Prelude.{◌≡◌, ◌+◌, ◌≤◌, ◌++◌, dro
 ghost use Rattle.bit_addressing_memory.specs.Memory.{piece, with_piece};
 
 use crate::windows::{rotate_window, swap_window, write_window};
-use bit_slice_views::Bits;
-use bit_slice_views_mut::BitsMut;
+use bit_slice_views_mut::{Bits, BitsMut};
 
 /// The changes of a part of a list, named by its first bit: of every `BitsMut`, a container too, of which no part can be
 /// lent. No call takes memory, and every bit outside the part stays.

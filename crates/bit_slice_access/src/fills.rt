@@ -9,8 +9,7 @@ use crate::edits::BitsEdits;
 use bit_addressing_memory::{
     BitIdx, BitOrder, BitRegister, Lsb0, Walk, most_singly, read_bit, write_bit,
 };
-use bit_slice_views::{BitSlice, Bits};
-use bit_slice_views_mut::BitsMut;
+use bit_slice_views_mut::{BitSlice, Bits, BitsMut};
 
 /// The changes of a window by a closure: of every `BitsMut`.
 ///

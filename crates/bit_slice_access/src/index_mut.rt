@@ -10,8 +10,7 @@ ghost use Rattle.bit_slice_access.specs.Shows.{IsPartOf};
 use crate::bit_mut::BitMut;
 use crate::copies::place_in;
 use crate::part::Part;
-use bit_slice_views::{BitRange, Bits};
-use bit_slice_views_mut::{BitsMut, BitsWindow};
+use bit_slice_views_mut::{BitRange, Bits, BitsMut, BitsWindow};
 use std::ops::{Range, RangeFrom, RangeFull, RangeInclusive, RangeTo, RangeToInclusive};
 
 /// What `get_mut` and `index_mut` take: an index, or one of the six kinds of ranges.

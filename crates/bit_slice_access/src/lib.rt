@@ -20,6 +20,7 @@ mod words;
 pub use access::BitsAccess;
 pub use bit_domain_mut::BitDomainMut;
 pub use bit_mut::BitMut;
+pub use bit_slice_views_mut::{BitsMut, BitsShown, BitsWindow, MayWriteBeside};
 pub use copies::BitsCopy;
 pub use cut::BitsCut;
 pub use domain_mut::WindowDomainMut;

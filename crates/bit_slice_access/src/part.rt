@@ -7,8 +7,7 @@ ghost use Rattle.bit_addressing_span.specs.declared.span.TheConstants.{MAX_BITS}
 ghost use Rattle.bit_slice_views_mut.specs.Frame.{frame_of};
 
 use bit_addressing_memory::BitRegister;
-use bit_slice_views::{BitSlice, Bits};
-use bit_slice_views_mut::{BitsMut, BitsShown, BitsWindow, MayWriteBeside};
+use bit_slice_views_mut::{BitSlice, Bits, BitsMut, BitsShown, BitsWindow, MayWriteBeside};
 
 /// Some bits of a window, as a window of its own: what a range lends.
 ///

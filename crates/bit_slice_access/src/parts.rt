@@ -6,13 +6,13 @@ ghost use Rattle.bit_addressing_memory.specs.Memory.{piece, read_by, touched};
 ghost use Rattle.bit_addressing_span.specs.Domain.{domain_bits, domain_numbers, domain_start, IsCut, IsEnclave};
 ghost use Rattle.bit_addressing_span.specs.Span.{extent, LiesInside};
 ghost use Rattle.bit_slice_access.specs.Masked.{AreMaskedBits};
-ghost use Rattle.bit_slice_views.specs.BitRef.{bit_value};
-ghost use Rattle.bit_slice_views.specs.Parts.{parts_bits, parts_start, IsBitCut, IsOnePart};
-ghost use Rattle.bit_slice_views.specs.View.{view_bits, view_head};
+ghost use Rattle.bit_slice_views_mut.specs.BitRef.{bit_value};
+ghost use Rattle.bit_slice_views_mut.specs.DomainParts.{parts_bits, parts_start, IsBitCut, IsOnePart};
+ghost use Rattle.bit_slice_views_mut.specs.View.{view_bits, view_head};
 
 use bit_addressing_memory::{BitOrder, BitRegister};
 use bit_addressing_span::Domain;
-use bit_slice_views::{BitDomain, BitRef, BitSlice, BitSliceIndex, Bits};
+use bit_slice_views_mut::{BitDomain, BitRef, BitSlice, BitSliceIndex, Bits};
 
 /// The parts of a list of bits, as shared windows: of every `Bits`. A shared window has calls of the same names whose
 /// answers live as long as its words; here they live as long as the borrow.

@@ -1,7 +1,8 @@
 //! Chunks of a memory in any lawful order, counted in any direction: by words and shifts where its positions go straight,
 //! else by limbs, each word turned to the order of its digits as a whole.
 
-ghost use Rattle.std.specs.Prelude.{◌≡◌, ℕ, ◌+◌, ◌-◌, ◌*◌, ◌/◌, ◌^◌, ◌<◌, ◌≤◌, length};
+ghost use Rattle.std.specs.Prelude.{◌≡◌, ◌+◌, ◌*◌, ◌<◌, ◌≤◌};
+ghost use Rattle.bit_addressing_memory.specs.Lies.{Lies};
 ghost use Rattle.bit_addressing_memory.specs.Memory.{entry, read_by, Overwrites};
 ghost use Rattle.bit_addressing_memory.specs.Straight.{Goes, IsStraight};
 ghost use Rattle.bit_addressing_memory.specs.declared.direction.Direction.{Direction};
@@ -37,8 +38,7 @@ pub fn read_bits<R: BitRegister, O: BitOrder<R>>(
 ) -> u64
     requires some { 0 < count }
     requires few { count ≤ 64 }
-    requires within { place + count ≤ length words.now * R.BITS }
-    requires ends { place + count < 2 ^ 64 }
+    requires lies { Lies R.BITS words.now place count }
     ensures { IsChunk (read_by R.BitRegister O.position) words.now place count direction result }
 {
     match direction_of::<R, O>() {
@@ -63,8 +63,7 @@ pub fn read_touched<R: BitRegister, O: BitOrder<R>>(
 ) -> u64
     requires some { 0 < count }
     requires few { count ≤ 64 }
-    requires within { place + count ≤ length words.now * R.BITS }
-    requires ends { place + count < 2 ^ 64 }
+    requires lies { Lies R.BITS words.now place count }
     ensures { IsChunk (read_by R.BitRegister O.position) words.now place count direction result }
 {
     match direction_of::<R, O>() {
@@ -86,8 +85,7 @@ pub fn read_chunk<R: BitRegister, O: BitOrder<R>>(
     words: &[R],
     place: usize,
 ) -> u64
-    requires within { place + 64 ≤ length words.now * R.BITS }
-    requires ends { place + 64 < 2 ^ 64 }
+    requires lies { Lies R.BITS words.now place 64 }
     ensures { IsChunk (read_by R.BitRegister O.position) words.now place 64 direction result }
 {
     read_nth_chunk::<R, O>(direction, words, place, 0)
@@ -101,8 +99,7 @@ pub fn read_nth_chunk<R: BitRegister, O: BitOrder<R>>(
     place: usize,
     k: usize,
 ) -> u64
-    requires within { place + 64 * k + 64 ≤ length words.now * R.BITS }
-    requires ends { place + 64 * k + 64 < 2 ^ 64 }
+    requires lies { Lies R.BITS words.now (place + 64 * k) 64 }
     ensures { IsChunk (read_by R.BitRegister O.position) words.now (place + 64 * k) 64 direction result }
 {
     match direction_of::<R, O>() {
@@ -129,8 +126,7 @@ pub fn write_bits<R: BitRegister, O: BitOrder<R>>(
 )
     requires some { 0 < count }
     requires few { count ≤ 64 }
-    requires within { place + count ≤ length words.old * R.BITS }
-    requires ends { place + count < 2 ^ 64 }
+    requires lies { Lies R.BITS words.old place count }
     ensures { Overwrites (read_by R.BitRegister O.position) words.old words.new place count
         (chunk_bit direction chunk) }
 {
@@ -154,8 +150,7 @@ pub fn write_chunk<R: BitRegister, O: BitOrder<R>>(
     place: usize,
     chunk: u64,
 )
-    requires within { place + 64 ≤ length words.old * R.BITS }
-    requires ends { place + 64 < 2 ^ 64 }
+    requires lies { Lies R.BITS words.old place 64 }
     ensures { Overwrites (read_by R.BitRegister O.position) words.old words.new place 64
         (chunk_bit direction chunk) }
 {
@@ -184,8 +179,7 @@ pub fn combine_bits<R: BitRegister, O: BitOrder<R>>(
 )
     requires some { 0 < count }
     requires few { count ≤ 64 }
-    requires within { place + count ≤ length words.old * R.BITS }
-    requires ends { place + count < 2 ^ 64 }
+    requires lies { Lies R.BITS words.old place count }
     ensures { Overwrites (read_by R.BitRegister O.position) words.old words.new place count
         (λ k. combined_bit how (entry (read_by R.BitRegister O.position) words.old (place + k))
         (chunk_bit direction other k)) }
@@ -207,8 +201,7 @@ pub fn combine_chunk<R: BitRegister, O: BitOrder<R>>(
     place: usize,
     other: u64,
 )
-    requires within { place + 64 ≤ length words.old * R.BITS }
-    requires ends { place + 64 < 2 ^ 64 }
+    requires lies { Lies R.BITS words.old place 64 }
     ensures { Overwrites (read_by R.BitRegister O.position) words.old words.new place 64
         (λ k. combined_bit how (entry (read_by R.BitRegister O.position) words.old (place + k))
         (chunk_bit direction other k)) }

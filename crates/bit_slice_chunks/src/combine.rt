@@ -1,8 +1,9 @@
 //! Bits of a memory combined with those of a chunk, in the memory's own words: what two chunks make of a word that they
 //! share is two masked writes, and neither waits for the other.
 
-ghost use Rattle.std.specs.Prelude.{◌≡◌, ℕ, ◌+◌, ◌-◌, ◌*◌, ◌^◌, ◌<◌, ◌≤◌, length};
+ghost use Rattle.std.specs.Prelude.{◌≡◌, ◌+◌, ◌<◌, ◌≤◌, length};
 ghost use Rattle.std.specs.Prelude.{slice_index_or};
+ghost use Rattle.bit_addressing_memory.specs.Lies.{Lies};
 ghost use Rattle.bit_addressing_memory.specs.Memory.{entry, read_by, Overwrites};
 ghost use Rattle.bit_addressing_memory.specs.Straight.{Goes};
 ghost use Rattle.bit_slice_chunks.specs.Chunk.{chunk_bit};
@@ -28,8 +29,7 @@ pub fn combine_bits<R: BitRegister, O: BitOrder<R>>(
     requires goes { Goes R.BITS O.position direction }
     requires some { 0 < count }
     requires few { count ≤ 64 }
-    requires within { place + count ≤ length words.old * R.BITS }
-    requires ends { place + count < 2 ^ 64 }
+    requires lies { Lies R.BITS words.old place count }
     ensures { Overwrites (read_by R.BitRegister O.position) words.old words.new place count
         (λ k. combined_bit how (entry (read_by R.BitRegister O.position) words.old (place + k))
         (chunk_bit direction other k)) }
@@ -48,8 +48,7 @@ pub fn combine_chunk<R: BitRegister, O: BitOrder<R>>(
     other: u64,
 )
     requires goes { Goes R.BITS O.position direction }
-    requires within { place + 64 ≤ length words.old * R.BITS }
-    requires ends { place + 64 < 2 ^ 64 }
+    requires lies { Lies R.BITS words.old place 64 }
     ensures { Overwrites (read_by R.BitRegister O.position) words.old words.new place 64
         (λ k. combined_bit how (entry (read_by R.BitRegister O.position) words.old (place + k))
         (chunk_bit direction other k)) }
@@ -93,8 +92,7 @@ pub fn write_chunk<R: BitRegister, O: BitOrder<R>>(
     chunk: u64,
 )
     requires goes { Goes R.BITS O.position direction }
-    requires within { place + 64 ≤ length words.old * R.BITS }
-    requires ends { place + 64 < 2 ^ 64 }
+    requires lies { Lies R.BITS words.old place 64 }
     ensures { Overwrites (read_by R.BitRegister O.position) words.old words.new place 64
         (chunk_bit direction chunk) }
 {

@@ -1,7 +1,8 @@
 //! Up to 64 bits of a memory read as a chunk, and written: where words are counted each that they touch is read once, or put
 //! once; else a whole chunk is read, where the memory has one, and cut off.
 
-ghost use Rattle.std.specs.Prelude.{◌≡◌, ℕ, ◌+◌, ◌-◌, ◌*◌, ◌^◌, ◌<◌, ◌≤◌, length, true};
+ghost use Rattle.std.specs.Prelude.{◌≡◌, ◌+◌, ◌-◌, ◌*◌, ◌^◌, ◌<◌, ◌≤◌, length, true};
+ghost use Rattle.bit_addressing_memory.specs.Lies.{Lies};
 ghost use Rattle.bit_addressing_memory.specs.Memory.{read_by, touched, Overwrites};
 ghost use Rattle.bit_addressing_memory.specs.Straight.{Goes};
 ghost use Rattle.bit_slice_chunks.specs.Chunk.{chunk_bit, IsChunk};
@@ -35,8 +36,7 @@ pub fn read_bits<R: BitRegister, O: BitOrder<R>>(
     requires goes { Goes R.BITS O.position direction }
     requires some { 0 < count }
     requires few { count ≤ 64 }
-    requires within { place + count ≤ length words.now * R.BITS }
-    requires ends { place + count < 2 ^ 64 }
+    requires lies { Lies R.BITS words.now place count }
     ensures { IsChunk (read_by R.BitRegister O.position) words.now place count direction result }
 {
     if has_chunk::<R>(words, place) {
@@ -57,8 +57,7 @@ pub fn read_counted<R: BitRegister, O: BitOrder<R>>(
     requires goes { Goes R.BITS O.position direction }
     requires some { 0 < count }
     requires few { count ≤ 64 }
-    requires within { place + count ≤ length words.now * R.BITS }
-    requires ends { place + count < 2 ^ 64 }
+    requires lies { Lies R.BITS words.now place count }
     ensures chunk { IsChunk (read_by R.BitRegister O.position) words.now place count direction result.0 }
     ensures reads { result.1 ≡ touched R.BITS place count }
 {
@@ -107,8 +106,7 @@ pub fn write_bits<R: BitRegister, O: BitOrder<R>>(
     requires goes { Goes R.BITS O.position direction }
     requires some { 0 < count }
     requires few { count ≤ 64 }
-    requires within { place + count ≤ length words.old * R.BITS }
-    requires ends { place + count < 2 ^ 64 }
+    requires lies { Lies R.BITS words.old place count }
     ensures { Overwrites (read_by R.BitRegister O.position) words.old words.new place count
         (chunk_bit direction chunk) }
 {
@@ -127,8 +125,7 @@ pub fn write_counted<R: BitRegister, O: BitOrder<R>>(
     requires goes { Goes R.BITS O.position direction }
     requires some { 0 < count }
     requires few { count ≤ 64 }
-    requires within { place + count ≤ length words.old * R.BITS }
-    requires ends { place + count < 2 ^ 64 }
+    requires lies { Lies R.BITS words.old place count }
     ensures bits { Overwrites (read_by R.BitRegister O.position) words.old words.new place count
         (chunk_bit direction chunk) }
     ensures writes { result ≡ touched R.BITS place count }

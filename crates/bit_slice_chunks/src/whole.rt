@@ -1,7 +1,8 @@
 //! 64 bits of a memory read as a chunk: of all words but the last a compiler makes one load. A register of more than
 //! 64 bits goes by `transfer`.
 
-ghost use Rattle.std.specs.Prelude.{◌≡◌, ℕ, ◌+◌, ◌-◌, ◌*◌, ◌/◌, ◌^◌, ◌<◌, ◌≤◌, length, slice_set};
+ghost use Rattle.std.specs.Prelude.{◌≡◌, ◌+◌, ◌*◌, ◌<◌, ◌≤◌, length, slice_set};
+ghost use Rattle.bit_addressing_memory.specs.Lies.{Lies};
 ghost use Rattle.bit_addressing_memory.specs.Memory.{read_by, Overwrites};
 ghost use Rattle.bit_addressing_memory.specs.Straight.{Goes};
 ghost use Rattle.bit_slice_chunks.specs.Chunk.{chunk_bit, IsChunk};
@@ -19,8 +20,7 @@ pub fn read_chunk<R: BitRegister, O: BitOrder<R>>(
     place: usize,
 ) -> u64
     requires goes { Goes R.BITS O.position direction }
-    requires within { place + 64 ≤ length words.now * R.BITS }
-    requires ends { place + 64 < 2 ^ 64 }
+    requires lies { Lies R.BITS words.now place 64 }
     ensures { IsChunk (read_by R.BitRegister O.position) words.now place 64 direction result }
 {
     read_nth_chunk::<R, O>(direction, words, place, 0)
@@ -35,8 +35,7 @@ pub fn read_nth_chunk<R: BitRegister, O: BitOrder<R>>(
     k: usize,
 ) -> u64
     requires goes { Goes R.BITS O.position direction }
-    requires within { place + 64 * k + 64 ≤ length words.now * R.BITS }
-    requires ends { place + 64 * k + 64 < 2 ^ 64 }
+    requires lies { Lies R.BITS words.now (place + 64 * k) 64 }
     ensures { IsChunk (read_by R.BitRegister O.position) words.now (place + 64 * k) 64 direction result }
 {
     if R::BITS > 64 {
@@ -58,8 +57,7 @@ fn read_from<R: BitRegister, O: BitOrder<R>>(
     requires goes { Goes R.BITS O.position direction }
     requires narrow { R.BITS ≤ 64 }
     requires index { by < R.BITS }
-    requires within { first * R.BITS + by + 64 ≤ length words.now * R.BITS }
-    requires ends { first * R.BITS + by + 64 < 2 ^ 64 }
+    requires lies { Lies R.BITS words.now (first * R.BITS + by) 64 }
     ensures { IsChunk (read_by R.BitRegister O.position) words.now (first * R.BITS + by) 64 direction result }
 {
     let low = gathered::<R, O>(direction, words, first);
@@ -80,8 +78,7 @@ pub(crate) fn gathered<R: BitRegister, O: BitOrder<R>>(
 ) -> u64
     requires goes { Goes R.BITS O.position direction }
     requires narrow { R.BITS ≤ 64 }
-    requires within { first * R.BITS + 64 ≤ length words.now * R.BITS }
-    requires ends { first * R.BITS + 64 < 2 ^ 64 }
+    requires lies { Lies R.BITS words.now (first * R.BITS) 64 }
     ensures { IsChunk (read_by R.BitRegister O.position) words.now (first * R.BITS) 64 direction result }
 {
     let bits = bits_of::<R>();
@@ -103,8 +100,7 @@ pub(crate) fn scattered<R: BitRegister, O: BitOrder<R>>(
 )
     requires goes { Goes R.BITS O.position direction }
     requires narrow { R.BITS ≤ 64 }
-    requires within { first * R.BITS + 64 ≤ length words.old * R.BITS }
-    requires ends { first * R.BITS + 64 < 2 ^ 64 }
+    requires lies { Lies R.BITS words.old (first * R.BITS) 64 }
     ensures { Overwrites (read_by R.BitRegister O.position) words.old words.new (first * R.BITS) 64
         (chunk_bit direction chunk) }
 {

@@ -8,8 +8,8 @@ use Rattle.std.proofs.lemmas.Iterator.{YieldsList}
 use Rattle.std.proofs.lemmas.Iterator.Consumers.{YieldsList-from_shown}
 use Rattle.std.specs.Iterator.{SkipsThenYields, Yields}
 use Rattle.bit_addressing_memory.specs.Memory.{memory, piece, with_piece}
-use Rattle.bit_slice_views_mut.specs.Frame.{frame_of}
-use Rattle.bit_slice_views_mut.specs.Parts.{IsPart, Windows}
+use Rattle.bit_slice_access.specs.Frame.{frame_of}
+use Rattle.bit_slice_access.specs.Parts.{IsPart, Windows}
 use Rattle.bit_slice_access.specs.PartLender.{PartLender}
 use Rattle.bit_slice_access.proofs.PartLemmas.{part_written}
 use Rattle.bit_slice_iterators.specs.Cuts.{GivesFirst, KeepsCut, PiecesLeft}

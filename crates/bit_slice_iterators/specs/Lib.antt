@@ -12,5 +12,5 @@ pub use Rattle.bit_addressing_memory.specs.Memory
 pub use Rattle.bit_slice_views.specs.Found
 pub use Rattle.bit_slice_views.specs.BitRef
 pub use Rattle.bit_slice_views.specs.View
-pub use Rattle.bit_slice_views_mut.specs.Frame
+pub use Rattle.bit_slice_access.specs.Frame
 pub use Rattle.bit_slice_access.specs.BitMut

@@ -8,7 +8,7 @@ use Rattle.std.specs.Prelude.{ℕ, ◌≡◌, ◌+◌, ◌*◌, ◌<◌, ◌≤�
 use Rattle.bit_addressing_memory.specs.Memory.{Reading, memory, piece}
 use Rattle.bit_slice_views.specs.SpanLimits.{MAX_BITS}
 use Rattle.bit_slice_iterators.specs.Cuts.{Cut}
-use Rattle.bit_slice_views_mut.specs.Frame.{Frame, frame_of}
+use Rattle.bit_slice_access.specs.Frame.{Frame, frame_of}
 use Rattle.bit_slice_iterators.specs.declared.pieces_mut.PiecesMut.{PiecesMut}
 
 -- the window, as it is now

@@ -1,7 +1,7 @@
 -- A part of a window that outlives what lent its pieces.
 use Rattle.std.specs.Prelude.{ℕ, ◌≡◌, ◌+◌, Bool, List, length}
 use Rattle.bit_addressing_memory.specs.Memory.{Reading, piece}
-use Rattle.bit_slice_views_mut.specs.Frame.{Frame}
+use Rattle.bit_slice_access.specs.Frame.{Frame}
 use Rattle.bit_slice_access.specs.Part.{part_view, part_head, part_len, part_whole, part_around}
 use Rattle.bit_slice_access.specs.declared.part.Part.{Part}
 

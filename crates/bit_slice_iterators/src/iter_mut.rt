@@ -13,9 +13,8 @@ ghost use Rattle.bit_slice_iterators.specs.Remainder.{IsRest};
 use crate::cuts::{Cuts, Single};
 use crate::pieces_mut::{PiecesMut, show_part};
 use bit_addressing_memory::BitRegister;
-use bit_slice_access::Part;
+use bit_slice_access::{BitsMut, BitsWindow, Part};
 use bit_slice_views::Bits;
-use bit_slice_views_mut::{BitsMut, BitsWindow};
 
 /// The bits of a writable window that were not lent yet: each is lent as a window of one bit.
 pub type IterMut<'s, V> = PiecesMut<'s, V, Single>;

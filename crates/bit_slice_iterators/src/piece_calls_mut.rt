@@ -7,7 +7,7 @@ ghost use Rattle.bit_slice_iterators.specs.PiecesMut.{pieces_loan, CutsAll, Piec
 
 use crate::iter_mut::IterMut;
 use crate::pieces_mut::{ChunksExactMut, ChunksMut, RChunksExactMut, RChunksMut};
-use bit_slice_views_mut::{BitsMut, BitsWindow};
+use bit_slice_access::{BitsMut, BitsWindow};
 
 /// The pieces of a window, to write: of every `BitsWindow`.
 ///

@@ -13,9 +13,8 @@ ghost use Rattle.bit_slice_iterators.specs.Remainder.{IsRest};
 
 use crate::cuts::{Backward, BackwardExact, Cuts, ExactCuts, Forward, ForwardExact};
 use bit_addressing_memory::BitRegister;
-use bit_slice_access::Part;
+use bit_slice_access::{BitsMut, BitsShown, BitsWindow, MayWriteBeside, Part};
 use bit_slice_views::Bits;
-use bit_slice_views_mut::{BitsMut, BitsShown, BitsWindow, MayWriteBeside};
 use std::marker::PhantomData;
 
 /// The pieces of a writable window that were not lent yet, of which one is lent at a time.

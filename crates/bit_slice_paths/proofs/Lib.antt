@@ -1,7 +1,9 @@
 pub mod AcrossLemmas
 pub mod ExchangeLemmas
+pub mod FitLemmas
 pub mod MirrorLemmas
 pub mod RotationLemmas
 pub mod SeekLemmas
 pub mod StepLemmas
 pub mod WalkLemmas
+pub mod WholeWordLemmas

@@ -14,15 +14,6 @@ takes_more old now new k is had =
     let b = had.at_most in
     record { at_least = omega arith; at_most = omega arith }
 
--- some, and then others
-pub takes_join : (old now new k m all : ℕ) → all ≡ k + m → Takes old now k k → Takes now new m m → Takes old new all all
-takes_join old now new k m all sum had more =
-    let a = had.at_least in
-    let b = had.at_most in
-    let c = more.at_least in
-    let d = more.at_most in
-    record { at_least = omega arith; at_most = omega arith }
-
 -- the same count by another name
 pub takes_as : (old new k n : ℕ) → k ≡ n → Takes old new k k → Takes old new n n
 takes_as old new k n is had = rw (← is) had

@@ -1,8 +1,10 @@
 pub mod Agrees
+pub mod Fits
 pub mod Mirrored
 pub mod Rotations
 pub mod Stands
 pub mod Steps
+pub mod WholeWords
 -- what public clauses cite of the crates below
 pub use Rattle.bit_addressing_memory.specs.BitOrder
 pub use Rattle.bit_addressing_memory.specs.BitRegister

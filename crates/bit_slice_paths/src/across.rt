@@ -1,13 +1,15 @@
 //! Walks between two memories by chunks of 64 bits, each in any lawful order. Chunks of both are read in one direction,
 //! that of the first: those of the other one are turned to it where their own is another.
 
-ghost use Rattle.std.specs.Prelude.{◌≡◌, ℕ, ◌+◌, ◌*◌, ◌^◌, ◌<◌, ◌≤◌, length};
-ghost use Rattle.bit_addressing_memory.specs.Memory.{read_by};
+ghost use Rattle.std.specs.Prelude.{◌≡◌, ℕ, ◌+◌, ◌*◌, ◌<◌, ◌≤◌};
+ghost use Rattle.bit_addressing_memory.specs.Lies.{Lies};
+ghost use Rattle.bit_addressing_memory.specs.Memory.{entry, read_by};
 ghost use Rattle.bit_slice_chunks.specs.Chunk.{IsChunk};
 ghost use Rattle.bit_slice_chunks.specs.Combined.{combined_bit, Combines};
 ghost use Rattle.bit_slice_paths.specs.Agrees.{Agrees};
 
 use crate::combining::Combining;
+use crate::two_memories::{self, NEAR, fit_of, matched};
 use bit_addressing_memory::mem::bits_of;
 use bit_addressing_memory::{BitOrder, BitRegister, Direction};
 use bit_slice_chunks::any_order::{
@@ -22,8 +24,7 @@ fn read_apart<R: BitRegister, O: BitOrder<R>>(
     words: &[R],
     place: usize,
 ) -> u64
-    requires within { place + 64 ≤ length words.now * R.BITS }
-    requires ends { place + 64 < 2 ^ 64 }
+    requires lies { Lies R.BITS words.now place 64 }
     ensures { IsChunk (read_by R.BitRegister O.position) words.now place 64 direction result }
 {
     read_chunk::<R, O>(direction, words, place)
@@ -37,8 +38,7 @@ fn read_for<R: BitRegister, Q: BitRegister, P: BitOrder<Q>>(
     others: &[Q],
     place: usize,
 ) -> u64
-    requires within { place + 64 ≤ length others.now * Q.BITS }
-    requires ends { place + 64 < 2 ^ 64 }
+    requires lies { Lies Q.BITS others.now place 64 }
     ensures { IsChunk (read_by Q.BitRegister P.position) others.now place 64 direction result }
 {
     let are_turned = R::BITS < 64 && Q::BITS < 64 && direction == Direction::Descending;
@@ -57,10 +57,8 @@ fn combine_whole<H: Combining, R: BitRegister, O: BitOrder<R>, Q: BitRegister, P
     others: &[Q],
     other_place: usize,
 )
-    requires within { place + 64 ≤ length words.old * R.BITS }
-    requires ends { place + 64 < 2 ^ 64 }
-    requires other_within { other_place + 64 ≤ length others.now * Q.BITS }
-    requires other_ends { other_place + 64 < 2 ^ 64 }
+    requires lies { Lies R.BITS words.old place 64 }
+    requires other_lies { Lies Q.BITS others.now other_place 64 }
     ensures { Combines (read_by R.BitRegister O.position) words.old words.new place 64
         (combined_bit H.HOW) (read_by Q.BitRegister P.position) others.now other_place }
 {
@@ -71,19 +69,17 @@ fn combine_whole<H: Combining, R: BitRegister, O: BitOrder<R>, Q: BitRegister, P
 
 // Combines up to 64 bits.
 #[inline(never)]
-fn combine_rest<H: Combining, R: BitRegister, O: BitOrder<R>, Q: BitRegister, P: BitOrder<Q>>(
-    words: &mut [R],
-    place: usize,
-    others: &[Q],
-    other_place: usize,
-    count: usize,
-)
+pub(crate) fn combine_rest<
+    H: Combining,
+    R: BitRegister,
+    O: BitOrder<R>,
+    Q: BitRegister,
+    P: BitOrder<Q>,
+>(words: &mut [R], place: usize, others: &[Q], other_place: usize, count: usize)
     requires some { 0 < count }
     requires few { count ≤ 64 }
-    requires within { place + count ≤ length words.old * R.BITS }
-    requires ends { place + count < 2 ^ 64 }
-    requires other_within { other_place + count ≤ length others.now * Q.BITS }
-    requires other_ends { other_place + count < 2 ^ 64 }
+    requires lies { Lies R.BITS words.old place count }
+    requires other_lies { Lies Q.BITS others.now other_place count }
     ensures { Combines (read_by R.BitRegister O.position) words.old words.new place count
         (combined_bit H.HOW) (read_by Q.BitRegister P.position) others.now other_place }
 {
@@ -118,10 +114,29 @@ pub fn combine<H: Combining, R: BitRegister, O: BitOrder<R>, Q: BitRegister, P: 
     other_place: usize,
     len: usize,
 )
-    requires within { place + len ≤ length words.old * R.BITS }
-    requires ends { place + len < 2 ^ 64 }
-    requires other_within { other_place + len ≤ length others.now * Q.BITS }
-    requires other_ends { other_place + len < 2 ^ 64 }
+    requires lies { Lies R.BITS words.old place len }
+    requires other_lies { Lies Q.BITS others.now other_place len }
+    ensures { Combines (read_by R.BitRegister O.position) words.old words.new place len
+        (combined_bit H.HOW) (read_by Q.BitRegister P.position) others.now other_place }
+{
+    if let Some(fit) = fit_of::<R, O, Q, P>(place, other_place, len) {
+        two_memories::combine::<H, R, O, Q, P>(fit, words, place, others, other_place, len);
+        return;
+    }
+    combine_by_blocks::<H, R, O, Q, P>(words, place, others, other_place, len);
+}
+
+// `combine`, block by block.
+#[inline(always)]
+fn combine_by_blocks<H: Combining, R: BitRegister, O: BitOrder<R>, Q: BitRegister, P: BitOrder<Q>>(
+    words: &mut [R],
+    place: usize,
+    others: &[Q],
+    other_place: usize,
+    len: usize,
+)
+    requires lies { Lies R.BITS words.old place len }
+    requires other_lies { Lies Q.BITS others.now other_place len }
     ensures { Combines (read_by R.BitRegister O.position) words.old words.new place len
         (combined_bit H.HOW) (read_by Q.BitRegister P.position) others.now other_place }
 {
@@ -147,10 +162,8 @@ fn combine_chunks<H: Combining, R: BitRegister, O: BitOrder<R>, Q: BitRegister, 
     other_place: usize,
     len: usize,
 )
-    requires within { place + len ≤ length words.old * R.BITS }
-    requires ends { place + len < 2 ^ 64 }
-    requires other_within { other_place + len ≤ length others.now * Q.BITS }
-    requires other_ends { other_place + len < 2 ^ 64 }
+    requires lies { Lies R.BITS words.old place len }
+    requires other_lies { Lies Q.BITS others.now other_place len }
     ensures { Combines (read_by R.BitRegister O.position) words.old words.new place len
         (combined_bit H.HOW) (read_by Q.BitRegister P.position) others.now other_place }
 {
@@ -175,10 +188,8 @@ fn difference_of_whole<R: BitRegister, O: BitOrder<R>, Q: BitRegister, P: BitOrd
     other_place: usize,
     k: usize,
 ) -> usize
-    requires within { place + 64 * k + 64 ≤ length words.now * R.BITS }
-    requires ends { place + 64 * k + 64 < 2 ^ 64 }
-    requires other_within { other_place + 64 * k + 64 ≤ length others.now * Q.BITS }
-    requires other_ends { other_place + 64 * k + 64 < 2 ^ 64 }
+    requires lies { Lies R.BITS words.now (place + 64 * k) 64 }
+    requires other_lies { Lies Q.BITS others.now (other_place + 64 * k) 64 }
     ensures { Agrees (read_by R.BitRegister O.position) words.now (place + 64 * k)
         (read_by Q.BitRegister P.position) others.now (other_place + 64 * k) 64 result }
 {
@@ -199,10 +210,8 @@ fn difference_of_rest<R: BitRegister, O: BitOrder<R>, Q: BitRegister, P: BitOrde
 ) -> usize
     requires some { 0 < count }
     requires few { count ≤ 64 }
-    requires within { place + count ≤ length words.now * R.BITS }
-    requires ends { place + count < 2 ^ 64 }
-    requires other_within { other_place + count ≤ length others.now * Q.BITS }
-    requires other_ends { other_place + count < 2 ^ 64 }
+    requires lies { Lies R.BITS words.now place count }
+    requires other_lies { Lies Q.BITS others.now other_place count }
     ensures { Agrees (read_by R.BitRegister O.position) words.now place
         (read_by Q.BitRegister P.position) others.now other_place count result }
 {
@@ -221,10 +230,103 @@ pub fn difference<R: BitRegister, O: BitOrder<R>, Q: BitRegister, P: BitOrder<Q>
     other_place: usize,
     len: usize,
 ) -> usize
-    requires within { place + len ≤ length words.now * R.BITS }
-    requires ends { place + len < 2 ^ 64 }
-    requires other_within { other_place + len ≤ length others.now * Q.BITS }
-    requires other_ends { other_place + len < 2 ^ 64 }
+    requires lies { Lies R.BITS words.now place len }
+    requires other_lies { Lies Q.BITS others.now other_place len }
+    ensures { Agrees (read_by R.BitRegister O.position) words.now place
+        (read_by Q.BitRegister P.position) others.now other_place len result }
+{
+    if len < 2 * NEAR {
+        return difference_by_blocks::<R, O, Q, P>(words, place, others, other_place, len);
+    }
+    difference_of_many::<R, O, Q, P>(words, place, others, other_place, len)
+}
+
+// `difference` of many bits. Out of line, so that few are compared by a short function.
+#[inline(never)]
+fn difference_of_many<R: BitRegister, O: BitOrder<R>, Q: BitRegister, P: BitOrder<Q>>(
+    words: &[R],
+    place: usize,
+    others: &[Q],
+    other_place: usize,
+    len: usize,
+) -> usize
+    requires many { 2 * 8192 ≤ len }
+    requires lies { Lies R.BITS words.now place len }
+    requires other_lies { Lies Q.BITS others.now other_place len }
+    ensures { Agrees (read_by R.BitRegister O.position) words.now place
+        (read_by Q.BitRegister P.position) others.now other_place len result }
+{
+    let near = difference_by_blocks::<R, O, Q, P>(words, place, others, other_place, NEAR);
+    if near < NEAR {
+        return near;
+    }
+    let rest = difference_behind::<R, O, Q, P>(
+        words,
+        place + NEAR,
+        others,
+        other_place + NEAR,
+        len - NEAR,
+    );
+    NEAR + rest
+}
+
+// How many of many first bits are found to be the same by rounds of whole words.
+#[inline(always)]
+fn known_same<R: BitRegister, O: BitOrder<R>, Q: BitRegister, P: BitOrder<Q>>(
+    words: &[R],
+    place: usize,
+    others: &[Q],
+    other_place: usize,
+    len: usize,
+) -> usize
+    requires lies { Lies R.BITS words.now place len }
+    requires other_lies { Lies Q.BITS others.now other_place len }
+    ensures most { result ≤ len }
+    ensures same { (k : ℕ) → k < result → entry (read_by R.BitRegister O.position) words.now (place + k)
+        ≡ entry (read_by Q.BitRegister P.position) others.now (other_place + k) }
+{
+    match fit_of::<R, O, Q, P>(place, other_place, len) {
+        Some(fit) => matched::<R, O, Q, P>(fit, words, place, others, other_place, len).done,
+        None => 0,
+    }
+}
+
+// `difference` by rounds of whole words, up to the one in which it lies.
+#[inline(always)]
+fn difference_behind<R: BitRegister, O: BitOrder<R>, Q: BitRegister, P: BitOrder<Q>>(
+    words: &[R],
+    place: usize,
+    others: &[Q],
+    other_place: usize,
+    len: usize,
+) -> usize
+    requires lies { Lies R.BITS words.now place len }
+    requires other_lies { Lies Q.BITS others.now other_place len }
+    ensures { Agrees (read_by R.BitRegister O.position) words.now place
+        (read_by Q.BitRegister P.position) others.now other_place len result }
+{
+    let same = known_same::<R, O, Q, P>(words, place, others, other_place, len);
+    let rest = difference_by_blocks::<R, O, Q, P>(
+        words,
+        place + same,
+        others,
+        other_place + same,
+        len - same,
+    );
+    same + rest
+}
+
+// `difference`, block by block.
+#[inline(always)]
+fn difference_by_blocks<R: BitRegister, O: BitOrder<R>, Q: BitRegister, P: BitOrder<Q>>(
+    words: &[R],
+    place: usize,
+    others: &[Q],
+    other_place: usize,
+    len: usize,
+) -> usize
+    requires lies { Lies R.BITS words.now place len }
+    requires other_lies { Lies Q.BITS others.now other_place len }
     ensures { Agrees (read_by R.BitRegister O.position) words.now place
         (read_by Q.BitRegister P.position) others.now other_place len result }
 {
@@ -254,10 +356,8 @@ fn difference_of_chunks<R: BitRegister, O: BitOrder<R>, Q: BitRegister, P: BitOr
     other_place: usize,
     len: usize,
 ) -> usize
-    requires within { place + len ≤ length words.now * R.BITS }
-    requires ends { place + len < 2 ^ 64 }
-    requires other_within { other_place + len ≤ length others.now * Q.BITS }
-    requires other_ends { other_place + len < 2 ^ 64 }
+    requires lies { Lies R.BITS words.now place len }
+    requires other_lies { Lies Q.BITS others.now other_place len }
     ensures { Agrees (read_by R.BitRegister O.position) words.now place
         (read_by Q.BitRegister P.position) others.now other_place len result }
 {

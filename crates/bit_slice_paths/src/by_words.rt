@@ -2,16 +2,20 @@
 //! indices.
 //!
 //! A step is counted in the loop that moves, once for each chunk. The count goes through the loop as a value, so that
-//! it stays in a register.
+//! it stays in a register. Many bits are combined and compared by whole words (`two_memories`), which count a step for
+//! each 64 bits that were read.
 
-ghost use Rattle.std.specs.Prelude.{◌≡◌, ℕ, ◌+◌, ◌-◌, ◌*◌, ◌/◌, ◌^◌, ◌<◌, ◌≤◌, ◌↔◌};
-ghost use Rattle.std.specs.Prelude.{length, IsTrue, true, false};
+ghost use Rattle.std.specs.Prelude.{◌≡◌, ℕ, ◌+◌, ◌-◌, ◌*◌, ◌/◌, ◌<◌, ◌≤◌, ◌↔◌};
+ghost use Rattle.std.specs.Prelude.{IsTrue, true, false};
+ghost use Rattle.bit_addressing_memory.specs.Lies.{Lies};
 ghost use Rattle.bit_addressing_memory.specs.Memory.{entry, read_by, Copies};
 ghost use Rattle.bit_addressing_memory.specs.Straight.{Goes};
 ghost use Rattle.bit_slice_chunks.specs.Combined.{combined_bit, Combines};
 ghost use Rattle.bit_slice_paths.specs.Steps.{groups, Takes};
 
+use crate::combining::Combining;
 use crate::steps::Steps;
+use crate::two_memories::{self, NEAR, fit_of, matched};
 use bit_addressing_memory::{BitOrder, BitRegister, Direction};
 use bit_slice_chunks::{
     Combination, combine_bits, combine_chunk, read_bits, read_chunk, read_nth_chunk, write_bits,
@@ -30,10 +34,8 @@ fn combine_whole<R: BitRegister, O: BitOrder<R>>(
     other_place: usize,
 )
     requires goes { Goes R.BITS O.position direction }
-    requires within { place + 64 ≤ length words.old * R.BITS }
-    requires ends { place + 64 < 2 ^ 64 }
-    requires other_within { other_place + 64 ≤ length others.now * R.BITS }
-    requires other_ends { other_place + 64 < 2 ^ 64 }
+    requires lies { Lies R.BITS words.old place 64 }
+    requires other_lies { Lies R.BITS others.now other_place 64 }
     ensures { Combines (read_by R.BitRegister O.position) words.old words.new place 64
         (combined_bit how) (read_by R.BitRegister O.position) others.now other_place }
 {
@@ -55,10 +57,8 @@ fn combine_rest<R: BitRegister, O: BitOrder<R>>(
     requires goes { Goes R.BITS O.position direction }
     requires some { 0 < count }
     requires few { count ≤ 64 }
-    requires within { place + count ≤ length words.old * R.BITS }
-    requires ends { place + count < 2 ^ 64 }
-    requires other_within { other_place + count ≤ length others.now * R.BITS }
-    requires other_ends { other_place + count < 2 ^ 64 }
+    requires lies { Lies R.BITS words.old place count }
+    requires other_lies { Lies R.BITS others.now other_place count }
     ensures { Combines (read_by R.BitRegister O.position) words.old words.new place count
         (combined_bit how) (read_by R.BitRegister O.position) others.now other_place }
 {
@@ -68,9 +68,8 @@ fn combine_rest<R: BitRegister, O: BitOrder<R>>(
 
 /// Combines each of `len` bits with one of another memory, a step for each 64.
 #[inline(always)]
-pub fn combine<R: BitRegister, O: BitOrder<R>>(
+pub fn combine<H: Combining, R: BitRegister, O: BitOrder<R>>(
     direction: Direction,
-    how: Combination,
     words: &mut [R],
     place: usize,
     others: &[R],
@@ -79,18 +78,28 @@ pub fn combine<R: BitRegister, O: BitOrder<R>>(
     steps: &mut Steps,
 )
     requires goes { Goes R.BITS O.position direction }
-    requires within { place + len ≤ length words.old * R.BITS }
-    requires ends { place + len < 2 ^ 64 }
-    requires other_within { other_place + len ≤ length others.now * R.BITS }
-    requires other_ends { other_place + len < 2 ^ 64 }
+    requires lies { Lies R.BITS words.old place len }
+    requires other_lies { Lies R.BITS others.now other_place len }
     ensures combined { Combines (read_by R.BitRegister O.position) words.old words.new place len
-        (combined_bit how) (read_by R.BitRegister O.position) others.now other_place }
+        (combined_bit H.HOW) (read_by R.BitRegister O.position) others.now other_place }
     ensures steps { Takes steps.old steps.new (groups len 64) (groups len 64) }
 {
+    if let Some(fit) = fit_of::<R, O, R, O>(place, other_place, len) {
+        let bits = two_memories::combine::<H, R, O, R, O>(
+            fit,
+            words,
+            place,
+            others,
+            other_place,
+            len,
+        );
+        steps.bits(bits);
+        return;
+    }
     let counted = mem::replace(steps, Steps::new());
     *steps = combine_counted::<R, O>(
         direction,
-        how,
+        H::HOW,
         words,
         place,
         others,
@@ -113,10 +122,8 @@ fn combine_counted<R: BitRegister, O: BitOrder<R>>(
     counted: Steps,
 ) -> Steps
     requires goes { Goes R.BITS O.position direction }
-    requires within { place + len ≤ length words.old * R.BITS }
-    requires ends { place + len < 2 ^ 64 }
-    requires other_within { other_place + len ≤ length others.now * R.BITS }
-    requires other_ends { other_place + len < 2 ^ 64 }
+    requires lies { Lies R.BITS words.old place len }
+    requires other_lies { Lies R.BITS others.now other_place len }
     ensures combined { Combines (read_by R.BitRegister O.position) words.old words.new place len
         (combined_bit how) (read_by R.BitRegister O.position) others.now other_place }
     ensures steps { Takes counted result (groups len 64) (groups len 64) }
@@ -164,10 +171,8 @@ fn move_rest<R: BitRegister, O: BitOrder<R>>(
     requires goes { Goes R.BITS O.position direction }
     requires some { 0 < count }
     requires few { count ≤ 64 }
-    requires source_within { source + count ≤ length words.old * R.BITS }
-    requires source_ends { source + count < 2 ^ 64 }
-    requires target_within { target + count ≤ length words.old * R.BITS }
-    requires target_ends { target + count < 2 ^ 64 }
+    requires source_lies { Lies R.BITS words.old source count }
+    requires target_lies { Lies R.BITS words.old target count }
     ensures { Copies (read_by R.BitRegister O.position) words.old words.new
         (read_by R.BitRegister O.position) words.old source target count }
 {
@@ -184,10 +189,8 @@ fn move_chunk<R: BitRegister, O: BitOrder<R>>(
     target: usize,
 )
     requires goes { Goes R.BITS O.position direction }
-    requires source_within { source + 64 ≤ length words.old * R.BITS }
-    requires source_ends { source + 64 < 2 ^ 64 }
-    requires target_within { target + 64 ≤ length words.old * R.BITS }
-    requires target_ends { target + 64 < 2 ^ 64 }
+    requires source_lies { Lies R.BITS words.old source 64 }
+    requires target_lies { Lies R.BITS words.old target 64 }
     ensures { Copies (read_by R.BitRegister O.position) words.old words.new
         (read_by R.BitRegister O.position) words.old source target 64 }
 {
@@ -207,10 +210,8 @@ fn copy_up<R: BitRegister, O: BitOrder<R>>(
 ) -> Steps
     requires goes { Goes R.BITS O.position direction }
     requires order { target ≤ source }
-    requires source_within { source + len ≤ length words.old * R.BITS }
-    requires source_ends { source + len < 2 ^ 64 }
-    requires target_within { target + len ≤ length words.old * R.BITS }
-    requires target_ends { target + len < 2 ^ 64 }
+    requires source_lies { Lies R.BITS words.old source len }
+    requires target_lies { Lies R.BITS words.old target len }
     ensures copied { Copies (read_by R.BitRegister O.position) words.old words.new
         (read_by R.BitRegister O.position) words.old source target len }
     ensures steps { Takes counted result (groups len 64) (groups len 64) }
@@ -243,10 +244,8 @@ fn copy_down<R: BitRegister, O: BitOrder<R>>(
 ) -> Steps
     requires goes { Goes R.BITS O.position direction }
     requires order { source ≤ target }
-    requires source_within { source + len ≤ length words.old * R.BITS }
-    requires source_ends { source + len < 2 ^ 64 }
-    requires target_within { target + len ≤ length words.old * R.BITS }
-    requires target_ends { target + len < 2 ^ 64 }
+    requires source_lies { Lies R.BITS words.old source len }
+    requires target_lies { Lies R.BITS words.old target len }
     ensures copied { Copies (read_by R.BitRegister O.position) words.old words.new
         (read_by R.BitRegister O.position) words.old source target len }
     ensures steps { Takes counted result (groups len 64) (groups len 64) }
@@ -271,10 +270,8 @@ fn copy_last<R: BitRegister, O: BitOrder<R>>(
     counted: Steps,
 ) -> Steps
     requires goes { Goes R.BITS O.position direction }
-    requires source_within { source + len ≤ length words.old * R.BITS }
-    requires source_ends { source + len < 2 ^ 64 }
-    requires target_within { target + len ≤ length words.old * R.BITS }
-    requires target_ends { target + len < 2 ^ 64 }
+    requires source_lies { Lies R.BITS words.old source len }
+    requires target_lies { Lies R.BITS words.old target len }
     ensures copied { Copies (read_by R.BitRegister O.position) words.old words.new
         (read_by R.BitRegister O.position) words.old (source + 64 * (len / 64)) (target + 64 * (len / 64))
         (len - 64 * (len / 64)) }
@@ -302,10 +299,8 @@ pub fn copy_over<R: BitRegister, O: BitOrder<R>>(
     steps: &mut Steps,
 )
     requires goes { Goes R.BITS O.position direction }
-    requires source_within { source + len ≤ length words.old * R.BITS }
-    requires source_ends { source + len < 2 ^ 64 }
-    requires target_within { target + len ≤ length words.old * R.BITS }
-    requires target_ends { target + len < 2 ^ 64 }
+    requires source_lies { Lies R.BITS words.old source len }
+    requires target_lies { Lies R.BITS words.old target len }
     ensures copied { Copies (read_by R.BitRegister O.position) words.old words.new
         (read_by R.BitRegister O.position) words.old source target len }
     ensures steps { Takes steps.old steps.new (groups len 64) (groups len 64) }
@@ -331,10 +326,8 @@ fn swap_rest<R: BitRegister, O: BitOrder<R>>(
     requires goes { Goes R.BITS O.position direction }
     requires some { 0 < count }
     requires few { count ≤ 64 }
-    requires within { place + count ≤ length words.old * R.BITS }
-    requires ends { place + count < 2 ^ 64 }
-    requires other_within { other_place + count ≤ length others.old * R.BITS }
-    requires other_ends { other_place + count < 2 ^ 64 }
+    requires lies { Lies R.BITS words.old place count }
+    requires other_lies { Lies R.BITS others.old other_place count }
     ensures to_words { Copies (read_by R.BitRegister O.position) words.old words.new
         (read_by R.BitRegister O.position) others.old other_place place count }
     ensures to_others { Copies (read_by R.BitRegister O.position) others.old others.new
@@ -356,10 +349,8 @@ fn swap_chunk<R: BitRegister, O: BitOrder<R>>(
     other_place: usize,
 )
     requires goes { Goes R.BITS O.position direction }
-    requires within { place + 64 ≤ length words.old * R.BITS }
-    requires ends { place + 64 < 2 ^ 64 }
-    requires other_within { other_place + 64 ≤ length others.old * R.BITS }
-    requires other_ends { other_place + 64 < 2 ^ 64 }
+    requires lies { Lies R.BITS words.old place 64 }
+    requires other_lies { Lies R.BITS others.old other_place 64 }
     ensures to_words { Copies (read_by R.BitRegister O.position) words.old words.new
         (read_by R.BitRegister O.position) others.old other_place place 64 }
     ensures to_others { Copies (read_by R.BitRegister O.position) others.old others.new
@@ -383,10 +374,8 @@ pub fn swap<R: BitRegister, O: BitOrder<R>>(
     steps: &mut Steps,
 )
     requires goes { Goes R.BITS O.position direction }
-    requires within { place + len ≤ length words.old * R.BITS }
-    requires ends { place + len < 2 ^ 64 }
-    requires other_within { other_place + len ≤ length others.old * R.BITS }
-    requires other_ends { other_place + len < 2 ^ 64 }
+    requires lies { Lies R.BITS words.old place len }
+    requires other_lies { Lies R.BITS others.old other_place len }
     ensures to_words { Copies (read_by R.BitRegister O.position) words.old words.new
         (read_by R.BitRegister O.position) others.old other_place place len }
     ensures to_others { Copies (read_by R.BitRegister O.position) others.old others.new
@@ -409,10 +398,8 @@ fn swap_counted<R: BitRegister, O: BitOrder<R>>(
     counted: Steps,
 ) -> Steps
     requires goes { Goes R.BITS O.position direction }
-    requires within { place + len ≤ length words.old * R.BITS }
-    requires ends { place + len < 2 ^ 64 }
-    requires other_within { other_place + len ≤ length others.old * R.BITS }
-    requires other_ends { other_place + len < 2 ^ 64 }
+    requires lies { Lies R.BITS words.old place len }
+    requires other_lies { Lies R.BITS others.old other_place len }
     ensures to_words { Copies (read_by R.BitRegister O.position) words.old words.new
         (read_by R.BitRegister O.position) others.old other_place place len }
     ensures to_others { Copies (read_by R.BitRegister O.position) others.old others.new
@@ -453,10 +440,8 @@ fn equal_chunk<R: BitRegister, O: BitOrder<R>>(
     k: usize,
 ) -> bool
     requires goes { Goes R.BITS O.position direction }
-    requires within { place + 64 * k + 64 ≤ length words.now * R.BITS }
-    requires ends { place + 64 * k + 64 < 2 ^ 64 }
-    requires other_within { other_place + 64 * k + 64 ≤ length others.now * R.BITS }
-    requires other_ends { other_place + 64 * k + 64 < 2 ^ 64 }
+    requires lies { Lies R.BITS words.now (place + 64 * k) 64 }
+    requires other_lies { Lies R.BITS others.now (other_place + 64 * k) 64 }
     ensures { IsTrue result ↔ ((i : ℕ) → i < 64
         → entry (read_by R.BitRegister O.position) words.now (place + 64 * k + i)
         ≡ entry (read_by R.BitRegister O.position) others.now (other_place + 64 * k + i)) }
@@ -479,10 +464,8 @@ fn equal_rest<R: BitRegister, O: BitOrder<R>>(
     requires goes { Goes R.BITS O.position direction }
     requires some { 0 < count }
     requires few { count ≤ 64 }
-    requires within { place + count ≤ length words.now * R.BITS }
-    requires ends { place + count < 2 ^ 64 }
-    requires other_within { other_place + count ≤ length others.now * R.BITS }
-    requires other_ends { other_place + count < 2 ^ 64 }
+    requires lies { Lies R.BITS words.now place count }
+    requires other_lies { Lies R.BITS others.now other_place count }
     ensures { IsTrue result ↔ ((k : ℕ) → k < count
         → entry (read_by R.BitRegister O.position) words.now (place + k)
         ≡ entry (read_by R.BitRegister O.position) others.now (other_place + k)) }
@@ -504,10 +487,95 @@ pub fn equal<R: BitRegister, O: BitOrder<R>>(
     steps: &mut Steps,
 ) -> bool
     requires goes { Goes R.BITS O.position direction }
-    requires within { place + len ≤ length words.now * R.BITS }
-    requires ends { place + len < 2 ^ 64 }
-    requires other_within { other_place + len ≤ length others.now * R.BITS }
-    requires other_ends { other_place + len < 2 ^ 64 }
+    requires lies { Lies R.BITS words.now place len }
+    requires other_lies { Lies R.BITS others.now other_place len }
+    ensures value { IsTrue result ↔ ((k : ℕ) → k < len
+        → entry (read_by R.BitRegister O.position) words.now (place + k)
+        ≡ entry (read_by R.BitRegister O.position) others.now (other_place + k)) }
+    ensures same { result ≡ true → Takes steps.old steps.new (groups len 64) (groups len 64) }
+    ensures other { result ≡ false → Takes steps.old steps.new 1 (groups len 64) }
+{
+    if len < 2 * NEAR {
+        return equal_by_blocks::<R, O>(direction, words, place, others, other_place, len, steps);
+    }
+    equal_of_many::<R, O>(direction, words, place, others, other_place, len, steps)
+}
+
+// `equal` of many bits. Out of line, so that few are compared by a short function.
+#[inline(never)]
+fn equal_of_many<R: BitRegister, O: BitOrder<R>>(
+    direction: Direction,
+    words: &[R],
+    place: usize,
+    others: &[R],
+    other_place: usize,
+    len: usize,
+    steps: &mut Steps,
+) -> bool
+    requires goes { Goes R.BITS O.position direction }
+    requires many { 2 * 8192 ≤ len }
+    requires lies { Lies R.BITS words.now place len }
+    requires other_lies { Lies R.BITS others.now other_place len }
+    ensures value { IsTrue result ↔ ((k : ℕ) → k < len
+        → entry (read_by R.BitRegister O.position) words.now (place + k)
+        ≡ entry (read_by R.BitRegister O.position) others.now (other_place + k)) }
+    ensures same { result ≡ true → Takes steps.old steps.new (groups len 64) (groups len 64) }
+    ensures other { result ≡ false → Takes steps.old steps.new 1 (groups len 64) }
+{
+    equal_by_blocks::<R, O>(direction, words, place, others, other_place, NEAR, steps)
+        && equal_behind::<R, O>(
+            direction,
+            words,
+            place + NEAR,
+            others,
+            other_place + NEAR,
+            len - NEAR,
+            steps,
+        )
+}
+
+// `equal` by rounds of whole words.
+#[inline(always)]
+fn equal_behind<R: BitRegister, O: BitOrder<R>>(
+    direction: Direction,
+    words: &[R],
+    place: usize,
+    others: &[R],
+    other_place: usize,
+    len: usize,
+    steps: &mut Steps,
+) -> bool
+    requires goes { Goes R.BITS O.position direction }
+    requires lies { Lies R.BITS words.now place len }
+    requires other_lies { Lies R.BITS others.now other_place len }
+    ensures value { IsTrue result ↔ ((k : ℕ) → k < len
+        → entry (read_by R.BitRegister O.position) words.now (place + k)
+        ≡ entry (read_by R.BitRegister O.position) others.now (other_place + k)) }
+    ensures same { result ≡ true → Takes steps.old steps.new (groups len 64) (groups len 64) }
+    ensures other { result ≡ false → Takes steps.old steps.new 1 (groups len 64) }
+{
+    if let Some(fit) = fit_of::<R, O, R, O>(place, other_place, len) {
+        let reached = matched::<R, O, R, O>(fit, words, place, others, other_place, len);
+        steps.bits(reached.seen);
+        return reached.done == len;
+    }
+    equal_by_blocks::<R, O>(direction, words, place, others, other_place, len, steps)
+}
+
+// Whether two stretches have the same bits, block by block.
+#[inline(always)]
+fn equal_by_blocks<R: BitRegister, O: BitOrder<R>>(
+    direction: Direction,
+    words: &[R],
+    place: usize,
+    others: &[R],
+    other_place: usize,
+    len: usize,
+    steps: &mut Steps,
+) -> bool
+    requires goes { Goes R.BITS O.position direction }
+    requires lies { Lies R.BITS words.now place len }
+    requires other_lies { Lies R.BITS others.now other_place len }
     ensures value { IsTrue result ↔ ((k : ℕ) → k < len
         → entry (read_by R.BitRegister O.position) words.now (place + k)
         ≡ entry (read_by R.BitRegister O.position) others.now (other_place + k)) }
@@ -540,10 +608,8 @@ fn equal_counted<R: BitRegister, O: BitOrder<R>>(
     counted: Steps,
 ) -> (bool, Steps)
     requires goes { Goes R.BITS O.position direction }
-    requires within { place + len ≤ length words.now * R.BITS }
-    requires ends { place + len < 2 ^ 64 }
-    requires other_within { other_place + len ≤ length others.now * R.BITS }
-    requires other_ends { other_place + len < 2 ^ 64 }
+    requires lies { Lies R.BITS words.now place len }
+    requires other_lies { Lies R.BITS others.now other_place len }
     ensures value { IsTrue result.0 ↔ ((k : ℕ) → k < len
         → entry (read_by R.BitRegister O.position) words.now (place + k)
         ≡ entry (read_by R.BitRegister O.position) others.now (other_place + k)) }

@@ -1,6 +1,7 @@
 //! Two stretches of one memory exchanged, by chunks of 64 bits.
 
-ghost use Rattle.std.specs.Prelude.{◌+◌, ◌*◌, ◌^◌, ◌<◌, ◌≤◌, length};
+ghost use Rattle.std.specs.Prelude.{◌+◌, ◌<◌, ◌≤◌};
+ghost use Rattle.bit_addressing_memory.specs.Lies.{Lies};
 ghost use Rattle.bit_addressing_memory.specs.Memory.{read_by, Swaps};
 
 use bit_addressing_memory::{BitOrder, BitRegister, Direction};
@@ -15,8 +16,7 @@ fn exchange_wholes<R: BitRegister, O: BitOrder<R>>(
     second: usize,
 )
     requires apart { first + 64 ≤ second }
-    requires within { second + 64 ≤ length words.old * R.BITS }
-    requires ends { second + 64 < 2 ^ 64 }
+    requires lies { Lies R.BITS words.old second 64 }
     ensures { Swaps (read_by R.BitRegister O.position) words.old words.new first second 64 }
 {
     let front = read_chunk::<R, O>(direction, words, first);
@@ -37,8 +37,7 @@ fn exchange_rests<R: BitRegister, O: BitOrder<R>>(
     requires some { 0 < count }
     requires few { count ≤ 64 }
     requires apart { first + count ≤ second }
-    requires within { second + count ≤ length words.old * R.BITS }
-    requires ends { second + count < 2 ^ 64 }
+    requires lies { Lies R.BITS words.old second count }
     ensures { Swaps (read_by R.BitRegister O.position) words.old words.new first second count }
 {
     let front = read_touched::<R, O>(direction, words, first, count);
@@ -57,8 +56,7 @@ pub fn exchange<R: BitRegister, O: BitOrder<R>>(
     len: usize,
 )
     requires apart { first + len ≤ second }
-    requires within { second + len ≤ length words.old * R.BITS }
-    requires ends { second + len < 2 ^ 64 }
+    requires lies { Lies R.BITS words.old second len }
     ensures { Swaps (read_by R.BitRegister O.position) words.old words.new first second len }
 {
     let whole = len / 64;

@@ -5,11 +5,19 @@ pub mod across;
 pub mod by_words;
 pub mod combining;
 pub mod exchange;
+mod kernel;
+pub mod match_words;
+mod merge;
 pub mod mirror;
 pub mod rotation;
 pub mod seek;
 mod steps;
+mod two_memories;
+mod walk;
+pub mod word_source;
 
 pub use bit_slice_chunks::any_order::direction_for;
-pub use bit_slice_chunks::{Combination, first_difference, raised, read_part};
+pub use bit_slice_chunks::{
+    Combination, first_difference, raised, read_bits, read_nth_chunk, read_part,
+};
 pub use steps::Steps;

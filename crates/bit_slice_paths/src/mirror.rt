@@ -1,6 +1,7 @@
 //! Bits of one memory in reverse, by chunks of 64: one from each end at a time, each of them turned round.
 
-ghost use Rattle.std.specs.Prelude.{ℕ, ◌+◌, ◌-◌, ◌*◌, ◌^◌, ◌<◌, ◌≤◌, length};
+ghost use Rattle.std.specs.Prelude.{◌+◌, ◌-◌, ◌<◌, ◌≤◌};
+ghost use Rattle.bit_addressing_memory.specs.Lies.{Lies};
 ghost use Rattle.bit_addressing_memory.specs.Memory.{entry, read_by, Overwrites};
 ghost use Rattle.bit_slice_paths.specs.Mirrored.{Mirrored};
 
@@ -17,8 +18,7 @@ fn turn_wholes<R: BitRegister, O: BitOrder<R>>(
     second: usize,
 )
     requires apart { first + 64 ≤ second }
-    requires within { second + 64 ≤ length words.old * R.BITS }
-    requires ends { second + 64 < 2 ^ 64 }
+    requires lies { Lies R.BITS words.old second 64 }
     ensures { Mirrored (read_by R.BitRegister O.position) words.old words.new first
         (second + 64 - first) 64 }
 {
@@ -40,8 +40,7 @@ fn turn_ends<R: BitRegister, O: BitOrder<R>>(
     requires some { 0 < count }
     requires few { count ≤ 64 }
     requires apart { first + count ≤ second }
-    requires within { second + count ≤ length words.old * R.BITS }
-    requires ends { second + count < 2 ^ 64 }
+    requires lies { Lies R.BITS words.old second count }
     ensures { Mirrored (read_by R.BitRegister O.position) words.old words.new first
         (second + count - first) count }
 {
@@ -63,8 +62,7 @@ fn turn_rest<R: BitRegister, O: BitOrder<R>>(
 )
     requires some { 0 < count }
     requires few { count ≤ 64 }
-    requires within { place + count ≤ length words.old * R.BITS }
-    requires ends { place + count < 2 ^ 64 }
+    requires lies { Lies R.BITS words.old place count }
     ensures { Overwrites (read_by R.BitRegister O.position) words.old words.new place count
         (λ k. entry (read_by R.BitRegister O.position) words.old (place + (count - 1 - k))) }
 {
@@ -81,8 +79,7 @@ pub fn reverse<R: BitRegister, O: BitOrder<R>>(
     place: usize,
     len: usize,
 )
-    requires within { place + len ≤ length words.old * R.BITS }
-    requires ends { place + len < 2 ^ 64 }
+    requires lies { Lies R.BITS words.old place len }
     ensures { Overwrites (read_by R.BitRegister O.position) words.old words.new place len
         (λ k. entry (read_by R.BitRegister O.position) words.old (place + (len - 1 - k))) }
 {

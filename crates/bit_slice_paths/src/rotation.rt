@@ -2,7 +2,8 @@
 //! others are moved, and so again until all have left; of many more the shorter part is first exchanged with as many at the
 //! other end, and is in place.
 
-ghost use Rattle.std.specs.Prelude.{◌≡◌, ◌+◌, ◌-◌, ◌*◌, ◌^◌, ◌<◌, ◌≤◌, length, true};
+ghost use Rattle.std.specs.Prelude.{◌≡◌, ◌+◌, ◌-◌, ◌<◌, ◌≤◌, true};
+ghost use Rattle.bit_addressing_memory.specs.Lies.{Lies};
 ghost use Rattle.bit_addressing_memory.specs.Memory.{entry, read_by, Copies, Overwrites};
 ghost use Rattle.bit_slice_paths.specs.Rotations.{rotated_from};
 
@@ -25,10 +26,8 @@ fn move_bits<R: BitRegister, O: BitOrder<R>>(
     target: usize,
     len: usize,
 )
-    requires source_within { source + len ≤ length words.old * R.BITS }
-    requires source_ends { source + len < 2 ^ 64 }
-    requires target_within { target + len ≤ length words.old * R.BITS }
-    requires target_ends { target + len < 2 ^ 64 }
+    requires source_lies { Lies R.BITS words.old source len }
+    requires target_lies { Lies R.BITS words.old target len }
     ensures { Copies (read_by R.BitRegister O.position) words.old words.new
         (read_by R.BitRegister O.position) words.old source target len }
 {
@@ -49,10 +48,8 @@ fn move_narrow<R: BitRegister, O: BitOrder<R>>(
     target: usize,
     len: usize,
 )
-    requires source_within { source + len ≤ length words.old * R.BITS }
-    requires source_ends { source + len < 2 ^ 64 }
-    requires target_within { target + len ≤ length words.old * R.BITS }
-    requires target_ends { target + len < 2 ^ 64 }
+    requires source_lies { Lies R.BITS words.old source len }
+    requires target_lies { Lies R.BITS words.old target len }
     ensures { Copies (read_by R.BitRegister O.position) words.old words.new
         (read_by R.BitRegister O.position) words.old source target len }
 {
@@ -79,8 +76,7 @@ fn hold_first<R: BitRegister, O: BitOrder<R>>(
     requires some { 0 < by }
     requires few { by ≤ 64 }
     requires most { by ≤ len }
-    requires within { place + len ≤ length words.old * R.BITS }
-    requires ends { place + len < 2 ^ 64 }
+    requires lies { Lies R.BITS words.old place len }
     ensures { Overwrites (read_by R.BitRegister O.position) words.old words.new place len
         (λ k. entry (read_by R.BitRegister O.position) words.old (place + rotated_from len by k)) }
 {
@@ -101,8 +97,7 @@ fn hold_last<R: BitRegister, O: BitOrder<R>>(
     requires some { 0 < by }
     requires few { by ≤ 64 }
     requires most { by ≤ len }
-    requires within { place + len ≤ length words.old * R.BITS }
-    requires ends { place + len < 2 ^ 64 }
+    requires lies { Lies R.BITS words.old place len }
     ensures { Overwrites (read_by R.BitRegister O.position) words.old words.new place len
         (λ k. entry (read_by R.BitRegister O.position) words.old (place + rotated_from len (len - by) k)) }
 {
@@ -138,8 +133,7 @@ fn move_down<R: BitRegister, O: BitOrder<R>>(
     len: usize,
     by: usize,
 )
-    requires within { place + len ≤ length words.old * R.BITS }
-    requires ends { place + len < 2 ^ 64 }
+    requires lies { Lies R.BITS words.old place len }
     requires most { by ≤ len }
     ensures { Overwrites (read_by R.BitRegister O.position) words.old words.new place len
         (λ k. entry (read_by R.BitRegister O.position) words.old (place + rotated_from len by k)) }
@@ -163,8 +157,7 @@ fn move_up<R: BitRegister, O: BitOrder<R>>(
     len: usize,
     by: usize,
 )
-    requires within { place + len ≤ length words.old * R.BITS }
-    requires ends { place + len < 2 ^ 64 }
+    requires lies { Lies R.BITS words.old place len }
     requires most { by ≤ len }
     ensures { Overwrites (read_by R.BitRegister O.position) words.old words.new place len
         (λ k. entry (read_by R.BitRegister O.position) words.old (place + rotated_from len (len - by) k)) }
@@ -188,8 +181,7 @@ pub fn rotate<R: BitRegister, O: BitOrder<R>>(
     len: usize,
     by: usize,
 )
-    requires within { place + len ≤ length words.old * R.BITS }
-    requires ends { place + len < 2 ^ 64 }
+    requires lies { Lies R.BITS words.old place len }
     requires most { by ≤ len }
     ensures { Overwrites (read_by R.BitRegister O.position) words.old words.new place len
         (λ k. entry (read_by R.BitRegister O.position) words.old (place + rotated_from len by k)) }

@@ -2,6 +2,7 @@
 //! or not at each of its first places.
 
 ghost use Rattle.std.specs.Prelude.{◌≡◌, ℕ, ◌+◌, ◌*◌, ◌^◌, ◌<◌, ◌≤◌, length, min, true, false};
+ghost use Rattle.bit_addressing_memory.specs.Lies.{Lies};
 ghost use Rattle.bit_addressing_memory.specs.Memory.{entry, read_by};
 ghost use Rattle.bit_slice_chunks.specs.Chunk.{chunk_bit, IsChunk};
 ghost use Rattle.bit_slice_paths.specs.Stands.{Stands, StandsFirst};
@@ -20,10 +21,8 @@ fn same<R: BitRegister, O: BitOrder<R>, Q: BitRegister, P: BitOrder<Q>>(
     other_place: usize,
     len: usize,
 ) -> bool
-    requires within { place + len ≤ length words.now * R.BITS }
-    requires ends { place + len < 2 ^ 64 }
-    requires other_within { other_place + len ≤ length others.now * Q.BITS }
-    requires other_ends { other_place + len < 2 ^ 64 }
+    requires lies { Lies R.BITS words.now place len }
+    requires other_lies { Lies Q.BITS others.now other_place len }
     ensures yes { result ≡ true → Stands (read_by R.BitRegister O.position) words.now place
         (read_by Q.BitRegister P.position) others.now other_place len }
     ensures no { result ≡ false → Stands (read_by R.BitRegister O.position) words.now place
@@ -48,10 +47,8 @@ fn shows<R: BitRegister, O: BitOrder<R>, Q: BitRegister, P: BitOrder<Q>>(
 ) -> bool
     requires some { 0 < len }
     requires few { from < 33 }
-    requires within { place + from + len ≤ length words.now * R.BITS }
-    requires ends { place + from + len < 2 ^ 64 }
-    requires other_within { other_place + len ≤ length others.now * Q.BITS }
-    requires other_ends { other_place + len < 2 ^ 64 }
+    requires lies { Lies R.BITS words.now (place + from) len }
+    requires other_lies { Lies Q.BITS others.now other_place len }
     requires chunk { (k : ℕ) → k < from + min len 32
         → chunk_bit direction chunk k ≡ entry (read_by R.BitRegister O.position) words.now (place + k) }
     requires sought { IsChunk (read_by Q.BitRegister P.position) others.now other_place (min len 32) direction sought }
@@ -87,8 +84,7 @@ fn start_near<R: BitRegister, O: BitOrder<R>, Q: BitRegister, P: BitOrder<Q>>(
     requires few { starts ≤ 33 }
     requires within { place + starts + len ≤ length words.now * R.BITS + 1 }
     requires ends { place + starts + len ≤ 2 ^ 64 }
-    requires other_within { other_place + len ≤ length others.now * Q.BITS }
-    requires other_ends { other_place + len < 2 ^ 64 }
+    requires other_lies { Lies Q.BITS others.now other_place len }
     requires sought { IsChunk (read_by Q.BitRegister P.position) others.now other_place (min len 32) direction sought }
     ensures { StandsFirst (read_by R.BitRegister O.position) words.now place
         (read_by Q.BitRegister P.position) others.now other_place len starts result }
@@ -129,8 +125,7 @@ pub fn start<R: BitRegister, O: BitOrder<R>, Q: BitRegister, P: BitOrder<Q>>(
     requires some_starts { 0 < starts }
     requires within { place + starts + len ≤ length words.now * R.BITS + 1 }
     requires ends { place + starts + len ≤ 2 ^ 64 }
-    requires other_within { other_place + len ≤ length others.now * Q.BITS }
-    requires other_ends { other_place + len < 2 ^ 64 }
+    requires other_lies { Lies Q.BITS others.now other_place len }
     ensures { StandsFirst (read_by R.BitRegister O.position) words.now place
         (read_by Q.BitRegister P.position) others.now other_place len starts result }
 {

@@ -1,5 +1,6 @@
 pub mod ChunkedLemmas
 pub mod CompareLemmas
+pub mod BlockOnes
 pub mod CountLemmas
 pub mod EdgeLemmas
 pub mod FoundLemmas

@@ -1,15 +1,16 @@
 -- Where a bit is found in a stretch of a memory, word by word.
 --
 -- One word: `lacks_is`, `digit_found`, `nowhere_word`, `word_nowhere`, `nowhere_part`, `first_part`, `last_part`.
--- Joined: `nowhere_join`, `first_of_cut`, `last_of_cut`. As an index of the list: `position_in`, `last_position_in`.
-use Rattle.std.proofs.Common.{◌≡◌, ℕ, ◌+◌, ◌-◌, ◌*◌, ◌^◌, ◌<◌, ◌≤◌, ◌↔◌, Bool, false, List, Option, Some, None}
-use Rattle.std.proofs.Common.{length, get_or, position, sym, ap, ◌∙◌, inl, inr, arith}
+-- Words of the other bit: `nowhere_opposite`. Joined: `nowhere_join`, `first_of_cut`, `last_of_cut`.
+-- As an index of the list: `position_in`, `last_position_in`.
+use Rattle.std.proofs.Common.{◌≡◌, ℕ, ◌+◌, ◌-◌, ◌*◌, ◌^◌, ◌<◌, ◌≤◌, ◌↔◌, Bool, true, false, List, Option, Some, None}
+use Rattle.std.proofs.Common.{length, get_or, not, position, refl, sym, ap, ◌∙◌, inl, inr, arith}
 use Rattle.std.specs.Option.{option_map}
 use Rattle.std.proofs.Math.Nat.{mul-le-mul_right}
 use Rattle.std.proofs.lemmas.Bool.{cases_lt}
 use Rattle.bit_addressing_memory.specs.BitOrder.{IsLawful}
 use Rattle.bit_addressing_memory.specs.Bits.{digit_at}
-use Rattle.bit_addressing_memory.specs.Memory.{Reading, indexed, memory, piece}
+use Rattle.bit_addressing_memory.specs.Memory.{Reading, entry, indexed, memory, piece}
 use Rattle.bit_addressing_memory.proofs.EntryLemmas.{entry_read}
 use Rattle.bit_addressing_memory.proofs.OrderCallerLemmas.{same_word}
 use Rattle.bit_addressing_memory.proofs.WindowLemmas.{length-window, window_bit}
@@ -268,3 +269,20 @@ last_position_in reading words bit place len (Some q) some fits found =
     (ap (is_bit bit) (window_bit reading words place len i some (omega arith))
     ∙ ap (bit_found reading words bit) there
     ∙ found.here))
+
+-- ---- words of the other bit
+
+is_bit-not : (bit : Bool) → is_bit bit (not bit) ≡ false
+is_bit-not true = refl
+is_bit-not false = refl
+
+-- n words without a bit, since all of theirs are the other one
+pub nowhere_opposite : {R : Type 0} (reading : Reading R) (words : List R) (bit : Bool) (first n : ℕ)
+    → ((k : ℕ) → k < n * reading.bits → entry reading words (first * reading.bits + k) ≡ not bit)
+    → Nowhere (bit_found reading words bit) (first * reading.bits) ((first + n) * reading.bits)
+nowhere_opposite reading words bit first n others p low high =
+    let k : ℕ = p - first * reading.bits in
+    let here : first * reading.bits + k ≡ p = omega arith in
+    ap (bit_found reading words bit) (sym here)
+    ∙ ap (is_bit bit) (others k (omega arith))
+    ∙ is_bit-not bit

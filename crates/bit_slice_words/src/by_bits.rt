@@ -4,6 +4,7 @@
 ghost use Rattle.std.specs.Prelude.{◌≡◌, ℕ, ◌+◌, ◌*◌, ◌^◌, ◌<◌, ◌≤◌, ◌↔◌, ◌&&◌, ◌||◌};
 ghost use Rattle.std.specs.Prelude.{length, IsTrue, true, false};
 ghost use Rattle.std.specs.Bool.{xor};
+ghost use Rattle.bit_addressing_memory.specs.Lies.{Lies};
 ghost use Rattle.bit_addressing_memory.specs.Memory.{entry, read_by, Copies, Overwrites};
 ghost use Rattle.bit_slice_paths.specs.Combined.{combined_bit, Combines};
 ghost use Rattle.bit_slice_paths.specs.Steps.{groups, Takes};
@@ -69,10 +70,8 @@ fn equal_by_chunks<R: BitRegister, O: BitOrder<R>>(
     len: usize,
     steps: &mut Steps,
 ) -> bool
-    requires within { place + len ≤ length words.now * R.BITS }
-    requires ends { place + len < 2 ^ 64 }
-    requires other_within { other_place + len ≤ length others.now * R.BITS }
-    requires other_ends { other_place + len < 2 ^ 64 }
+    requires lies { Lies R.BITS words.now place len }
+    requires other_lies { Lies R.BITS others.now other_place len }
     ensures value { IsTrue result ↔ ((k : ℕ) → k < len
         → entry (read_by R.BitRegister O.position) words.now (place + k)
         ≡ entry (read_by R.BitRegister O.position) others.now (other_place + k)) }
@@ -251,10 +250,8 @@ fn combine<H: Combining, R: BitRegister, O: BitOrder<R>>(
     len: usize,
     steps: &mut Steps,
 )
-    requires within { place + len ≤ length words.old * R.BITS }
-    requires ends { place + len < 2 ^ 64 }
-    requires other_within { other_place + len ≤ length others.now * R.BITS }
-    requires other_ends { other_place + len < 2 ^ 64 }
+    requires lies { Lies R.BITS words.old place len }
+    requires other_lies { Lies R.BITS others.now other_place len }
     ensures combined { Combines (read_by R.BitRegister O.position) words.old words.new place len
         (combined_bit H.HOW) (read_by R.BitRegister O.position) others.now other_place }
     ensures steps { Takes steps.old steps.new (groups len 64) (groups len 1) }
@@ -276,10 +273,8 @@ fn combine_singly<H: Combining, R: BitRegister, O: BitOrder<R>>(
     len: usize,
     steps: &mut Steps,
 )
-    requires within { place + len ≤ length words.old * R.BITS }
-    requires ends { place + len < 2 ^ 64 }
-    requires other_within { other_place + len ≤ length others.now * R.BITS }
-    requires other_ends { other_place + len < 2 ^ 64 }
+    requires lies { Lies R.BITS words.old place len }
+    requires other_lies { Lies R.BITS others.now other_place len }
     ensures combined { Combines (read_by R.BitRegister O.position) words.old words.new place len
         (combined_bit H.HOW) (read_by R.BitRegister O.position) others.now other_place }
     ensures steps { Takes steps.old steps.new len len }
@@ -302,10 +297,8 @@ fn combine_by_chunks<H: Combining, R: BitRegister, O: BitOrder<R>>(
     len: usize,
     steps: &mut Steps,
 )
-    requires within { place + len ≤ length words.old * R.BITS }
-    requires ends { place + len < 2 ^ 64 }
-    requires other_within { other_place + len ≤ length others.now * R.BITS }
-    requires other_ends { other_place + len < 2 ^ 64 }
+    requires lies { Lies R.BITS words.old place len }
+    requires other_lies { Lies R.BITS others.now other_place len }
     ensures combined { Combines (read_by R.BitRegister O.position) words.old words.new place len
         (combined_bit H.HOW) (read_by R.BitRegister O.position) others.now other_place }
     ensures steps { Takes steps.old steps.new (groups len 64) (groups len 64) }

@@ -1,6 +1,7 @@
 //! One change made of each bit of a stretch: of whole words at a time, with masks at its two edges alone.
 
-ghost use Rattle.std.specs.Prelude.{◌≡◌, ℕ, ◌+◌, ◌-◌, ◌*◌, ◌^◌, ◌<◌, ◌≤◌, length};
+ghost use Rattle.std.specs.Prelude.{◌≡◌, ℕ, ◌+◌, ◌-◌, ◌*◌, ◌<◌, ◌≤◌, length};
+ghost use Rattle.bit_addressing_memory.specs.Lies.{Lies};
 ghost use Rattle.bit_addressing_memory.specs.Memory.{indexed, read_by, touched};
 ghost use Rattle.bit_slice_words.specs.Edits.{changed_bit, Changes};
 
@@ -79,8 +80,7 @@ pub(crate) fn change_in<R: BitRegister, O: BitOrder<R>>(
     len: usize,
     change: Change,
 ) -> usize
-    requires within { place + len ≤ length words.old * R.BITS }
-    requires ends { place + len < 2 ^ 64 }
+    requires lies { Lies R.BITS words.old place len }
     ensures changed { Changes (read_by R.BitRegister O.position) words.old words.new place len (changed_bit change) }
     ensures writes { result ≡ touched R.BITS place len }
 {

@@ -1,7 +1,8 @@
 //! Bits combined with those of another memory.
 
-ghost use Rattle.std.specs.Prelude.{◌≡◌, ◌+◌, ◌*◌, ◌^◌, ◌<◌, ◌≤◌, ◌&&◌, ◌||◌, length};
+ghost use Rattle.std.specs.Prelude.{◌≡◌, ◌+◌, ◌&&◌, ◌||◌};
 ghost use Rattle.std.specs.Bool.{xor};
+ghost use Rattle.bit_addressing_memory.specs.Lies.{Lies};
 ghost use Rattle.bit_addressing_memory.specs.Memory.{entry, read_by, Overwrites};
 ghost use Rattle.bit_slice_paths.specs.Combined.{combined_bit, Combines};
 
@@ -32,10 +33,8 @@ pub(crate) fn combine_in<
     Q: BitRegister,
     P: BitOrder<Q>,
 >(words: &mut [R], place: usize, others: &[Q], other_place: usize, len: usize)
-    requires within { place + len ≤ length words.old * R.BITS }
-    requires ends { place + len < 2 ^ 64 }
-    requires other_within { other_place + len ≤ length others.now * Q.BITS }
-    requires other_ends { other_place + len < 2 ^ 64 }
+    requires lies { Lies R.BITS words.old place len }
+    requires other_lies { Lies Q.BITS others.now other_place len }
     ensures { Combines (read_by R.BitRegister O.position) words.old words.new place len
         (combined_bit H.HOW) (read_by Q.BitRegister P.position) others.now other_place }
 {
@@ -55,10 +54,8 @@ fn combine_by_chunks<H: Combining, R: BitRegister, O: BitOrder<R>, Q: BitRegiste
     other_place: usize,
     len: usize,
 )
-    requires within { place + len ≤ length words.old * R.BITS }
-    requires ends { place + len < 2 ^ 64 }
-    requires other_within { other_place + len ≤ length others.now * Q.BITS }
-    requires other_ends { other_place + len < 2 ^ 64 }
+    requires lies { Lies R.BITS words.old place len }
+    requires other_lies { Lies Q.BITS others.now other_place len }
     ensures { Combines (read_by R.BitRegister O.position) words.old words.new place len
         (combined_bit H.HOW) (read_by Q.BitRegister P.position) others.now other_place }
 {
@@ -75,10 +72,8 @@ fn combine_singly<H: Combining, R: BitRegister, O: BitOrder<R>, Q: BitRegister, 
     other_place: usize,
     len: usize,
 )
-    requires within { place + len ≤ length words.old * R.BITS }
-    requires ends { place + len < 2 ^ 64 }
-    requires other_within { other_place + len ≤ length others.now * Q.BITS }
-    requires other_ends { other_place + len < 2 ^ 64 }
+    requires lies { Lies R.BITS words.old place len }
+    requires other_lies { Lies Q.BITS others.now other_place len }
     ensures { Combines (read_by R.BitRegister O.position) words.old words.new place len
         (combined_bit H.HOW) (read_by Q.BitRegister P.position) others.now other_place }
 {
@@ -101,10 +96,8 @@ pub fn and_in<R: BitRegister, O: BitOrder<R>, Q: BitRegister, P: BitOrder<Q>>(
     other_place: usize,
     len: usize,
 )
-    requires within { place + len ≤ length words.old * R.BITS }
-    requires ends { place + len < 2 ^ 64 }
-    requires other_within { other_place + len ≤ length others.now * Q.BITS }
-    requires other_ends { other_place + len < 2 ^ 64 }
+    requires lies { Lies R.BITS words.old place len }
+    requires other_lies { Lies Q.BITS others.now other_place len }
     ensures combined { Overwrites (read_by R.BitRegister O.position) words.old words.new place len
         (λ k. entry (read_by R.BitRegister O.position) words.old (place + k)
         && entry (read_by Q.BitRegister P.position) others.now (other_place + k)) }
@@ -124,10 +117,8 @@ pub fn or_in<R: BitRegister, O: BitOrder<R>, Q: BitRegister, P: BitOrder<Q>>(
     other_place: usize,
     len: usize,
 )
-    requires within { place + len ≤ length words.old * R.BITS }
-    requires ends { place + len < 2 ^ 64 }
-    requires other_within { other_place + len ≤ length others.now * Q.BITS }
-    requires other_ends { other_place + len < 2 ^ 64 }
+    requires lies { Lies R.BITS words.old place len }
+    requires other_lies { Lies Q.BITS others.now other_place len }
     ensures combined { Overwrites (read_by R.BitRegister O.position) words.old words.new place len
         (λ k. entry (read_by R.BitRegister O.position) words.old (place + k)
         || entry (read_by Q.BitRegister P.position) others.now (other_place + k)) }
@@ -147,10 +138,8 @@ pub fn xor_in<R: BitRegister, O: BitOrder<R>, Q: BitRegister, P: BitOrder<Q>>(
     other_place: usize,
     len: usize,
 )
-    requires within { place + len ≤ length words.old * R.BITS }
-    requires ends { place + len < 2 ^ 64 }
-    requires other_within { other_place + len ≤ length others.now * Q.BITS }
-    requires other_ends { other_place + len < 2 ^ 64 }
+    requires lies { Lies R.BITS words.old place len }
+    requires other_lies { Lies Q.BITS others.now other_place len }
     ensures combined { Overwrites (read_by R.BitRegister O.position) words.old words.new place len
         (λ k. xor (entry (read_by R.BitRegister O.position) words.old (place + k))
         (entry (read_by Q.BitRegister P.position) others.now (other_place + k))) }

@@ -1,8 +1,9 @@
 //! How bits of two memories compare as lists.
 
-ghost use Rattle.std.specs.Prelude.{◌≡◌, ℕ, ◌+◌, ◌*◌, ◌^◌, ◌<◌, ◌≤◌, length};
+ghost use Rattle.std.specs.Prelude.{◌≡◌, ℕ, ◌+◌, ◌<◌, ◌≤◌};
 ghost use Rattle.std.specs.Cmp.Lexicographic.{slice_cmp};
 ghost use Rattle.std.specs.Ordering.{bool_cmp};
+ghost use Rattle.bit_addressing_memory.specs.Lies.{Lies};
 ghost use Rattle.bit_addressing_memory.specs.Memory.{entry, memory, piece, read_by};
 
 use crate::agree::{agree_behind, few_to_compare};
@@ -22,10 +23,8 @@ pub fn compare_in<R: BitRegister, O: BitOrder<R>, Q: BitRegister, P: BitOrder<Q>
     other_place: usize,
     other_len: usize,
 ) -> Ordering
-    requires within { place + len ≤ length words.now * R.BITS }
-    requires ends { place + len < 2 ^ 64 }
-    requires other_within { other_place + other_len ≤ length others.now * Q.BITS }
-    requires other_ends { other_place + other_len < 2 ^ 64 }
+    requires lies { Lies R.BITS words.now place len }
+    requires other_lies { Lies Q.BITS others.now other_place other_len }
     ensures { result ≡ slice_cmp bool_cmp (piece (memory (read_by R.BitRegister O.position) words.now) place len)
         (piece (memory (read_by Q.BitRegister P.position) others.now) other_place other_len) }
 {
@@ -56,10 +55,8 @@ fn compare_rest<R: BitRegister, O: BitOrder<R>, Q: BitRegister, P: BitOrder<Q>>(
     other_len: usize,
     from: usize,
 ) -> Ordering
-    requires within { place + len ≤ length words.now * R.BITS }
-    requires ends { place + len < 2 ^ 64 }
-    requires other_within { other_place + other_len ≤ length others.now * Q.BITS }
-    requires other_ends { other_place + other_len < 2 ^ 64 }
+    requires lies { Lies R.BITS words.now place len }
+    requires other_lies { Lies Q.BITS others.now other_place other_len }
     requires least { from ≤ len }
     requires other_least { from ≤ other_len }
     requires same { (k : ℕ) → k < from → entry (read_by R.BitRegister O.position) words.now (place + k)

@@ -1,6 +1,7 @@
 //! Bits of one memory that stand in those of another.
 
-ghost use Rattle.std.specs.Prelude.{◌≡◌, ◌≢◌, ℕ, ◌+◌, ◌*◌, ◌^◌, ◌<◌, ◌≤◌, ◌↔◌, length, IsTrue};
+ghost use Rattle.std.specs.Prelude.{◌≡◌, ◌≢◌, ℕ, ◌+◌, ◌<◌, ◌≤◌, ◌↔◌, IsTrue};
+ghost use Rattle.bit_addressing_memory.specs.Lies.{Lies};
 ghost use Rattle.bit_addressing_memory.specs.Memory.{entry, memory, piece, read_by};
 ghost use Rattle.bit_slice_words.specs.Holds.{Holds};
 
@@ -21,10 +22,8 @@ pub fn contains_in<R: BitRegister, O: BitOrder<R>, Q: BitRegister, P: BitOrder<Q
     other_place: usize,
     other_len: usize,
 ) -> bool
-    requires within { place + len ≤ length words.now * R.BITS }
-    requires ends { place + len < 2 ^ 64 }
-    requires other_within { other_place + other_len ≤ length others.now * Q.BITS }
-    requires other_ends { other_place + other_len < 2 ^ 64 }
+    requires lies { Lies R.BITS words.now place len }
+    requires other_lies { Lies Q.BITS others.now other_place other_len }
     ensures { IsTrue result ↔ Holds (piece (memory (read_by R.BitRegister O.position) words.now) place len)
         (piece (memory (read_by Q.BitRegister P.position) others.now) other_place other_len) }
 {
@@ -76,10 +75,8 @@ fn contains_from<R: BitRegister, O: BitOrder<R>, Q: BitRegister, P: BitOrder<Q>>
     requires some { 0 < other_len }
     requires order { from + other_len ≤ len }
     requires few { few ≤ other_len }
-    requires within { place + len ≤ length words.now * R.BITS }
-    requires ends { place + len < 2 ^ 64 }
-    requires other_within { other_place + other_len ≤ length others.now * Q.BITS }
-    requires other_ends { other_place + other_len < 2 ^ 64 }
+    requires lies { Lies R.BITS words.now place len }
+    requires other_lies { Lies Q.BITS others.now other_place other_len }
     requires none { (k : ℕ) → k < from
         → piece (memory (read_by R.BitRegister O.position) words.now) (place + k) other_len
         ≢ piece (memory (read_by Q.BitRegister P.position) others.now) other_place other_len }
@@ -111,10 +108,8 @@ fn contains_rest<R: BitRegister, O: BitOrder<R>, Q: BitRegister, P: BitOrder<Q>>
 ) -> bool
     requires some { 0 < other_len }
     requires order { from + other_len ≤ len }
-    requires within { place + len ≤ length words.now * R.BITS }
-    requires ends { place + len < 2 ^ 64 }
-    requires other_within { other_place + other_len ≤ length others.now * Q.BITS }
-    requires other_ends { other_place + other_len < 2 ^ 64 }
+    requires lies { Lies R.BITS words.now place len }
+    requires other_lies { Lies Q.BITS others.now other_place other_len }
     requires none { (k : ℕ) → k < from
         → piece (memory (read_by R.BitRegister O.position) words.now) (place + k) other_len
         ≢ piece (memory (read_by Q.BitRegister P.position) others.now) other_place other_len }

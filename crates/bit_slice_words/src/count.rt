@@ -1,18 +1,23 @@
 //! Bits counted by words.
 
-ghost use Rattle.std.specs.Prelude.{◌≡◌, ◌+◌, ◌-◌, ◌*◌, ◌^◌, ◌<◌, ◌≤◌, count_by, count_ones, length, not};
+ghost use Rattle.std.specs.Prelude.{◌≡◌, ◌-◌, ◌*◌, ◌^◌, ◌<◌, ◌≤◌, count_by, count_ones, length, not};
+ghost use Rattle.bit_addressing_memory.specs.Lies.{Lies};
 ghost use Rattle.bit_addressing_memory.specs.Memory.{digits, memory, piece, read_by};
+ghost use Rattle.bit_addressing_memory.specs.Straight.{Goes};
 
 use crate::edges::{between, edges_of};
-use bit_addressing_memory::{BitEnd, BitIdx, BitOrder, BitRegister, masked};
+use bit_addressing_memory::mem::bits_of;
+use bit_addressing_memory::{
+    BitEnd, BitIdx, BitOrder, BitRegister, Direction, direction_of, masked,
+};
+use bit_slice_paths::{read_bits, read_nth_chunk};
 
 /// How many of the `len` bits from a place on are 1. Of no bits there are none.
 ///
 /// Whole words are counted as words; the words at the two edges are masked. It answers as `count_ones` of a slice in
 /// bitvec 1.1.1.
 pub fn count_ones_in<R: BitRegister, O: BitOrder<R>>(words: &[R], place: usize, len: usize) -> usize
-    requires within { place + len ≤ length words.now * R.BITS }
-    requires ends { place + len < 2 ^ 64 }
+    requires lies { Lies R.BITS words.now place len }
     ensures { result ≡ count_by (λ b. b) (piece (memory (read_by R.BitRegister O.position) words.now) place len) }
 {
     if len == 0 {
@@ -36,8 +41,7 @@ pub fn count_zeros_in<R: BitRegister, O: BitOrder<R>>(
     place: usize,
     len: usize,
 ) -> usize
-    requires within { place + len ≤ length words.now * R.BITS }
-    requires ends { place + len < 2 ^ 64 }
+    requires lies { Lies R.BITS words.now place len }
     ensures { result ≡ count_by (λ b. not b) (piece (memory (read_by R.BitRegister O.position) words.now) place len) }
 {
     len - count_ones_in::<R, O>(words, place, len)
@@ -64,8 +68,48 @@ fn ones_of_part<R: BitRegister, O: BitOrder<R>>(word: R, from: u8, upto: u8) -> 
     ))
 }
 
-// How many bits of whole words are 1.
+// From how many narrow words on their ones are counted 64 bits at a time.
+const MANY: usize = 16;
+
+// How many bits of whole words are 1: of many narrow words 64 bits at a time.
 fn ones_of_words<R: BitRegister, O: BitOrder<R>>(body: &[R]) -> usize
+    requires { length body.now * R.BITS < 2 ^ 64 }
+    ensures { result ≡ count_by (λ b. b) (memory (read_by R.BitRegister O.position) body.now) }
+{
+    match direction_of::<R, O>() {
+        Some(direction) if R::BITS < 64 && body.len() >= MANY => {
+            ones_of_blocks::<R, O>(direction, body, body.len() * bits_of::<R>())
+        }
+        _ => ones_word_by_word::<R, O>(body),
+    }
+}
+
+// How many of the first `len` bits are 1, by blocks of 64.
+fn ones_of_blocks<R: BitRegister, O: BitOrder<R>>(
+    direction: Direction,
+    words: &[R],
+    len: usize,
+) -> usize
+    requires goes { Goes R.BITS O.position direction }
+    requires lies { Lies R.BITS words.now 0 len }
+    ensures { result ≡ count_by (λ b. b) (piece (memory (read_by R.BitRegister O.position) words.now) 0 len) }
+{
+    let whole = len / 64;
+    let rest = len % 64;
+    let mut ones = 0;
+    for k in 0..whole {
+        let block = read_nth_chunk::<R, O>(direction, words, 0, k);
+        ones += block.count_ones() as usize;
+    }
+    if rest > 0 {
+        let block = read_bits::<R, O>(direction, words, 64 * whole, rest);
+        ones += block.count_ones() as usize;
+    }
+    ones
+}
+
+// How many bits of whole words are 1, word by word.
+fn ones_word_by_word<R: BitRegister, O: BitOrder<R>>(body: &[R]) -> usize
     requires { length body.now * R.BITS < 2 ^ 64 }
     ensures { result ≡ count_by (λ b. b) (memory (read_by R.BitRegister O.position) body.now) }
 {

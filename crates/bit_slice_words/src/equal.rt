@@ -1,6 +1,7 @@
 //! Bits of two memories, equal or not.
 
-ghost use Rattle.std.specs.Prelude.{◌≡◌, ℕ, ◌+◌, ◌*◌, ◌^◌, ◌<◌, ◌≤◌, ◌↔◌, length, IsTrue};
+ghost use Rattle.std.specs.Prelude.{◌≡◌, ℕ, ◌+◌, ◌<◌, ◌≤◌, ◌↔◌, IsTrue};
+ghost use Rattle.bit_addressing_memory.specs.Lies.{Lies};
 ghost use Rattle.bit_addressing_memory.specs.Memory.{entry, memory, piece, read_by};
 
 use crate::agree::{agree_rest, agree_singly, few_to_compare};
@@ -17,10 +18,8 @@ pub fn equal_in<R: BitRegister, O: BitOrder<R>, Q: BitRegister, P: BitOrder<Q>>(
     other_place: usize,
     len: usize,
 ) -> bool
-    requires within { place + len ≤ length words.now * R.BITS }
-    requires ends { place + len < 2 ^ 64 }
-    requires other_within { other_place + len ≤ length others.now * Q.BITS }
-    requires other_ends { other_place + len < 2 ^ 64 }
+    requires lies { Lies R.BITS words.now place len }
+    requires other_lies { Lies Q.BITS others.now other_place len }
     ensures { IsTrue result ↔ (piece (memory (read_by R.BitRegister O.position) words.now) place len
         ≡ piece (memory (read_by Q.BitRegister P.position) others.now) other_place len) }
 {
@@ -47,10 +46,8 @@ fn equal_rest<R: BitRegister, O: BitOrder<R>, Q: BitRegister, P: BitOrder<Q>>(
     few: usize,
 ) -> bool
     requires few { few ≤ len }
-    requires within { place + len ≤ length words.now * R.BITS }
-    requires ends { place + len < 2 ^ 64 }
-    requires other_within { other_place + len ≤ length others.now * Q.BITS }
-    requires other_ends { other_place + len < 2 ^ 64 }
+    requires lies { Lies R.BITS words.now place len }
+    requires other_lies { Lies Q.BITS others.now other_place len }
     requires same { (k : ℕ) → k < few → entry (read_by R.BitRegister O.position) words.now (place + k)
         ≡ entry (read_by Q.BitRegister P.position) others.now (other_place + k) }
     ensures { IsTrue result ↔ (piece (memory (read_by R.BitRegister O.position) words.now) place len

@@ -1,6 +1,7 @@
 //! Two stretches of one memory exchanged.
 
-ghost use Rattle.std.specs.Prelude.{◌+◌, ◌*◌, ◌^◌, ◌<◌, ◌≤◌, length};
+ghost use Rattle.std.specs.Prelude.{◌+◌, ◌≤◌};
+ghost use Rattle.bit_addressing_memory.specs.Lies.{Lies};
 ghost use Rattle.bit_addressing_memory.specs.Memory.{read_by, Swaps};
 
 use bit_addressing_memory::{BitOrder, BitRegister, Walk, most_singly, swap_within};
@@ -18,8 +19,7 @@ pub fn exchange_in<R: BitRegister, O: BitOrder<R>>(
     len: usize,
 )
     requires apart { first + len ≤ second }
-    requires within { second + len ≤ length words.old * R.BITS }
-    requires ends { second + len < 2 ^ 64 }
+    requires lies { Lies R.BITS words.old second len }
     ensures swapped { Swaps (read_by R.BitRegister O.position) words.old words.new first second len }
 {
     if len <= most_singly::<R, O>(Walk::Copy) {
@@ -38,8 +38,7 @@ fn exchange_by_chunks<R: BitRegister, O: BitOrder<R>>(
     len: usize,
 )
     requires apart { first + len ≤ second }
-    requires within { second + len ≤ length words.old * R.BITS }
-    requires ends { second + len < 2 ^ 64 }
+    requires lies { Lies R.BITS words.old second len }
     ensures swapped { Swaps (read_by R.BitRegister O.position) words.old words.new first second len }
 {
     exchange::exchange::<R, O>(direction_for::<R, O>(), words, first, second, len);

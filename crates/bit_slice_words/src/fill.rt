@@ -1,6 +1,7 @@
 //! Bits made all the same.
 
-ghost use Rattle.std.specs.Prelude.{◌≡◌, ◌+◌, ◌*◌, ◌^◌, ◌<◌, ◌≤◌, length};
+ghost use Rattle.std.specs.Prelude.{◌≡◌};
+ghost use Rattle.bit_addressing_memory.specs.Lies.{Lies};
 ghost use Rattle.bit_addressing_memory.specs.Memory.{read_by, touched, Overwrites};
 
 use crate::change::{Change, change_in};
@@ -11,8 +12,7 @@ use bit_addressing_memory::{BitOrder, BitRegister};
 ///
 /// What `fill` of a bitvec slice does.
 pub fn fill_in<R: BitRegister, O: BitOrder<R>>(words: &mut [R], place: usize, len: usize, bit: bool)
-    requires within { place + len ≤ length words.old * R.BITS }
-    requires ends { place + len < 2 ^ 64 }
+    requires lies { Lies R.BITS words.old place len }
     ensures filled { Overwrites (read_by R.BitRegister O.position) words.old words.new place len (λ _. bit) }
 {
     fill_counted::<R, O>(words, place, len, bit);
@@ -25,8 +25,7 @@ pub fn fill_counted<R: BitRegister, O: BitOrder<R>>(
     len: usize,
     bit: bool,
 ) -> usize
-    requires within { place + len ≤ length words.old * R.BITS }
-    requires ends { place + len < 2 ^ 64 }
+    requires lies { Lies R.BITS words.old place len }
     ensures filled { Overwrites (read_by R.BitRegister O.position) words.old words.new place len (λ _. bit) }
     ensures writes { result ≡ touched R.BITS place len }
 {

@@ -1,6 +1,7 @@
 //! The first bit of a kind, by words.
 
-ghost use Rattle.std.specs.Prelude.{◌≡◌, ℕ, ◌+◌, ◌*◌, ◌^◌, ◌<◌, ◌≤◌, length, position};
+ghost use Rattle.std.specs.Prelude.{◌≡◌, ◌+◌, ◌*◌, ◌^◌, ◌<◌, ◌≤◌, length, position};
+ghost use Rattle.bit_addressing_memory.specs.Lies.{Lies};
 ghost use Rattle.bit_addressing_memory.specs.Memory.{indexed, memory, piece, read_by};
 ghost use Rattle.bit_addressing_memory.specs.Straight.{Goes};
 ghost use Rattle.bit_slice_words.specs.Found.{is_bit};
@@ -11,6 +12,8 @@ use crate::lacking::lacks;
 use crate::parts::first_in_part;
 use bit_addressing_memory::mem::bits_of;
 use bit_addressing_memory::{BitIdx, BitOrder, BitRegister, Direction, direction_of, read_bit};
+use bit_slice_paths::match_words::match_words;
+use bit_slice_paths::word_source::Constant;
 
 /// The index of the first of the `len` bits from a place on that is `bit`, counted from that place; `None` where
 /// none is.
@@ -23,8 +26,7 @@ pub fn first_in<R: BitRegister, O: BitOrder<R>>(
     len: usize,
     bit: bool,
 ) -> Option<usize>
-    requires within { place + len ≤ length words.now * R.BITS }
-    requires ends { place + len < 2 ^ 64 }
+    requires lies { Lies R.BITS words.now place len }
     ensures { result ≡ position (is_bit bit) (piece (memory (read_by R.BitRegister O.position) words.now) place len) }
 {
     match first_place::<R, O>(words, place, len, bit) {
@@ -40,8 +42,7 @@ fn first_place<R: BitRegister, O: BitOrder<R>>(
     len: usize,
     bit: bool,
 ) -> Option<usize>
-    requires within { place + len ≤ length words.now * R.BITS }
-    requires ends { place + len < 2 ^ 64 }
+    requires lies { Lies R.BITS words.now place len }
     ensures { IsFirst (bit_found (read_by R.BitRegister O.position) words.now bit) place (place + len) result }
 {
     if len == 0 {
@@ -59,8 +60,41 @@ fn first_place<R: BitRegister, O: BitOrder<R>>(
     first_at::<R, O>(words, next, 0, upto, bit)
 }
 
+// How many words are looked at one by one before rounds of them are: a bit that is near is found sooner so.
+const NEAR: usize = 256;
+
 // The first word from one number up to before another that has the bit, or the second number.
 fn next_word<R: BitRegister, O: BitOrder<R>>(
+    words: &[R],
+    from: usize,
+    upto: usize,
+    bit: bool,
+) -> usize
+    requires order { from ≤ upto }
+    requires within { upto ≤ length words.now }
+    ensures least { from ≤ result }
+    ensures most { result ≤ upto }
+    ensures none { Nowhere (bit_found (read_by R.BitRegister O.position) words.now bit)
+        (from * R.BITS) (result * R.BITS) }
+    ensures some { result < upto → ¬ Nowhere (bit_found (read_by R.BitRegister O.position) words.now bit)
+        (result * R.BITS) ((result + 1) * R.BITS) }
+{
+    let near = from + (upto - from).min(NEAR);
+    let next = next_near::<R, O>(words, from, near, bit);
+    if next < near || near == upto {
+        return next;
+    }
+    let source = Constant {
+        bit: !bit,
+        count: upto - near,
+    };
+    let without = match_words::<R, O, Constant>(words, near, &source, upto - near);
+    next_near::<R, O>(words, near + without, upto, bit)
+}
+
+// `next_word`, word by word.
+#[inline(always)]
+fn next_near<R: BitRegister, O: BitOrder<R>>(
     words: &[R],
     from: usize,
     upto: usize,

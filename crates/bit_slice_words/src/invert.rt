@@ -1,6 +1,7 @@
 //! Bits flipped.
 
-ghost use Rattle.std.specs.Prelude.{◌+◌, ◌*◌, ◌^◌, ◌<◌, ◌≤◌, not, length};
+ghost use Rattle.std.specs.Prelude.{◌+◌, not};
+ghost use Rattle.bit_addressing_memory.specs.Lies.{Lies};
 ghost use Rattle.bit_addressing_memory.specs.Memory.{entry, read_by, Overwrites};
 
 use crate::change::{Change, change_in};
@@ -11,8 +12,7 @@ use bit_addressing_memory::{BitOrder, BitRegister};
 ///
 /// What `!` of a writable bitvec slice does.
 pub fn not_in<R: BitRegister, O: BitOrder<R>>(words: &mut [R], place: usize, len: usize)
-    requires within { place + len ≤ length words.old * R.BITS }
-    requires ends { place + len < 2 ^ 64 }
+    requires lies { Lies R.BITS words.old place len }
     ensures flipped { Overwrites (read_by R.BitRegister O.position) words.old words.new place len
         (λ k. not (entry (read_by R.BitRegister O.position) words.old (place + k))) }
 {

@@ -1,6 +1,7 @@
 //! The last bit of a kind, by words.
 
-ghost use Rattle.std.specs.Prelude.{◌≡◌, ℕ, ◌+◌, ◌-◌, ◌*◌, ◌^◌, ◌<◌, ◌≤◌, length};
+ghost use Rattle.std.specs.Prelude.{◌≡◌, ◌+◌, ◌*◌, ◌^◌, ◌<◌, ◌≤◌, length};
+ghost use Rattle.bit_addressing_memory.specs.Lies.{Lies};
 ghost use Rattle.bit_addressing_memory.specs.Memory.{indexed, memory, piece, read_by};
 ghost use Rattle.bit_addressing_memory.specs.Straight.{Goes};
 ghost use Rattle.bit_slice_words.specs.Found.{is_bit, last_position};
@@ -24,8 +25,7 @@ pub fn last_in<R: BitRegister, O: BitOrder<R>>(
     len: usize,
     bit: bool,
 ) -> Option<usize>
-    requires within { place + len ≤ length words.now * R.BITS }
-    requires ends { place + len < 2 ^ 64 }
+    requires lies { Lies R.BITS words.now place len }
     ensures { result
         ≡ last_position (is_bit bit) (piece (memory (read_by R.BitRegister O.position) words.now) place len) }
 {
@@ -42,8 +42,7 @@ fn last_place<R: BitRegister, O: BitOrder<R>>(
     len: usize,
     bit: bool,
 ) -> Option<usize>
-    requires within { place + len ≤ length words.now * R.BITS }
-    requires ends { place + len < 2 ^ 64 }
+    requires lies { Lies R.BITS words.now place len }
     ensures { IsLast (bit_found (read_by R.BitRegister O.position) words.now bit) place (place + len) result }
 {
     if len == 0 {

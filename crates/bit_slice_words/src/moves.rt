@@ -1,6 +1,7 @@
 //! Bits moved inside one memory.
 
-ghost use Rattle.std.specs.Prelude.{◌+◌, ◌*◌, ◌^◌, ◌<◌, ◌≤◌, length};
+ghost use Rattle.std.specs.Prelude.{◌≤◌};
+ghost use Rattle.bit_addressing_memory.specs.Lies.{Lies};
 ghost use Rattle.bit_addressing_memory.specs.Memory.{read_by, touched};
 ghost use Rattle.bit_addressing_memory.specs.Moves.{Moves, changed};
 
@@ -18,10 +19,8 @@ pub fn move_words<R: BitRegister, O: BitOrder<R>>(
     target: usize,
     len: usize,
 ) -> usize
-    requires source_within { source + len ≤ length words.old * R.BITS }
-    requires target_within { target + len ≤ length words.old * R.BITS }
-    requires source_ends { source + len < 2 ^ 64 }
-    requires target_ends { target + len < 2 ^ 64 }
+    requires source_lies { Lies R.BITS words.old source len }
+    requires target_lies { Lies R.BITS words.old target len }
     ensures moved { Moves (read_by R.BitRegister O.position) words.old words.new source target len }
 
     // At most the words that the target touches, at least those that became other ones.

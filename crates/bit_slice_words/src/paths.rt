@@ -10,7 +10,8 @@ ghost use Rattle.bit_addressing_memory.specs.Memory.{entry, read_by, Copies, Ove
 ghost use Rattle.bit_slice_paths.specs.Steps.{groups, Takes};
 
 use bit_addressing_memory::{BitOrder, BitRegister, Direction, Lsb0, Msb0};
-use bit_slice_paths::{Combination, Steps, by_words};
+use bit_slice_paths::combining::{Both, Differing, Either, Taken};
+use bit_slice_paths::{Steps, by_words};
 
 /// What an order does to many bits of memories at once, from a place on of each, and in how many word steps: at
 /// most one for each `SPAN` bits, and no fewer than one for each 64. Each method is lent the count.
@@ -181,9 +182,8 @@ impl<R: BitRegister> WordPaths<R> for Lsb0 {
         len: usize,
         steps: &mut Steps,
     ) {
-        by_words::combine::<R, Lsb0>(
+        by_words::combine::<Taken, R, Lsb0>(
             Direction::Ascending,
-            Combination::Take,
             words,
             place,
             others,
@@ -224,9 +224,8 @@ impl<R: BitRegister> WordPaths<R> for Lsb0 {
         len: usize,
         steps: &mut Steps,
     ) {
-        by_words::combine::<R, Lsb0>(
+        by_words::combine::<Both, R, Lsb0>(
             Direction::Ascending,
-            Combination::And,
             words,
             place,
             others,
@@ -244,9 +243,8 @@ impl<R: BitRegister> WordPaths<R> for Lsb0 {
         len: usize,
         steps: &mut Steps,
     ) {
-        by_words::combine::<R, Lsb0>(
+        by_words::combine::<Either, R, Lsb0>(
             Direction::Ascending,
-            Combination::Or,
             words,
             place,
             others,
@@ -264,9 +262,8 @@ impl<R: BitRegister> WordPaths<R> for Lsb0 {
         len: usize,
         steps: &mut Steps,
     ) {
-        by_words::combine::<R, Lsb0>(
+        by_words::combine::<Differing, R, Lsb0>(
             Direction::Ascending,
-            Combination::Xor,
             words,
             place,
             others,
@@ -315,9 +312,8 @@ impl<R: BitRegister> WordPaths<R> for Msb0 {
         len: usize,
         steps: &mut Steps,
     ) {
-        by_words::combine::<R, Msb0>(
+        by_words::combine::<Taken, R, Msb0>(
             Direction::Descending,
-            Combination::Take,
             words,
             place,
             others,
@@ -358,9 +354,8 @@ impl<R: BitRegister> WordPaths<R> for Msb0 {
         len: usize,
         steps: &mut Steps,
     ) {
-        by_words::combine::<R, Msb0>(
+        by_words::combine::<Both, R, Msb0>(
             Direction::Descending,
-            Combination::And,
             words,
             place,
             others,
@@ -378,9 +373,8 @@ impl<R: BitRegister> WordPaths<R> for Msb0 {
         len: usize,
         steps: &mut Steps,
     ) {
-        by_words::combine::<R, Msb0>(
+        by_words::combine::<Either, R, Msb0>(
             Direction::Descending,
-            Combination::Or,
             words,
             place,
             others,
@@ -398,9 +392,8 @@ impl<R: BitRegister> WordPaths<R> for Msb0 {
         len: usize,
         steps: &mut Steps,
     ) {
-        by_words::combine::<R, Msb0>(
+        by_words::combine::<Differing, R, Msb0>(
             Direction::Descending,
-            Combination::Xor,
             words,
             place,
             others,

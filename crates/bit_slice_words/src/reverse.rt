@@ -1,6 +1,7 @@
 //! Bits in reverse.
 
-ghost use Rattle.std.specs.Prelude.{◌+◌, ◌-◌, ◌*◌, ◌^◌, ◌<◌, ◌≤◌, length};
+ghost use Rattle.std.specs.Prelude.{◌+◌, ◌-◌};
+ghost use Rattle.bit_addressing_memory.specs.Lies.{Lies};
 ghost use Rattle.bit_addressing_memory.specs.Memory.{entry, read_by, Overwrites};
 
 use bit_addressing_memory::{BitOrder, BitRegister, Walk, most_singly, swap_entries};
@@ -11,8 +12,7 @@ use bit_slice_paths::{direction_for, mirror};
 ///
 /// What `reverse` of a bitvec slice does.
 pub fn reverse_in<R: BitRegister, O: BitOrder<R>>(words: &mut [R], place: usize, len: usize)
-    requires within { place + len ≤ length words.old * R.BITS }
-    requires ends { place + len < 2 ^ 64 }
+    requires lies { Lies R.BITS words.old place len }
     ensures reversed { Overwrites (read_by R.BitRegister O.position) words.old words.new place len
         (λ k. entry (read_by R.BitRegister O.position) words.old (place + (len - 1 - k))) }
 {
@@ -26,8 +26,7 @@ pub fn reverse_in<R: BitRegister, O: BitOrder<R>>(words: &mut [R], place: usize,
 // The same, by chunks. Out of line, so that a few bits are turned by a short function.
 #[inline(never)]
 fn reverse_by_chunks<R: BitRegister, O: BitOrder<R>>(words: &mut [R], place: usize, len: usize)
-    requires within { place + len ≤ length words.old * R.BITS }
-    requires ends { place + len < 2 ^ 64 }
+    requires lies { Lies R.BITS words.old place len }
     ensures reversed { Overwrites (read_by R.BitRegister O.position) words.old words.new place len
         (λ k. entry (read_by R.BitRegister O.position) words.old (place + (len - 1 - k))) }
 {
@@ -38,8 +37,7 @@ fn reverse_by_chunks<R: BitRegister, O: BitOrder<R>>(words: &mut [R], place: usi
 #[inline(always)]
 #[tactic(auto, using(crate::proofs::MirrorLemmas::mirror_steps))]
 fn reverse_singly<R: BitRegister, O: BitOrder<R>>(words: &mut [R], place: usize, len: usize)
-    requires within { place + len ≤ length words.old * R.BITS }
-    requires ends { place + len < 2 ^ 64 }
+    requires lies { Lies R.BITS words.old place len }
     ensures reversed { Overwrites (read_by R.BitRegister O.position) words.old words.new place len
         (λ k. entry (read_by R.BitRegister O.position) words.old (place + (len - 1 - k))) }
 {

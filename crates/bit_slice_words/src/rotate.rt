@@ -1,6 +1,7 @@
 //! Bits rotated: those that leave a stretch at one end come in at the other.
 
-ghost use Rattle.std.specs.Prelude.{◌+◌, ◌-◌, ◌*◌, ◌^◌, ◌<◌, ◌≤◌, length};
+ghost use Rattle.std.specs.Prelude.{◌+◌, ◌-◌, ◌≤◌};
+ghost use Rattle.bit_addressing_memory.specs.Lies.{Lies};
 ghost use Rattle.bit_addressing_memory.specs.Memory.{entry, read_by, Overwrites};
 ghost use Rattle.bit_slice_paths.specs.Rotations.{rotated_from};
 
@@ -19,8 +20,7 @@ pub fn rotate_left_in<R: BitRegister, O: BitOrder<R>>(
     len: usize,
     by: usize,
 )
-    requires within { place + len ≤ length words.old * R.BITS }
-    requires ends { place + len < 2 ^ 64 }
+    requires lies { Lies R.BITS words.old place len }
     requires most { by ≤ len }
     ensures rotated { Overwrites (read_by R.BitRegister O.position) words.old words.new place len
         (λ k. entry (read_by R.BitRegister O.position) words.old (place + rotated_from len by k)) }
@@ -40,8 +40,7 @@ fn rotate_by_chunks<R: BitRegister, O: BitOrder<R>>(
     len: usize,
     by: usize,
 )
-    requires within { place + len ≤ length words.old * R.BITS }
-    requires ends { place + len < 2 ^ 64 }
+    requires lies { Lies R.BITS words.old place len }
     requires most { by ≤ len }
     ensures rotated { Overwrites (read_by R.BitRegister O.position) words.old words.new place len
         (λ k. entry (read_by R.BitRegister O.position) words.old (place + rotated_from len by k)) }
@@ -58,8 +57,7 @@ fn rotate_by_turns<R: BitRegister, O: BitOrder<R>>(
     len: usize,
     by: usize,
 )
-    requires within { place + len ≤ length words.old * R.BITS }
-    requires ends { place + len < 2 ^ 64 }
+    requires lies { Lies R.BITS words.old place len }
     requires most { by ≤ len }
     ensures rotated { Overwrites (read_by R.BitRegister O.position) words.old words.new place len
         (λ k. entry (read_by R.BitRegister O.position) words.old (place + rotated_from len by k)) }
@@ -80,8 +78,7 @@ pub fn rotate_right_in<R: BitRegister, O: BitOrder<R>>(
     len: usize,
     by: usize,
 )
-    requires within { place + len ≤ length words.old * R.BITS }
-    requires ends { place + len < 2 ^ 64 }
+    requires lies { Lies R.BITS words.old place len }
     requires most { by ≤ len }
     ensures rotated { Overwrites (read_by R.BitRegister O.position) words.old words.new place len
         (λ k. entry (read_by R.BitRegister O.position) words.old (place + rotated_from len (len - by) k)) }

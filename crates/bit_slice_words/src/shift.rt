@@ -1,6 +1,7 @@
 //! Bits shifted: those that leave a stretch at one end are gone, and zeros come in at the other.
 
-ghost use Rattle.std.specs.Prelude.{◌+◌, ◌-◌, ◌*◌, ◌^◌, ◌<◌, ◌≤◌, false, nat_lt, if◌then◌else◌, length};
+ghost use Rattle.std.specs.Prelude.{◌+◌, ◌-◌, false, nat_lt, if◌then◌else◌};
+ghost use Rattle.bit_addressing_memory.specs.Lies.{Lies};
 ghost use Rattle.bit_addressing_memory.specs.Memory.{entry, read_by, Overwrites};
 
 use crate::fill::fill_in;
@@ -20,8 +21,7 @@ pub fn shift_left_in<R: BitRegister, O: BitOrder<R>>(
     len: usize,
     by: usize,
 )
-    requires within { place + len ≤ length words.old * R.BITS }
-    requires ends { place + len < 2 ^ 64 }
+    requires lies { Lies R.BITS words.old place len }
     ensures shifted { Overwrites (read_by R.BitRegister O.position) words.old words.new place len
         (λ k. if nat_lt (k + by) len
         then entry (read_by R.BitRegister O.position) words.old (place + (k + by)) else false) }
@@ -48,8 +48,7 @@ pub fn shift_right_in<R: BitRegister, O: BitOrder<R>>(
     len: usize,
     by: usize,
 )
-    requires within { place + len ≤ length words.old * R.BITS }
-    requires ends { place + len < 2 ^ 64 }
+    requires lies { Lies R.BITS words.old place len }
     ensures shifted { Overwrites (read_by R.BitRegister O.position) words.old words.new place len
         (λ k. if nat_lt k by
         then false else entry (read_by R.BitRegister O.position) words.old (place + (k - by))) }

@@ -24,7 +24,6 @@ use bit_addressing_memory::{
     taken,
 };
 use bit_slice_views::{BitSlice, Bits};
-use bit_slice_words::lacks;
 
 /// Keeps those of the `n` rows whose entry in `off` is false: they come to lie in their order from bit `head` of the
 /// sweep's first word on, and it answers how many they are. The rows have `w` bits each and lie end to end from that bit
@@ -122,13 +121,7 @@ fn holds_no_one<T: BitRegister, O: BitOrder<T>>(sweep: &mut Sweep<'_, T>, count:
     ensures same { SameButReads sweep.old sweep.new }
     ensures lender { sweep_lender sweep.new ≡ sweep_lender sweep.old }
 {
-    for k in 0..count {
-        let word = sweep.read(k);
-        if !lacks::<T, O>(word, true) {
-            return false;
-        }
-    }
-    true
+    sweep.leading(count, no_digits::<T, O>()) == count
 }
 
 // Puts zeros in each word that `len` bits from a place on touch. No bit of these words is 1, so all bits stay.

@@ -11,7 +11,7 @@ limb_at-requires g c =
     let l = min 64 b in
     let at = first_word l c.limb_bits-bits.result c.args.place c.limb_bits-bits.ensures in
     limb_within b l (length c.args.words.now) (c.args.place / c.limb_bits-bits.result) (c.args.place + c.args.count) refl
-    g.met.R.BitRegister.size (omega (arith, at, c.requires.some)) c.requires.within
+    g.met.R.BitRegister.size (omega (arith, at, c.requires.some)) c.requires.lies.within
 
 pub loop-n-init : goal.loop-n-init
 loop-n-init g c =
@@ -32,7 +32,7 @@ limb_at-limb-requires g c =
     let ends = begins_before l c.limb_bits-bits.result (c.args.place + c.args.count) c.loop-n.n c.limb_bits-bits.ensures
     some (omega (arith, c.requires.some)) (omega arith) in
     limb_within b l (length c.args.words.now) c.loop-n.n (c.args.place + c.args.count) refl g.met.R.BitRegister.size ends
-    c.requires.within
+    c.requires.lies.within
 
 pub overflow_mul-n : goal.overflow_mul-n
 overflow_mul-n g c =
@@ -42,7 +42,7 @@ overflow_mul-n g c =
     let row : c.loop-n.n * bits ≡ c.loop-n.n * l = ap (λ k. c.loop-n.n * k) c.limb_bits-bits.ensures in
     let ends = begins_before l bits (c.args.place + c.args.count) c.loop-n.n c.limb_bits-bits.ensures some
     (omega (arith, c.requires.some)) (omega arith) in
-    omega (arith, row, ends, c.requires.ends)
+    omega (arith, row, ends, c.requires.lies.ends)
 
 pub loop-n-preserved : goal.loop-n-preserved
 loop-n-preserved g c =

@@ -14,7 +14,7 @@ put_part-requires-clause-limb g c =
     let ends = begins_before l c.limb_bits-bits.result (c.args.place + c.args.count) c.loop-n.n c.limb_bits-bits.ensures
     some (omega (arith, c.requires.some)) (omega arith) in
     rw c.loop-n.invariant.words (limb_within b l (length c.args.words.now) c.loop-n.n (c.args.place + c.args.count) refl
-    g.met.R.BitRegister.size ends c.requires.within)
+    g.met.R.BitRegister.size ends c.requires.lies.within)
 
 pub put_part-requires-clause-ends : goal.put_part-requires-clause-ends
 put_part-requires-clause-ends g c =
@@ -25,7 +25,7 @@ put_part-requires-clause-ends g c =
     let some : 0 < l = omega (arith, g.met.R.BitRegister.least_bits) in
     let ends = begins_before l bits (c.args.place + c.args.count) n c.limb_bits-bits.ensures some
     (omega (arith, c.requires.some)) (omega arith) in
-    omega (arith, row, ends, c.min-upto.ensures, c.requires.ends)
+    omega (arith, row, ends, c.min-upto.ensures, c.requires.lies.ends)
 
 pub loop-n-preserved : goal.loop-n-preserved
 loop-n-preserved g c =

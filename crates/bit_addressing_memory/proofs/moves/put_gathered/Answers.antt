@@ -45,7 +45,7 @@ down-init g c =
     let words = c.args.sweep.now.words.now in
     let last =
     word_within b bits (c.args.target + c.args.len - 1) 1 (length words) c.bits_of-bits.ensures some (omega arith)
-    (omega (arith, c.requires.some, c.requires.target_within)) in
+    (omega (arith, c.requires.some, c.requires.target_lies.within)) in
     let edge =
     fresh_down (way_for c.args.source c.args.target) c.args.sweep.now.edge (length words) c.requires.fresh.edge (cc) in
     record {

@@ -14,7 +14,7 @@ cut-whole-requires-clause-first g c =
     let inside : c.args.low + ((c.down.k - 1) - c.args.low) < c.args.high = omega arith in
     rw size (cut_first b c.args.source c.args.target c.args.len c.args.low c.args.high ((c.down.k - 1) - c.args.low) c.args.word
     c.args.by (length c.args.sweep.now.words.now) c.requires.first some c.requires.begins inside c.requires.ends
-    c.requires.source_within)
+    c.requires.source_lies.within)
 
 pub cut-whole-requires-clause-next : goal.cut-whole-requires-clause-next
 cut-whole-requires-clause-next g c shift =
@@ -23,7 +23,7 @@ cut-whole-requires-clause-next g c shift =
     let inside : c.args.low + ((c.down.k - 1) - c.args.low) < c.args.high = omega arith in
     rw size (cut_next b c.args.source c.args.target c.args.len c.args.low c.args.high ((c.down.k - 1) - c.args.low) c.args.word
     c.args.by (length c.args.sweep.now.words.now) c.requires.first c.requires.begins inside c.requires.ends
-    c.requires.source_within shift)
+    c.requires.source_lies.within shift)
 
 pub down-preserved : goal.down-preserved
 down-preserved g c =
@@ -38,7 +38,7 @@ down-preserved g c =
     let order : low ≤ k = omega arith in
     let within : k < length words =
     rw size (filled_within b c.args.target c.args.len c.args.high k (length c.args.sweep.now.words.now) inside
-    c.requires.ends some c.requires.target_within) in
+    c.requires.ends some c.requires.target_lies.within) in
     let back : low + (k - low) ≡ k = omega arith in
     let place =
     cut_place b c.args.source c.args.target low (k - low) c.args.word c.args.by c.requires.first c.requires.begins

@@ -10,14 +10,14 @@ pub word_at-requires : goal.word_at-requires
 word_at-requires g c =
     let narrow : g.R.BitRegister.BITS ≤ 64 = omega (arith, c.BITS.ensures) in
     word_behind g.R.BitRegister.BITS c.bits_of-bits.result c.args.place (length c.args.words.now)
-    g.met.R.BitRegister.size narrow c.bits_of-bits.ensures (omega arith) c.requires.within
+    g.met.R.BitRegister.size narrow c.bits_of-bits.ensures (omega arith) c.requires.lies.within
 
 pub put-requires-clause-inside : goal.put-requires-clause-inside
 put-requires-clause-inside g c =
     let narrow : g.R.BitRegister.BITS ≤ 64 = omega (arith, c.BITS.ensures) in
     let within =
     word_behind g.R.BitRegister.BITS c.bits_of-bits.result c.args.place (length c.args.words.now)
-    g.met.R.BitRegister.size narrow c.bits_of-bits.ensures (omega arith) c.requires.within in
+    g.met.R.BitRegister.size narrow c.bits_of-bits.ensures (omega arith) c.requires.lies.within in
     omega (arith, c.scattered-2.ensures.words)
 
 pub returns-then-by-eq0 : goal.returns-then-by-eq0
@@ -44,7 +44,7 @@ returns g c =
     let start = first_word b bits c.args.place c.bits_of-bits.ensures in
     let words = words_of_64 b bits g.met.R.BitRegister.size narrow c.bits_of-bits.ensures in
     let within = word_behind b bits c.args.place (length c.args.words.now)
-    g.met.R.BitRegister.size narrow c.bits_of-bits.ensures some c.requires.within in
+    g.met.R.BitRegister.size narrow c.bits_of-bits.ensures some c.requires.lies.within in
     combined_across b g.R.BitRegister.number g.O.Positions.position c.args.direction c.requires.goes c.args.words.now
     c.scattered-2.new.words c.put.new.words c.args.place first by (first + 64 / bits) c.gathered-low.result
     c.raised.result c.combined-front.result c.first_bits.result c.last_bits.result _ c.part-last.result

@@ -13,7 +13,7 @@ loop-k-init g c =
     let some : 0 < b = omega (arith, g.met.R.BitRegister.least_bits) in
     let within : first < length c.args.words.now =
     first_in b bits c.args.place c.args.count (length c.args.words.now) c.bits_of-bits.ensures some c.requires.some
-    c.requires.within in
+    c.requires.lies.within in
     record {
       chunk =
           read_first b g.R.BitRegister.number g.O.Positions.position c.args.direction c.requires.goes c.args.words.now
@@ -36,7 +36,7 @@ loop-k-preserved g c =
     begins_behind b bits place k c.bits_of-bits.ensures some (omega arith) in
     let within : k < length c.args.words.now =
     word_in b bits (place + c.args.count) k (length c.args.words.now) c.bits_of-bits.ensures some (omega arith)
-    (omega arith) c.requires.within in
+    (omega arith) c.requires.lies.within in
     let row : k * bits ≡ k * b = ap (λ n. k * n) c.bits_of-bits.ensures in
     record {
       chunk =

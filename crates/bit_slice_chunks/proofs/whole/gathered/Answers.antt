@@ -10,7 +10,7 @@ offset_bounds-words-first g c =
     let some : 0 < g.R.BitRegister.BITS = omega (arith, g.met.R.BitRegister.least_bits) in
     let within =
     word_of_chunk g.R.BitRegister.BITS c.bits_of-bits.result c.args.first c.loop-k.k (length c.args.words.now) size
-    c.requires.narrow c.bits_of-bits.ensures some (omega arith) c.requires.within in
+    c.requires.narrow c.bits_of-bits.ensures some (omega arith) c.requires.lies.within in
     omega arith
 
 pub bounds-words-first : goal.bounds-words-first
@@ -18,7 +18,7 @@ bounds-words-first g c =
     let size = g.met.R.BitRegister.size in
     let some : 0 < g.R.BitRegister.BITS = omega (arith, g.met.R.BitRegister.least_bits) in
     word_of_chunk g.R.BitRegister.BITS c.bits_of-bits.result c.args.first c.loop-k.k (length c.args.words.now) size
-    c.requires.narrow c.bits_of-bits.ensures some (omega arith) c.requires.within
+    c.requires.narrow c.bits_of-bits.ensures some (omega arith) c.requires.lies.within
 
 pub loop-k-preserved : goal.loop-k-preserved
 loop-k-preserved g c =
@@ -30,7 +30,7 @@ loop-k-preserved g c =
     let some : 0 < b = omega (arith, g.met.R.BitRegister.least_bits) in
     let within : first + k < length c.args.words.now =
     word_of_chunk b bits first k (length c.args.words.now) size c.requires.narrow c.bits_of-bits.ensures some
-    (omega arith) c.requires.within in
+    (omega arith) c.requires.lies.within in
     let row : k * bits ≡ k * b = ap (λ n. k * n) c.bits_of-bits.ensures in
     read_more b g.R.BitRegister.number g.O.Positions.position c.args.direction c.requires.goes c.args.words.now
     (first * b) (first + k) (k * bits) c.loop-k.chunk c.part-next.result c.raised-chunk.result _ _

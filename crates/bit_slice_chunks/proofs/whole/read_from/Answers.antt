@@ -6,13 +6,13 @@ pub offset_bounds-words-behind : goal.offset_bounds-words-behind
 offset_bounds-words-behind g c =
     let within =
     next_word g.R.BitRegister.BITS c.bits_of.result c.args.first c.args.by (length c.args.words.now)
-    g.met.R.BitRegister.size c.requires.narrow c.bits_of.ensures (omega arith) c.requires.within in
+    g.met.R.BitRegister.size c.requires.narrow c.bits_of.ensures (omega arith) c.requires.lies.within in
     omega arith
 
 pub bounds-words-behind : goal.bounds-words-behind
 bounds-words-behind g c =
     next_word g.R.BitRegister.BITS c.bits_of.result c.args.first c.args.by (length c.args.words.now)
-    g.met.R.BitRegister.size c.requires.narrow c.bits_of.ensures (omega arith) c.requires.within
+    g.met.R.BitRegister.size c.requires.narrow c.bits_of.ensures (omega arith) c.requires.lies.within
 
 pub returns : goal.returns
 returns g c =
@@ -23,7 +23,7 @@ returns g c =
     let some : 0 < by = omega arith in
     let words = words_of_64 b bits g.met.R.BitRegister.size c.requires.narrow c.bits_of.ensures in
     let within = next_word b bits first by (length c.args.words.now)
-    g.met.R.BitRegister.size c.requires.narrow c.bits_of.ensures some c.requires.within in
+    g.met.R.BitRegister.size c.requires.narrow c.bits_of.ensures some c.requires.lies.within in
     read_across b g.R.BitRegister.number g.O.Positions.position c.args.direction c.requires.goes c.args.words.now
     (first * b + by) first by (first + 64 / bits) c.gathered-low.result c.part-next.result c.lowered.result c.raised.result
     _ c.index-words-behind.result refl some c.requires.index c.requires.narrow (omega arith) c.gathered-low.ensures

@@ -3,19 +3,12 @@ use Rattle.bit_addressing_memory.specs.Memory.{read_by}
 use Rattle.bit_slice_chunks.proofs.WholeLemmas.{nth_word, chunk_as}
 use Rattle.bit_slice_chunks.proofs.whole.read_nth_chunk.Goals as goal
 
-pub read_from-requires-clause-within : goal.read_from-requires-clause-within
-read_from-requires-clause-within g c =
+pub read_from-requires-clause-lies : goal.read_from-requires-clause-lies
+read_from-requires-clause-lies g c =
     let narrow : g.R.BitRegister.BITS ≤ 64 = omega (arith, c.BITS.ensures) in
     let start = nth_word g.R.BitRegister.BITS c.bits_of-bits.result c.args.place c.args.k g.met.R.BitRegister.size narrow
     c.bits_of-bits.ensures in
-    omega (arith, c.requires.within)
-
-pub read_from-requires-clause-ends : goal.read_from-requires-clause-ends
-read_from-requires-clause-ends g c =
-    let narrow : g.R.BitRegister.BITS ≤ 64 = omega (arith, c.BITS.ensures) in
-    let start = nth_word g.R.BitRegister.BITS c.bits_of-bits.result c.args.place c.args.k g.met.R.BitRegister.size narrow
-    c.bits_of-bits.ensures in
-    omega (arith, c.requires.ends)
+    record { within = omega (arith, c.requires.lies.within); ends = omega (arith, c.requires.lies.ends) }
 
 pub returns : goal.returns
 returns g c =

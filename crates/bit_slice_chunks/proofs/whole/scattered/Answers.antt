@@ -10,7 +10,7 @@ replace-requires g c =
     let some : 0 < g.R.BitRegister.BITS = omega (arith, g.met.R.BitRegister.least_bits) in
     let within =
     word_of_chunk g.R.BitRegister.BITS c.bits_of-bits.result c.args.first c.loop-k.k (length c.args.words.now) size
-    c.requires.narrow c.bits_of-bits.ensures some (omega arith) c.requires.within in
+    c.requires.narrow c.bits_of-bits.ensures some (omega arith) c.requires.lies.within in
     omega (arith, c.loop-k.invariant.words)
 
 pub loop-k-preserved : goal.loop-k-preserved
@@ -24,7 +24,7 @@ loop-k-preserved g c =
     let low : k < 64 / bits = omega arith in
     let inside =
     word_of_chunk b bits first k (length c.args.words.now) size c.requires.narrow c.bits_of-bits.ensures some
-    low c.requires.within in
+    low c.requires.lies.within in
     let within : first + k < length c.loop-k.words = omega (arith, c.loop-k.invariant.words) in
     let row : k * bits ≡ k * b = ap (λ n. k * n) c.bits_of-bits.ensures in
     let fits = word_begins b bits k size c.requires.narrow c.bits_of-bits.ensures low in

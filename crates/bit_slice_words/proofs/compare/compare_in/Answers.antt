@@ -12,8 +12,8 @@ returns-then-bit-other g c =
     let theirs = c.read_entry-other in
     windows_compare_differ reading c.args.words.now its c.args.others.now c.args.place c.args.other_place c.args.len
     c.args.other_len c.loop-k.k mine.result theirs.result c.cmp.result
-    (omega (arith, g.met.R.BitRegister.least_bits)) (omega (arith, g.met.Q.BitRegister.least_bits)) c.requires.within
-    c.requires.other_within (omega arith) (omega arith) mine.ensures.value theirs.ensures.value c.loop-k.invariant
+    (omega (arith, g.met.R.BitRegister.least_bits)) (omega (arith, g.met.Q.BitRegister.least_bits)) c.requires.lies.within
+    c.requires.other_lies.within (omega arith) (omega arith) mine.ensures.value theirs.ensures.value c.loop-k.invariant
     (differ_tested mine.result theirs.result c.if-bit-other.true) c.cmp.ensures
 
 pub returns-then-few-shorter : goal.returns-then-few-shorter
@@ -22,5 +22,5 @@ returns-then-few-shorter g c =
     let its = read_by g.Q.BitRegister g.P.Positions.position in
     windows_compare_ends reading c.args.words.now its c.args.others.now c.args.place c.args.other_place c.args.len
     c.args.other_len c.cmp-then-few-shorter.result (omega (arith, g.met.R.BitRegister.least_bits))
-    (omega (arith, g.met.Q.BitRegister.least_bits)) c.requires.within c.requires.other_within
+    (omega (arith, g.met.Q.BitRegister.least_bits)) c.requires.lies.within c.requires.other_lies.within
     (λ k low its_low. c.loop-k.invariant k (omega arith)) c.cmp-then-few-shorter.ensures

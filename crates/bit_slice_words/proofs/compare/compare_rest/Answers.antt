@@ -18,8 +18,8 @@ returns-then-same-rest g c =
     λ same. agree.differ (omega arith) (sym mine.ensures.value ∙ same ∙ theirs.ensures.value) in
     windows_compare_differ reading c.args.words.now its c.args.others.now c.args.place c.args.other_place c.args.len
     c.args.other_len at mine.result theirs.result c.cmp.result
-    (omega (arith, g.met.R.BitRegister.least_bits)) (omega (arith, g.met.Q.BitRegister.least_bits)) c.requires.within
-    c.requires.other_within (omega arith) (omega arith) mine.ensures.value theirs.ensures.value agree.same other
+    (omega (arith, g.met.R.BitRegister.least_bits)) (omega (arith, g.met.Q.BitRegister.least_bits)) c.requires.lies.within
+    c.requires.other_lies.within (omega arith) (omega arith) mine.ensures.value theirs.ensures.value agree.same other
     c.cmp.ensures
 
 pub returns : goal.returns
@@ -31,5 +31,5 @@ returns g c =
     (λ low. omega arith) c.requires.same c.agree_behind-same.ensures in
     windows_compare_ends reading c.args.words.now its c.args.others.now c.args.place c.args.other_place c.args.len
     c.args.other_len c.cmp-2.result (omega (arith, g.met.R.BitRegister.least_bits))
-    (omega (arith, g.met.Q.BitRegister.least_bits)) c.requires.within c.requires.other_within
+    (omega (arith, g.met.Q.BitRegister.least_bits)) c.requires.lies.within c.requires.other_lies.within
     (λ k low its_low. agree.same k (omega arith)) c.cmp-2.ensures

@@ -9,12 +9,12 @@ returns-then-agree_rest-other_len g c =
     let reading = read_by g.R.BitRegister g.O.Positions.position in
     let its = read_by g.Q.BitRegister g.P.Positions.position in
     let ys = piece (memory its c.args.others.now) c.args.other_place c.args.other_len in
-    let size = length-window its c.args.others.now c.args.other_place c.args.other_len c.requires.other_within in
+    let size = length-window its c.args.others.now c.args.other_place c.args.other_len c.requires.other_lies.within in
     answers_yes (holds_here reading c.args.words.now c.args.place c.args.len c.args.from c.args.other_len ys
-    c.requires.within c.requires.order size
+    c.requires.lies.within c.requires.order size
     (windows_equal reading c.args.words.now its c.args.others.now (c.args.place + c.args.from) c.args.other_place
     c.args.other_len (omega (arith, g.met.R.BitRegister.least_bits)) (omega (arith, g.met.Q.BitRegister.least_bits))
-    (omega (arith, c.requires.within, c.requires.order)) c.requires.other_within
+    (omega (arith, c.requires.lies.within, c.requires.order)) c.requires.other_lies.within
     (λ k low. c.agree_rest.ensures.same k (omega (arith, c.if-agree_rest-other_len.true)))))
 
 pub returns-then-len-other_len : goal.returns-then-len-other_len
@@ -22,13 +22,13 @@ returns-then-len-other_len g c =
     let reading = read_by g.R.BitRegister g.O.Positions.position in
     let its = read_by g.Q.BitRegister g.P.Positions.position in
     let ys = piece (memory its c.args.others.now) c.args.other_place c.args.other_len in
-    let size = length-window its c.args.others.now c.args.other_place c.args.other_len c.requires.other_within in
+    let size = length-window its c.args.others.now c.args.other_place c.args.other_len c.requires.other_lies.within in
     let none =
     none_more reading c.args.words.now its c.args.others.now c.args.place c.args.other_place c.args.other_len
     c.args.other_len c.agree_rest.result c.args.from (omega (arith, g.met.R.BitRegister.least_bits))
     (omega (arith, g.met.Q.BitRegister.least_bits)) (omega arith) c.if-agree_rest-other_len.false c.requires.none
     c.agree_rest.ensures in
-    answers_no (holds_none reading c.args.words.now c.args.place c.args.len c.args.other_len ys c.requires.within size
+    answers_no (holds_none reading c.args.words.now c.args.place c.args.len c.args.other_len ys c.requires.lies.within size
     (λ i inside. none i (omega (arith, inside, c.if-len-other_len.true))))
 
 pub contains_rest-requires-clause-none : goal.contains_rest-requires-clause-none

@@ -8,5 +8,5 @@ returns g c =
     holds_behind (read_by g.R.BitRegister g.O.Positions.position) c.args.words.now
     (read_by g.Q.BitRegister g.P.Positions.position) c.args.others.now c.args.place c.args.len c.args.other_place
     c.args.other_len c.args.from (c.args.len - c.args.other_len + 1 - c.args.from) c.start.result
-    (omega (arith, g.met.R.BitRegister.least_bits)) (omega (arith, g.met.Q.BitRegister.least_bits)) c.requires.within
-    c.requires.other_within (omega (arith, c.requires.order)) c.requires.none c.start.ensures
+    (omega (arith, g.met.R.BitRegister.least_bits)) (omega (arith, g.met.Q.BitRegister.least_bits)) c.requires.lies.within
+    c.requires.other_lies.within (omega (arith, c.requires.order)) c.requires.none c.start.ensures

@@ -14,6 +14,6 @@ pub returns-then-few-len : goal.returns-then-few-len
 returns-then-few-len g c =
     answers_yes (windows_equal (read_by g.R.BitRegister g.O.Positions.position) c.args.words.now
     (read_by g.Q.BitRegister g.P.Positions.position) c.args.others.now c.args.place c.args.other_place c.args.len
-    (omega (arith, g.met.R.BitRegister.least_bits)) (omega (arith, g.met.Q.BitRegister.least_bits)) c.requires.within
-    c.requires.other_within
+    (omega (arith, g.met.R.BitRegister.least_bits)) (omega (arith, g.met.Q.BitRegister.least_bits)) c.requires.lies.within
+    c.requires.other_lies.within
     (λ k low. c.agree_singly.ensures.same k (omega (arith, c.if-agree_singly-few.false, c.if-few-len.true))))

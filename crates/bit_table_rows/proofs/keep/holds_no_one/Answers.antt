@@ -1,29 +1,32 @@
-use Rattle.std.proofs.Common.{◌≡◌, ◌<◌, ◌*◌, true, length, get_or, refl, ◌∙◌, arith}
-use Rattle.bit_addressing_memory.proofs.Sweeps.{reads_again, reads_none}
+use Rattle.std.proofs.Common.{◌≡◌, ◌+◌, ◌*◌, ◌/◌, ◌%◌, ◌<◌, false, true, length, get_or, sym, ap, ◌∙◌, arith}
+use Rattle.std.proofs.lemmas.Bool.{eqb-true}
+use Rattle.std.proofs.lemmas.List.{get_or_default}
+use Rattle.std.proofs.lemmas.Nat.{div-add-mod', div_below, mod_below}
+use Rattle.bit_addressing_memory.specs.Bits.{digit_at}
 use Rattle.bit_addressing_memory.specs.Memory.{read_by}
 use Rattle.bit_addressing_memory.specs.Sweep.{sweep_words}
-use Rattle.bit_slice_words.proofs.StretchLemmas.{nowhere_join, nowhere_none, nowhere_word}
+use Rattle.bit_slice_words.proofs.StretchLemmas.{digit_found}
+use Rattle.bit_slice_words.specs.Stretch.{bit_found}
 use Rattle.bit_table_rows.proofs.keep.holds_no_one.Goals as goal
 
-pub loop-k-init : goal.loop-k-init
-loop-k-init g c = record {
-  none = nowhere_none _ 0 (0 * g.T.BitRegister.BITS) (omega arith);
-  same = reads_none c.args.sweep.now;
-  lender = refl;
-}
-
-pub loop-k-preserved : goal.loop-k-preserved
-loop-k-preserved g c =
+pub returns-clause-zeros : goal.returns-clause-zeros
+returns-clause-zeros g c all p low high =
     let reading = read_by g.T.BitRegister g.O.Positions.position in
+    let b = reading.bits in
+    let some : 0 < b = omega (arith, g.met.T.BitRegister.least_bits) in
     let words = sweep_words c.args.sweep.now in
-    let k = c.loop-k.k in
-    let within : k < length words = omega (arith, c.requires) in
-    let read : c.read-word.result ≡ get_or words k c.read-word.result =
-    rw c.loop-k.invariant.same.words at c.read-word.ensures.value in
-    record {
-      none = nowhere_join _ _ _ _ c.loop-k.invariant.none (nowhere_word reading words true k c.read-word.result within read
-          (c.if-not-lacks.ensures.0 refl));
-      same = reads_again c.args.sweep.now c.loop-k.sweep c.read-word.new.self c.loop-k.invariant.same
-          c.read-word.ensures.same;
-      lender = c.read-word.ensures.lender ∙ c.loop-k.invariant.lender;
-    }
+    let zeros = c.no_digits.result in
+    let j = p / b in
+    let i = p % b in
+    let whole : c.leading.result ≡ c.args.count = eqb-true c.leading.result c.args.count all in
+    let near : j < c.args.count = div_below p b c.args.count some high in
+    let place : j * b + i ≡ p = div-add-mod' p b in
+    let word = get_or words j zeros in
+    let within : j < length words = omega (arith, near, c.requires) in
+    let none : reading.digit word i ≡ false =
+    ap (λ n. digit_at n (g.O.Positions.position i)) (c.leading.ensures.equal j (omega (arith, whole, near)))
+    ∙ c.no_digits.ensures i (mod_below p b some) in
+    ap (bit_found reading words true) (sym place)
+    ∙ sym (digit_found reading words true j i word (mod_below p b some) within
+    (get_or_default words j zeros word within))
+    ∙ none

@@ -1,6 +1,6 @@
 use Rattle.std.proofs.Common.{◌<◌, arith, refl}
 use Rattle.bit_addressing_memory.specs.Memory.{read_by}
-use Rattle.bit_slice_views.specs.View.{view_bits, view_head, view_words}
+use Rattle.bit_slice_views_mut.specs.View.{view_bits, view_head, view_words}
 use Rattle.bit_slice_access.proofs.MaskedLemmas.{masked_bits}
 use Rattle.bit_slice_access.proofs.parts.BitsParts.domain.Goals as goal
 

@@ -1,8 +1,8 @@
 use Rattle.std.proofs.Common.{◌-◌, arith}
 use Rattle.bit_addressing_memory.specs.Memory.{read_by}
 use Rattle.bit_slice_paths.proofs.AcrossLemmas.{agrees_more}
-use Rattle.bit_slice_paths.proofs.across.difference.Goals as goal
-use Rattle.bit_slice_paths.proofs.across.difference.Goals.{then-before-gt0+else-same-before, else-before-gt0}
+use Rattle.bit_slice_paths.proofs.across.difference_by_blocks.Goals as goal
+use Rattle.bit_slice_paths.proofs.across.difference_by_blocks.Goals.{then-before-gt0+else-same-before, else-before-gt0}
 
 pub returns : goal.returns
 returns g c =

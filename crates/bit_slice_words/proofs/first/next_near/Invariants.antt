@@ -1,7 +1,7 @@
 use Rattle.std.proofs.Common.{◌*◌}
 use Rattle.bit_addressing_memory.specs.Memory.{read_by}
 use Rattle.bit_slice_words.specs.Stretch.{bit_found, Nowhere}
-use Rattle.bit_slice_words.proofs.first.next_word.Given as goal
+use Rattle.bit_slice_words.proofs.first.next_near.Given as goal
 
 abbrev pub invariant-loop-k : goal.invariant-loop-k
 invariant-loop-k g l =

@@ -2,8 +2,8 @@ use Rattle.std.proofs.Common.{◌≡◌, ◌+◌, ◌-◌, arith}
 use Rattle.bit_addressing_memory.specs.Memory.{read_by}
 use Rattle.bit_slice_chunks.specs.Combined.{combined_bit}
 use Rattle.bit_slice_paths.proofs.WalkLemmas.{combines_more}
-use Rattle.bit_slice_paths.proofs.across.combine.Goals as goal
-use Rattle.bit_slice_paths.proofs.across.combine.Goals.{then-first-gt0, else-first-gt0}
+use Rattle.bit_slice_paths.proofs.across.combine_by_blocks.Goals as goal
+use Rattle.bit_slice_paths.proofs.across.combine_by_blocks.Goals.{then-first-gt0, else-first-gt0}
 
 pub returns : goal.returns
 returns g c =

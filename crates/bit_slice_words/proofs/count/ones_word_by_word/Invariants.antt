@@ -1,6 +1,6 @@
 use Rattle.std.proofs.Common.{◌≡◌, ◌*◌, count_by}
 use Rattle.bit_addressing_memory.specs.Memory.{memory, piece, read_by}
-use Rattle.bit_slice_words.proofs.count.ones_of_words.Given as goal
+use Rattle.bit_slice_words.proofs.count.ones_word_by_word.Given as goal
 
 -- the ones of the words so far
 abbrev pub invariant-loop-word : goal.invariant-loop-word

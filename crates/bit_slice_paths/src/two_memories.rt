@@ -1,0 +1,372 @@
+//! Bits of two memories combined and compared by whole words: those of the first memory, and as many of the other one,
+//! where words of both are alike.
+
+ghost use Rattle.std.specs.Prelude.{◌≡◌, ℕ, ◌+◌, ◌*◌, ◌/◌, ◌%◌, ◌<◌, ◌≤◌, ◌↔◌, Some, IsTrue, length};
+ghost use Rattle.bit_addressing_memory.specs.Lies.{Lies};
+ghost use Rattle.bit_addressing_memory.specs.Memory.{entry, read_by};
+ghost use Rattle.bit_slice_chunks.specs.Combined.{combined_bit, Combines};
+ghost use Rattle.bit_slice_paths.specs.Fits.{IsFit};
+ghost use Rattle.bit_slice_paths.specs.declared.two_memories.Fit.{Fit};
+ghost use Rattle.bit_slice_paths.specs.declared.two_memories.Fit.TheVariants.{Level};
+
+use crate::across::combine_rest;
+use crate::combining::Combining;
+use crate::match_words::{match_joined, match_words};
+use crate::merge::{merge_joined, merge_words};
+use crate::walk::{Reached, Stretch, walk};
+use crate::word_source::{Aligned, are_alike};
+use bit_addressing_memory::mem::bits_of;
+use bit_addressing_memory::{BitOrder, BitRegister, Direction, direction_of};
+use bit_slice_chunks::any_order::{direction_for, read_bits};
+use std::marker::PhantomData;
+
+// From how many bits on whole words are quicker than blocks of 64 bits, if they are taken as they are, and if each is joined
+// of two.
+const MANY_LEVEL: usize = 256;
+
+const MANY_SHIFTED: usize = 768;
+
+/// How many bits of two memories are compared block by block before whole words are, a round at a time: memories that
+/// differ mostly do so early, and then a round costs more than it saves.
+pub const NEAR: usize = 8_192;
+
+/// How the words of another memory are found for those of the first.
+#[derive(Clone, Copy, PartialEq, Eq, Debug)]
+pub enum Fit {
+    /// Both stretches begin at the same index of a word: word by word.
+    Level,
+    /// They need not: each word is joined of two, whose positions go in this direction.
+    Shifted(Direction),
+}
+
+/// How two stretches of `len` bits fit, if they are long enough for whole words, and words of both are alike and no wider
+/// than 64 bits.
+#[inline(always)]
+pub fn fit_of<R: BitRegister, O: BitOrder<R>, Q: BitRegister, P: BitOrder<Q>>(
+    place: usize,
+    other_place: usize,
+    len: usize,
+) -> Option<Fit>
+    ensures fit { (fit : Fit) → result ≡ Some fit
+        → IsFit R.BITS O.position Q.BITS P.position place other_place fit }
+    ensures many { (fit : Fit) → result ≡ Some fit → 64 ≤ len }
+{
+    if len < MANY_LEVEL || R::BITS > 64 || !are_alike::<R, O, Q, P>() {
+        return None;
+    }
+    let bits = bits_of::<R>();
+    if place % bits == other_place % bits {
+        return Some(Fit::Level);
+    }
+    if len < MANY_SHIFTED {
+        return None;
+    }
+    match direction_of::<Q, P>() {
+        Some(direction) => Some(Fit::Shifted(direction)),
+        None => None,
+    }
+}
+
+// Whole words combined, from a place on at which a word begins.
+#[inline(always)]
+fn merge_middle<H: Combining, R: BitRegister, O: BitOrder<R>, Q: BitRegister, P: BitOrder<Q>>(
+    fit: Fit,
+    words: &mut [R],
+    place: usize,
+    others: &[Q],
+    other_place: usize,
+    n: usize,
+)
+    requires fit { IsFit R.BITS O.position Q.BITS P.position place other_place fit }
+    requires whole { place / R.BITS * R.BITS ≡ place }
+    requires lies { Lies R.BITS words.old place (n * R.BITS) }
+    requires other_lies { Lies Q.BITS others.now other_place (n * R.BITS) }
+    ensures { Combines (read_by R.BitRegister O.position) words.old words.new place (n * R.BITS)
+        (combined_bit H.HOW) (read_by Q.BitRegister P.position) others.now other_place }
+{
+    let bits = bits_of::<R>();
+    let first = place / bits;
+    let other = other_place / bits;
+    let by = other_place % bits;
+    if let Fit::Shifted(direction) = fit
+        && by > 0
+    {
+        merge_joined::<H, R, O, Q, P>(direction, words, first, others, other, by as u8, n);
+        return;
+    }
+    let source = Aligned::<R, O, Q, P> {
+        words: others,
+        first: other,
+        register: PhantomData,
+        order: PhantomData,
+        its_order: PhantomData,
+    };
+    merge_words::<H, R, O, Aligned<'_, R, O, Q, P>>(words, first, &source, n);
+}
+
+#[derive(Drop)]
+struct Merging<'a, 'b, H, R: BitRegister, O: BitOrder<R>, Q: BitRegister, P: BitOrder<Q>> {
+    fit: Fit,
+    words: &'a mut [R],
+    place: usize,
+    others: &'b [Q],
+    other_place: usize,
+    len: usize,
+    how: PhantomData<H>,
+    order: PhantomData<O>,
+    its_order: PhantomData<P>,
+    ghost fits: { IsFit R.BITS O.position Q.BITS P.position place other_place fit },
+    ghost lies: { Lies R.BITS words.now place len },
+    ghost other_lies: { Lies Q.BITS others.now other_place len },
+}
+
+impl<'a, 'b, H: Combining, R: BitRegister, O: BitOrder<R>, Q: BitRegister, P: BitOrder<Q>> Stretch<
+    R,
+    O,
+> for Merging<'a, 'b, H, R, O, Q, P> {
+    ghost use Rattle.bit_slice_paths.specs.Fits.{Merged, merged_none};
+
+    ghost at = { λ s. s.place };
+
+    ghost len = { λ s. s.len };
+
+    ghost Done = { λ s t n. Merged (read_by R.BitRegister O.position) (combined_bit H.HOW) s.words.now t.words.now
+        s.place t.place (read_by Q.BitRegister P.position) s.others.now t.others.now s.other_place t.other_place
+        s.words.ghost_name t.words.ghost_name n };
+
+    ghost IsStopped = { λ s. ⊥ };
+
+    #[inline(always)]
+    fn place(&self) -> usize {
+        self.place
+    }
+
+    #[inline(always)]
+    fn part(&mut self, done: usize, count: usize) -> bool {
+        if count > 0 {
+            combine_rest::<H, R, O, Q, P>(
+                self.words,
+                self.place + done,
+                self.others,
+                self.other_place + done,
+                count,
+            );
+        }
+        true
+    }
+
+    #[inline(always)]
+    fn words(&mut self, done: usize, n: usize) -> usize {
+        merge_middle::<H, R, O, Q, P>(
+            self.fit,
+            self.words,
+            self.place + done,
+            self.others,
+            self.other_place + done,
+            n,
+        );
+        n
+    }
+
+    ghost fits = { λ s. s.lies.ends };
+
+    ghost none = { λ s. merged_none _ _ s.words.now s.place _ s.others.now s.other_place s.words.ghost_name };
+}
+
+/// Combines each of `len` bits, 64 or more, with one of another memory, and returns how many.
+#[inline(never)]
+pub fn combine<H: Combining, R: BitRegister, O: BitOrder<R>, Q: BitRegister, P: BitOrder<Q>>(
+    fit: Fit,
+    words: &mut [R],
+    place: usize,
+    others: &[Q],
+    other_place: usize,
+    len: usize,
+) -> usize
+    requires fit { IsFit R.BITS O.position Q.BITS P.position place other_place fit }
+    requires many { 64 ≤ len }
+    requires lies { Lies R.BITS words.old place len }
+    requires other_lies { Lies Q.BITS others.now other_place len }
+    ensures combined { Combines (read_by R.BitRegister O.position) words.old words.new place len
+        (combined_bit H.HOW) (read_by Q.BitRegister P.position) others.now other_place }
+    ensures all { result ≡ len }
+{
+    let mut stretch = Merging::<H, R, O, Q, P> {
+        fit,
+        words,
+        place,
+        others,
+        other_place,
+        len,
+        how: PhantomData,
+        order: PhantomData,
+        its_order: PhantomData,
+    };
+    walk::<R, O, Merging<'_, '_, H, R, O, Q, P>>(&mut stretch, len).done
+}
+
+// Whether up to 64 bits of two memories are the same.
+#[inline(never)]
+fn same_rest<R: BitRegister, O: BitOrder<R>, Q: BitRegister, P: BitOrder<Q>>(
+    words: &[R],
+    place: usize,
+    others: &[Q],
+    other_place: usize,
+    count: usize,
+) -> bool
+    requires some { 0 < count }
+    requires few { count ≤ 64 }
+    requires lies { Lies R.BITS words.now place count }
+    requires other_lies { Lies Q.BITS others.now other_place count }
+    ensures { IsTrue result ↔ ((k : ℕ) → k < count
+        → entry (read_by R.BitRegister O.position) words.now (place + k)
+        ≡ entry (read_by Q.BitRegister P.position) others.now (other_place + k)) }
+{
+    let direction = direction_for::<R, O>();
+    let chunk = read_bits::<R, O>(direction, words, place, count);
+    let other = read_bits::<Q, P>(direction, others, other_place, count);
+    chunk == other
+}
+
+// Up to which whole words two memories are the same, from a place on at which a word begins: `n`, or the first word of a
+// round with a difference.
+#[inline(always)]
+fn match_middle<R: BitRegister, O: BitOrder<R>, Q: BitRegister, P: BitOrder<Q>>(
+    fit: Fit,
+    words: &[R],
+    place: usize,
+    others: &[Q],
+    other_place: usize,
+    n: usize,
+) -> usize
+    requires fit { IsFit R.BITS O.position Q.BITS P.position place other_place fit }
+    requires whole { place / R.BITS * R.BITS ≡ place }
+    requires lies { Lies R.BITS words.now place (n * R.BITS) }
+    requires other_lies { Lies Q.BITS others.now other_place (n * R.BITS) }
+    ensures most { result ≤ n }
+    ensures same { (k : ℕ) → k < result * R.BITS
+        → entry (read_by R.BitRegister O.position) words.now (place + k)
+        ≡ entry (read_by Q.BitRegister P.position) others.now (other_place + k) }
+    ensures differ { result < n → ((k : ℕ) → k < n * R.BITS
+        → entry (read_by R.BitRegister O.position) words.now (place + k)
+        ≡ entry (read_by Q.BitRegister P.position) others.now (other_place + k)) → ⊥ }
+{
+    let bits = bits_of::<R>();
+    let first = place / bits;
+    let other = other_place / bits;
+    let by = other_place % bits;
+    if let Fit::Shifted(direction) = fit
+        && by > 0
+    {
+        return match_joined::<R, O, Q, P>(direction, words, first, others, other, by as u8, n);
+    }
+    let source = Aligned::<R, O, Q, P> {
+        words: others,
+        first: other,
+        register: PhantomData,
+        order: PhantomData,
+        its_order: PhantomData,
+    };
+    match_words::<R, O, Aligned<'_, R, O, Q, P>>(words, first, &source, n)
+}
+
+#[derive(Drop)]
+struct Matching<'a, 'b, R: BitRegister, O: BitOrder<R>, Q: BitRegister, P: BitOrder<Q>> {
+    fit: Fit,
+    words: &'a [R],
+    place: usize,
+    others: &'b [Q],
+    other_place: usize,
+    len: usize,
+    order: PhantomData<O>,
+    its_order: PhantomData<P>,
+    ghost fits: { IsFit R.BITS O.position Q.BITS P.position place other_place fit },
+    ghost lies: { Lies R.BITS words.now place len },
+    ghost other_lies: { Lies Q.BITS others.now other_place len },
+}
+
+impl<'a, 'b, R: BitRegister, O: BitOrder<R>, Q: BitRegister, P: BitOrder<Q>> Stretch<R, O>
+    for Matching<'a, 'b, R, O, Q, P> {
+    ghost use Rattle.bit_slice_paths.specs.Fits.{AreSame, Matched, matched_none};
+
+    ghost at = { λ s. s.place };
+
+    ghost len = { λ s. s.len };
+
+    ghost Done = { λ s t n. Matched (read_by R.BitRegister O.position) s.words.now t.words.now s.place t.place
+        (read_by Q.BitRegister P.position) s.others.now t.others.now s.other_place t.other_place s.len t.len n };
+
+    ghost IsStopped = { λ s. AreSame (read_by R.BitRegister O.position) s.words.now s.place
+        (read_by Q.BitRegister P.position) s.others.now s.other_place s.len → ⊥ };
+
+    #[inline(always)]
+    fn place(&self) -> usize {
+        self.place
+    }
+
+    #[inline(always)]
+    fn part(&mut self, done: usize, count: usize) -> bool {
+        count == 0
+            || same_rest::<R, O, Q, P>(
+                self.words,
+                self.place + done,
+                self.others,
+                self.other_place + done,
+                count,
+            )
+    }
+
+    #[inline(always)]
+    fn words(&mut self, done: usize, n: usize) -> usize {
+        match_middle::<R, O, Q, P>(
+            self.fit,
+            self.words,
+            self.place + done,
+            self.others,
+            self.other_place + done,
+            n,
+        )
+    }
+
+    ghost fits = { λ s. s.lies.ends };
+
+    ghost none = { λ s. matched_none _ s.words.now s.place _ s.others.now s.other_place s.len };
+}
+
+/// How many of the first of `len` bits, 64 or more, are known to be those of another memory: all, or those before the
+/// round of words in which one differs; and how many were read for it.
+#[inline(never)]
+pub fn matched<R: BitRegister, O: BitOrder<R>, Q: BitRegister, P: BitOrder<Q>>(
+    fit: Fit,
+    words: &[R],
+    place: usize,
+    others: &[Q],
+    other_place: usize,
+    len: usize,
+) -> Reached
+    requires fit { IsFit R.BITS O.position Q.BITS P.position place other_place fit }
+    requires many { 64 ≤ len }
+    requires lies { Lies R.BITS words.now place len }
+    requires other_lies { Lies Q.BITS others.now other_place len }
+    ensures order { result.done ≤ result.seen }
+    ensures most { result.seen ≤ len }
+    ensures some { result.done < len → 0 < result.seen }
+    ensures same { (k : ℕ) → k < result.done
+        → entry (read_by R.BitRegister O.position) words.now (place + k)
+        ≡ entry (read_by Q.BitRegister P.position) others.now (other_place + k) }
+    ensures differ { result.done < len → ((k : ℕ) → k < len
+        → entry (read_by R.BitRegister O.position) words.now (place + k)
+        ≡ entry (read_by Q.BitRegister P.position) others.now (other_place + k)) → ⊥ }
+{
+    let mut stretch = Matching::<R, O, Q, P> {
+        fit,
+        words,
+        place,
+        others,
+        other_place,
+        len,
+        order: PhantomData,
+        its_order: PhantomData,
+    };
+    walk::<R, O, Matching<'_, '_, R, O, Q, P>>(&mut stretch, len)
+}

@@ -90,12 +90,6 @@ same_memory reading xs ys some same equal =
     let within : k < length xs * reading.bits = omega (arith, length-memory reading xs) in
     entry_memory reading xs k some ∙ equal k within ∙ sym (entry_memory reading ys k some))
 
--- and equal lists have equal entries
-pub same_entries : {R : Type 0} (reading : Reading R) (xs ys : List R) (k : ℕ) → 0 < reading.bits
-    → memory reading xs ≡ memory reading ys → entry reading xs k ≡ entry reading ys k
-same_entries reading xs ys k some same =
-    sym (entry_memory reading xs k some) ∙ ap (λ m. get_or m k false) same ∙ entry_memory reading ys k some
-
 -- ---- its parts
 
 pub memory-append : {R : Type 0} (reading : Reading R) (xs ys : List R)

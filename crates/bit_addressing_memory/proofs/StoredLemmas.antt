@@ -45,16 +45,6 @@ stored_digits b number at select mask word value result m from upto law index or
       above = λ i high small. out i small (λ _ below. omega arith);
     }
 
--- the same digits by another name
-pub stored_as : {R : Type 0} (reading : Reading R) (word result : R) (from upto : ℕ) (x y : ℕ → Bool)
-    → IsStored reading word result from upto x → ((i : ℕ) → i < reading.bits → x i ≡ y i)
-    → IsStored reading word result from upto y
-stored_as reading word result from upto x y is same = record {
-  inside = λ i low high small. is.inside i low high small ∙ same i small;
-  below = is.below;
-  above = is.above;
-}
-
 -- a word without digits has none at any index
 pub digit_none : {R : Type 0} (number : R → ℕ) (at : ℕ → ℕ) (z : R) (i : ℕ) → number z ≡ 0
     → indexed number at z i ≡ false

@@ -2,8 +2,10 @@
 //! that counts itself.
 #![tactic(auto)]
 
+mod bulk_ops;
 mod copies;
 mod direction;
+mod edges;
 mod entry;
 mod limbs;
 mod masking;
@@ -15,14 +17,19 @@ mod shift;
 mod shifted;
 mod spreads;
 mod sweep;
-mod walks;
 
 pub use bit_addressing_order::{
     BitEnd, BitIdx, BitMask, BitOrder, BitRegister, Limits, LocalBits, Lsb0, Msb0, OrderCandidate,
     Positions, mask_from_at, mem, select_from_at,
 };
+pub use bulk_ops::{
+    BulkOp, COMPARED_BY_PATHS, COUNTED_BY_BLOCKS, FROM_BORDER, JOINED_WORDS, NARROW_WORD,
+    NEAR_BITS, NEAR_WORDS, ROTATED_BY_MOVES, WHOLE_WORDS, bit_loop_limit, bit_loop_limit_of_two,
+    limit_by_order,
+};
 pub use copies::{copy_between, copy_within, swap_between, swap_entries, swap_within};
 pub use direction::{Direction, direction_of, goes};
+pub use edges::{Edges, between, bits_to_next_word, edges_of};
 pub use entry::{read_bit, read_entry, replace_entry, write_bit, write_entry};
 pub use limbs::{bits_in, put_bits_in};
 pub use masking::{each_digit, flipped, load_in, masked, no_digits, store_in, stored};
@@ -30,4 +37,3 @@ pub use moves::{move_in, taken};
 pub use shift::{joined, raised};
 pub use spreads::spread;
 pub use sweep::{Sweep, Way, way_for};
-pub use walks::{Walk, most_singly, most_singly_of_two};

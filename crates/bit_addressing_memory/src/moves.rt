@@ -12,13 +12,13 @@ ghost use Rattle.bit_addressing_memory.specs.Sweep.{IsFresh, SameButReads, sweep
 ghost use Rattle.bit_addressing_memory.specs.Sweep.{reads_of};
 ghost use Rattle.bit_addressing_memory.specs.Ways.{way_for};
 
+use crate::bulk_ops::{BulkOp, bit_loop_limit};
 use crate::direction::{Direction, direction_of};
 use crate::entry::{read_bit, write_bit};
 use crate::limbs::with_bits;
 use crate::one_place::put_straight;
 use crate::shifted::with_shifted;
 use crate::sweep::{Sweep, Way};
-use crate::walks::{Walk, most_singly};
 use bit_addressing_order::mem::bits_of;
 use bit_addressing_order::{BitIdx, BitOrder, BitRegister};
 
@@ -179,7 +179,7 @@ fn taken_turned<R: BitRegister, O: BitOrder<R>>(
     ensures lender { sweep_lender sweep.new ≡ sweep_lender sweep.old }
 {
     let count = (upto - from) as usize;
-    if count <= most_singly::<R, O>(Walk::Move) {
+    if count <= bit_loop_limit::<R, O>(BulkOp::Move) {
         return taken_singly::<R, O>(sweep, place, own, from as usize, upto as usize);
     }
     taken_by_limbs::<R, O>(sweep, place, own, from, upto)

@@ -5,7 +5,7 @@ ghost use Rattle.bit_addressing_memory.specs.Memory.{memory, piece, read_by, wit
 
 use crate::edits::BitsEdits;
 use crate::parts::BitsParts;
-use bit_addressing_memory::{BitOrder, BitRegister, Lsb0, Walk, most_singly_of_two};
+use bit_addressing_memory::{BitOrder, BitRegister, Lsb0, BulkOp, bit_loop_limit_of_two};
 use bit_slice_views_mut::{BitRange, BitSlice, Bits, BitsMut, copy_in};
 
 /// The copies of a window that no single lower call makes: of every `BitsMut`.
@@ -55,8 +55,8 @@ pub trait BitsCopy: BitsMut {
         ensures other_len { length (W.bits other.new) ≡ length (W.bits other.old) }
         ensures other_frame { W.frame other.new ≡ W.frame other.old }
     {
-        let few = most_singly_of_two::<Self::Store, Self::Order, W::Store, W::Order>(
-            Walk::Exchange,
+        let few = bit_loop_limit_of_two::<Self::Store, Self::Order, W::Store, W::Order>(
+            BulkOp::Swap,
         );
         if self.len() <= few {
             swap_singly(self, other);

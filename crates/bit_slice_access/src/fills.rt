@@ -7,7 +7,7 @@ ghost use Rattle.bit_slice_access.specs.Fills.{Filled};
 use crate::copies::hold;
 use crate::edits::BitsEdits;
 use bit_addressing_memory::{
-    BitIdx, BitOrder, BitRegister, Lsb0, Walk, most_singly, read_bit, write_bit,
+    BitIdx, BitOrder, BitRegister, Lsb0, BulkOp, bit_loop_limit, read_bit, write_bit,
 };
 use bit_slice_views_mut::{BitSlice, Bits, BitsMut};
 
@@ -22,7 +22,7 @@ pub trait BitsFill: BitsMut {
         ensures len { length (Self.bits self.new) ≡ length (Self.bits self.old) }
         ensures frame { Self.frame self.new ≡ Self.frame self.old }
     {
-        if self.len() <= most_singly::<Self::Store, Self::Order>(Walk::Fill) {
+        if self.len() <= bit_loop_limit::<Self::Store, Self::Order>(BulkOp::Fill) {
             fill_singly(self, f);
         } else {
             fill_held::<Self, F, u64, Lsb0>(self, f);
@@ -38,7 +38,7 @@ pub trait BitsFill: BitsMut {
         ensures len { length (Self.bits self.new) ≡ length (Self.bits self.old) }
         ensures frame { Self.frame self.new ≡ Self.frame self.old }
     {
-        if self.len() <= most_singly::<Self::Store, Self::Order>(Walk::Each) {
+        if self.len() <= bit_loop_limit::<Self::Store, Self::Order>(BulkOp::ForEach) {
             each_singly(self, f);
         } else {
             each_by_chunks(self, f);

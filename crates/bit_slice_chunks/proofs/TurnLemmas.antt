@@ -85,15 +85,6 @@ faced_xor : (direction : Direction) (x y d i : ℕ) → IsFaced direction Ascend
     → digit_at d i ≡ xor (chunk_bit direction x i) (chunk_bit direction y i)
 faced_xor direction x y d i faced small = faced i small ∙ xor_digit x y (straight 64 direction i)
 
-pub agree_all : (direction : Direction) (x y d : ℕ) → IsFaced direction Ascending (bit_xor x y) d → d ≡ 0
-    → AgreeTo direction x y 64
-agree_all direction x y d faced none = record {
-  most = omega arith;
-  same = λ i small. same_xor (chunk_bit direction x i) (chunk_bit direction y i)
-      (sym (faced_xor direction x y d i faced small) ∙ ap (λ m. digit_at m i) none ∙ ap (λ b. b == 1) (bit_at-zero i));
-  differ = λ past. absurd (omega arith);
-}
-
 pub agree_until : (direction : Direction) (x y d at : ℕ) → IsFaced direction Ascending (bit_xor x y) d → 0 < d
     → d < 2 ^ 64 → at ≡ trailing_zeros w64 d → AgreeTo direction x y at
 agree_until direction x y d at faced some fits is =

@@ -92,14 +92,6 @@ chunk_cut reading words place n count direction chunk r few had cut = record {
   past = cut.past;
 }
 
--- no word yet
-pub read_none : {R : Type 0} (reading : Reading R) (words : List R) (place end : ℕ) (direction : Direction)
-    → end ≡ place → ReadTo reading words place end direction 0
-read_none reading words place end direction is = record {
-  inside = λ i small low. absurd (omega arith);
-  past = λ i small far. ap (λ d. d == 1) (bit_at-zero (straight 64 direction i));
-}
-
 -- all of them
 pub read_whole : {R : Type 0} (reading : Reading R) (words : List R) (place end : ℕ) (direction : Direction)
     (chunk : ℕ) → end ≡ place + 64 → ReadTo reading words place end direction chunk

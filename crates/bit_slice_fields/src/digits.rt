@@ -17,7 +17,7 @@ ghost use Rattle.bit_slice_views_mut.specs.Frame.{KeepsBeside};
 
 use crate::integral::Integral;
 use bit_addressing_memory::{
-    BitOrder, BitRegister, Direction, Walk, mem, most_singly, write_entry,
+    BitOrder, BitRegister, Direction, BulkOp, mem, bit_loop_limit, write_entry,
 };
 use bit_slice_chunks::{read_bits, read_counted, read_part, write_bits, write_counted};
 use bit_slice_views::{BitSlice, Bits};
@@ -389,7 +389,7 @@ pub(crate) fn scatter<T: BitRegister, O: BitOrder<T>>(
         ≡ bits_in_order (cut_weight cut T.BITS len) len digits }
     ensures beside { KeepsBeside (read_by T.BitRegister O.position) words.old words.new place len }
 {
-    if len <= most_singly::<T, O>(Walk::Number) {
+    if len <= bit_loop_limit::<T, O>(BulkOp::Store) {
         scatter_singly::<T, O>(words, place, len, digits, cut);
     } else {
         scatter_by_pieces::<T, O>(words, place, len, digits, cut);

@@ -13,7 +13,7 @@ ghost use Rattle.bit_slice_views.specs.Found.{is_bit, last_position};
 ghost use Rattle.bit_slice_views.specs.View.{view_bits};
 ghost use Rattle.bit_slice_iterators.specs.Indices.{indices, AreDigits};
 
-use bit_addressing_memory::{BitOrder, BitRegister, Direction, Walk, most_singly};
+use bit_addressing_memory::{BitOrder, BitRegister, Direction, BulkOp, bit_loop_limit};
 use bit_slice_chunks::any_order::{direction_for, read_bits, read_chunk};
 use bit_slice_chunks::{faced, first_bits};
 use bit_slice_views::{BitSlice, Bits};
@@ -157,7 +157,7 @@ impl<'a, T: BitRegister, O: BitOrder<T>, B: Sought> Indices<'a, T, O, B> {
         self.ahead == 0
             && self.from != 0
             && B::among(0).is_some()
-            && self.view.len() > most_singly::<T, O>(Walk::Look)
+            && self.view.len() > bit_loop_limit::<T, O>(BulkOp::Indices)
     }
 
     // Holds the next bits ahead where that is cheaper.

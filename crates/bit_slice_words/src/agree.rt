@@ -5,7 +5,7 @@ ghost use Rattle.bit_addressing_memory.specs.Lies.{Lies};
 ghost use Rattle.bit_addressing_memory.specs.Memory.{entry, read_by};
 ghost use Rattle.bit_slice_paths.specs.Agrees.{Agrees};
 
-use bit_addressing_memory::{BitOrder, BitRegister, Walk, most_singly_of_two, read_entry};
+use bit_addressing_memory::{BitOrder, BitRegister, BulkOp, bit_loop_limit_of_two, read_entry};
 use bit_slice_paths::across;
 
 // How many of `len` bits are compared one by one first.
@@ -15,7 +15,7 @@ pub(crate) fn few_to_compare<R: BitRegister, O: BitOrder<R>, Q: BitRegister, P: 
 ) -> usize
     ensures { result ≤ len }
 {
-    len.min(most_singly_of_two::<R, O, Q, P>(Walk::Compare))
+    len.min(bit_loop_limit_of_two::<R, O, Q, P>(BulkOp::Compare))
 }
 
 // How many of `len` bits behind these: some where no whole chunk is left.
@@ -24,7 +24,7 @@ fn few_behind<R: BitRegister, O: BitOrder<R>, Q: BitRegister, P: BitOrder<Q>>(le
     ensures { result ≤ len }
 {
     if len < 64 {
-        len.min(most_singly_of_two::<R, O, Q, P>(Walk::CompareRest))
+        len.min(bit_loop_limit_of_two::<R, O, Q, P>(BulkOp::CompareRest))
     } else {
         0
     }

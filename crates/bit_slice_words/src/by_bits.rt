@@ -11,7 +11,9 @@ ghost use Rattle.bit_slice_paths.specs.Steps.{groups, Takes};
 
 use crate::agree::{agree_by_chunks, few_to_compare};
 use crate::combine::combined;
-use bit_addressing_memory::{BitOrder, BitRegister, Walk, most_singly, read_entry, write_entry};
+use bit_addressing_memory::{
+    BitOrder, BitRegister, BulkOp, bit_loop_limit, read_entry, write_entry,
+};
 use bit_slice_paths::combining::{Both, Combining, Differing, Either, Taken};
 use bit_slice_paths::{Steps, across};
 
@@ -256,7 +258,7 @@ fn combine<H: Combining, R: BitRegister, O: BitOrder<R>>(
         (combined_bit H.HOW) (read_by R.BitRegister O.position) others.now other_place }
     ensures steps { Takes steps.old steps.new (groups len 64) (groups len 1) }
 {
-    if len <= most_singly::<R, O>(Walk::Copy) {
+    if len <= bit_loop_limit::<R, O>(BulkOp::Copy) {
         combine_singly::<H, R, O>(words, place, others, other_place, len, steps);
     } else {
         combine_by_chunks::<H, R, O>(words, place, others, other_place, len, steps);

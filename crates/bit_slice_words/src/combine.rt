@@ -7,7 +7,7 @@ ghost use Rattle.bit_addressing_memory.specs.Memory.{entry, read_by, Overwrites}
 ghost use Rattle.bit_slice_paths.specs.Combined.{combined_bit, Combines};
 
 use bit_addressing_memory::{
-    BitOrder, BitRegister, Walk, most_singly_of_two, read_entry, write_entry,
+    BitOrder, BitRegister, BulkOp, bit_loop_limit_of_two, read_entry, write_entry,
 };
 use bit_slice_paths::combining::{Both, Combining, Differing, Either};
 use bit_slice_paths::{Combination, across};
@@ -38,7 +38,7 @@ pub(crate) fn combine_in<
     ensures { Combines (read_by R.BitRegister O.position) words.old words.new place len
         (combined_bit H.HOW) (read_by Q.BitRegister P.position) others.now other_place }
 {
-    if len <= most_singly_of_two::<R, O, Q, P>(Walk::Copy) {
+    if len <= bit_loop_limit_of_two::<R, O, Q, P>(BulkOp::Copy) {
         combine_singly::<H, R, O, Q, P>(words, place, others, other_place, len);
         return;
     }

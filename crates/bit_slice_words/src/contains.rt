@@ -6,7 +6,7 @@ ghost use Rattle.bit_addressing_memory.specs.Memory.{entry, memory, piece, read_
 ghost use Rattle.bit_slice_words.specs.Holds.{Holds};
 
 use crate::agree::{agree_rest, agree_singly, few_to_compare};
-use bit_addressing_memory::{BitOrder, BitRegister, Walk, most_singly_of_two};
+use bit_addressing_memory::{BitOrder, BitRegister, BulkOp, bit_loop_limit_of_two};
 use bit_slice_paths::{direction_for, seek};
 
 /// Whether the `other_len` bits of the memory `others` from a place on stand, in order and next to each other, in the
@@ -34,7 +34,7 @@ pub fn contains_in<R: BitRegister, O: BitOrder<R>, Q: BitRegister, P: BitOrder<Q
         return false;
     }
     let starts = len - other_len + 1;
-    let places = starts.min(most_singly_of_two::<R, O, Q, P>(Walk::Seek));
+    let places = starts.min(bit_loop_limit_of_two::<R, O, Q, P>(BulkOp::Search));
     let few = few_to_compare::<R, O, Q, P>(other_len);
     // Most are passed over by their first bits. What follows the loop is out of line, so that it is a short one.
     for i in 0..places {

@@ -3,7 +3,7 @@
 ghost use Rattle.std.specs.Prelude.{◌+◌, ◌*◌, ◌^◌, ◌<◌, ◌≤◌, length};
 ghost use Rattle.bit_addressing_memory.specs.Memory.{read_by, Copies};
 
-use bit_addressing_memory::{BitOrder, BitRegister, Walk, copy_between, most_singly_of_two};
+use bit_addressing_memory::{BitOrder, BitRegister, BulkOp, bit_loop_limit_of_two, copy_between};
 use bit_slice_paths::across;
 use bit_slice_paths::combining::Taken;
 
@@ -27,7 +27,7 @@ pub fn copy_in<Q: BitRegister, P: BitOrder<Q>, R: BitRegister, O: BitOrder<R>>(
     ensures copied { Copies (read_by R.BitRegister O.position) words.old words.new
         (read_by Q.BitRegister P.position) from.now source target len }
 {
-    if len <= most_singly_of_two::<R, O, Q, P>(Walk::Copy) {
+    if len <= bit_loop_limit_of_two::<R, O, Q, P>(BulkOp::Copy) {
         copy_between::<Q, P, R, O>(from, source, words, target, len);
         return;
     }

@@ -5,10 +5,10 @@ ghost use Rattle.bit_addressing_memory.specs.Lies.{Lies};
 ghost use Rattle.bit_addressing_memory.specs.Memory.{digits, memory, piece, read_by};
 ghost use Rattle.bit_addressing_memory.specs.Straight.{Goes};
 
-use crate::edges::{between, edges_of};
 use bit_addressing_memory::mem::bits_of;
 use bit_addressing_memory::{
-    BitEnd, BitIdx, BitOrder, BitRegister, Direction, direction_of, masked,
+    BitEnd, BitIdx, BitOrder, BitRegister, COUNTED_BY_BLOCKS, Direction, between, direction_of,
+    edges_of, masked,
 };
 use bit_slice_paths::{read_bits, read_nth_chunk};
 
@@ -68,16 +68,13 @@ fn ones_of_part<R: BitRegister, O: BitOrder<R>>(word: R, from: u8, upto: u8) -> 
     ))
 }
 
-// From how many narrow words on their ones are counted 64 bits at a time.
-const MANY: usize = 16;
-
 // How many bits of whole words are 1: of many narrow words 64 bits at a time.
 fn ones_of_words<R: BitRegister, O: BitOrder<R>>(body: &[R]) -> usize
     requires { length body.now * R.BITS < 2 ^ 64 }
     ensures { result ≡ count_by (λ b. b) (memory (read_by R.BitRegister O.position) body.now) }
 {
     match direction_of::<R, O>() {
-        Some(direction) if R::BITS < 64 && body.len() >= MANY => {
+        Some(direction) if R::BITS < 64 && body.len() >= COUNTED_BY_BLOCKS => {
             ones_of_blocks::<R, O>(direction, body, body.len() * bits_of::<R>())
         }
         _ => ones_word_by_word::<R, O>(body),

@@ -4,7 +4,7 @@ ghost use Rattle.std.specs.Prelude.{◌+◌, ◌≤◌};
 ghost use Rattle.bit_addressing_memory.specs.Lies.{Lies};
 ghost use Rattle.bit_addressing_memory.specs.Memory.{read_by, Swaps};
 
-use bit_addressing_memory::{BitOrder, BitRegister, Walk, most_singly, swap_within};
+use bit_addressing_memory::{BitOrder, BitRegister, BulkOp, bit_loop_limit, swap_within};
 use bit_slice_paths::{direction_for, exchange};
 
 /// Exchanges `len` bits of a memory, those from `first` on, with those from `second` on. The first stretch ends before
@@ -22,7 +22,7 @@ pub fn exchange_in<R: BitRegister, O: BitOrder<R>>(
     requires lies { Lies R.BITS words.old second len }
     ensures swapped { Swaps (read_by R.BitRegister O.position) words.old words.new first second len }
 {
-    if len <= most_singly::<R, O>(Walk::Copy) {
+    if len <= bit_loop_limit::<R, O>(BulkOp::SwapWithin) {
         swap_within::<R, O>(words, first, second, len);
         return;
     }

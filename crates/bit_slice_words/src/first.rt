@@ -7,11 +7,12 @@ ghost use Rattle.bit_addressing_memory.specs.Straight.{Goes};
 ghost use Rattle.bit_slice_words.specs.Found.{is_bit};
 ghost use Rattle.bit_slice_words.specs.Stretch.{bit_found, IsFirst, Nowhere};
 
-use crate::edges::edges_of;
 use crate::lacking::lacks;
 use crate::parts::first_in_part;
 use bit_addressing_memory::mem::bits_of;
-use bit_addressing_memory::{BitIdx, BitOrder, BitRegister, Direction, direction_of, read_bit};
+use bit_addressing_memory::{
+    BitIdx, BitOrder, BitRegister, Direction, NEAR_WORDS, direction_of, edges_of, read_bit,
+};
 use bit_slice_paths::match_words::match_words;
 use bit_slice_paths::word_source::Constant;
 
@@ -60,9 +61,6 @@ fn first_place<R: BitRegister, O: BitOrder<R>>(
     first_at::<R, O>(words, next, 0, upto, bit)
 }
 
-// How many words are looked at one by one before rounds of them are: a bit that is near is found sooner so.
-const NEAR: usize = 256;
-
 // The first word from one number up to before another that has the bit, or the second number.
 fn next_word<R: BitRegister, O: BitOrder<R>>(
     words: &[R],
@@ -79,7 +77,7 @@ fn next_word<R: BitRegister, O: BitOrder<R>>(
     ensures some { result < upto → ¬ Nowhere (bit_found (read_by R.BitRegister O.position) words.now bit)
         (result * R.BITS) ((result + 1) * R.BITS) }
 {
-    let near = from + (upto - from).min(NEAR);
+    let near = from + (upto - from).min(NEAR_WORDS);
     let next = next_near::<R, O>(words, from, near, bit);
     if next < near || near == upto {
         return next;

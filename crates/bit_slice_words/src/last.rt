@@ -7,11 +7,12 @@ ghost use Rattle.bit_addressing_memory.specs.Straight.{Goes};
 ghost use Rattle.bit_slice_words.specs.Found.{is_bit, last_position};
 ghost use Rattle.bit_slice_words.specs.Stretch.{bit_found, IsLast, Nowhere};
 
-use crate::edges::edges_of;
 use crate::lacking::lacks;
 use crate::parts::last_in_part;
 use bit_addressing_memory::mem::bits_of;
-use bit_addressing_memory::{BitIdx, BitOrder, BitRegister, Direction, direction_of, read_bit};
+use bit_addressing_memory::{
+    BitIdx, BitOrder, BitRegister, Direction, direction_of, edges_of, read_bit,
+};
 
 /// The index of the last of the `len` bits from a place on that is `bit`, counted from that place; `None` where
 /// none is.

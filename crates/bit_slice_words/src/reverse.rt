@@ -4,7 +4,7 @@ ghost use Rattle.std.specs.Prelude.{◌+◌, ◌-◌};
 ghost use Rattle.bit_addressing_memory.specs.Lies.{Lies};
 ghost use Rattle.bit_addressing_memory.specs.Memory.{entry, read_by, Overwrites};
 
-use bit_addressing_memory::{BitOrder, BitRegister, Walk, most_singly, swap_entries};
+use bit_addressing_memory::{BitOrder, BitRegister, BulkOp, bit_loop_limit, swap_entries};
 use bit_slice_paths::{direction_for, mirror};
 
 /// Turns `len` bits of a memory round, those from `place` on: the last comes first. They lie in the memory,
@@ -16,7 +16,7 @@ pub fn reverse_in<R: BitRegister, O: BitOrder<R>>(words: &mut [R], place: usize,
     ensures reversed { Overwrites (read_by R.BitRegister O.position) words.old words.new place len
         (λ k. entry (read_by R.BitRegister O.position) words.old (place + (len - 1 - k))) }
 {
-    if len <= most_singly::<R, O>(Walk::Turn) {
+    if len <= bit_loop_limit::<R, O>(BulkOp::Reverse) {
         reverse_singly::<R, O>(words, place, len);
         return;
     }

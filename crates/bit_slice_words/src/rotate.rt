@@ -6,7 +6,7 @@ ghost use Rattle.bit_addressing_memory.specs.Memory.{entry, read_by, Overwrites}
 ghost use Rattle.bit_slice_paths.specs.Rotations.{rotated_from};
 
 use crate::reverse::reverse_in;
-use bit_addressing_memory::{BitOrder, BitRegister, Walk, most_singly};
+use bit_addressing_memory::{BitOrder, BitRegister, BulkOp, bit_loop_limit};
 use bit_slice_paths::{direction_for, rotation};
 
 /// Moves each of `len` bits of a memory, those from `place` on, `by` places towards the first of them; the
@@ -25,7 +25,7 @@ pub fn rotate_left_in<R: BitRegister, O: BitOrder<R>>(
     ensures rotated { Overwrites (read_by R.BitRegister O.position) words.old words.new place len
         (λ k. entry (read_by R.BitRegister O.position) words.old (place + rotated_from len by k)) }
 {
-    if len <= most_singly::<R, O>(Walk::Copy) {
+    if len <= bit_loop_limit::<R, O>(BulkOp::Rotate) {
         rotate_by_turns::<R, O>(words, place, len, by);
         return;
     }

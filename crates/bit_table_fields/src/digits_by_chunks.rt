@@ -14,7 +14,7 @@ ghost use Rattle.bit_table_layout.specs.Rows.{field_bits};
 
 use crate::digits_by_bits;
 use crate::digits_by_bits::number_of;
-use bit_addressing_memory::{BitOrder, BitRegister, Direction, Walk, most_singly};
+use bit_addressing_memory::{BitOrder, BitRegister, Direction, BulkOp, bit_loop_limit};
 use bit_slice_chunks::any_order::{read_bits, write_bits};
 use bit_slice_views::BitSlice;
 use bit_slice_views_mut::BitsMut;
@@ -39,7 +39,7 @@ pub(crate) fn load<R: BitRegister, O: BitOrder<R>>(
         (piece (memory (read_by R.BitRegister O.position) words.now) place width) }
     ensures steps { Takes steps.old steps.new 1 width }
 {
-    let few = most_singly::<R, O>(Walk::Load);
+    let few = bit_loop_limit::<R, O>(BulkOp::Load);
     // Where none are read one by one, nothing is asked.
     if few == 0 {
         return load_chunk::<R, O>(rule, words, place, width, signed, steps);
@@ -149,7 +149,7 @@ pub(crate) fn store<V: BitsMut>(
     ensures frame { V.frame view.new ≡ V.frame view.old }
     ensures steps { Takes steps.old steps.new 1 width }
 {
-    if width as usize <= most_singly::<V::Store, V::Order>(Walk::Number) {
+    if width as usize <= bit_loop_limit::<V::Store, V::Order>(BulkOp::Store) {
         digits_by_bits::store(rule, view, at, width, value, steps);
         return;
     }

@@ -7,7 +7,7 @@ ghost use Rattle.bit_slice_views.specs.View.{view_bits};
 ghost use Rattle.bit_table_layout.specs.Images.{byte_of, bytes_of};
 ghost use Rattle.bit_table_image.specs.Bytes.{AreBytes, HoldBits};
 
-use bit_addressing_memory::{BitOrder, BitRegister, Lsb0, Msb0, Walk, most_singly};
+use bit_addressing_memory::{BitOrder, BitRegister, BulkOp, Lsb0, Msb0, bit_loop_limit};
 use bit_containers_vector::BitVec;
 use bit_slice_views::{BitSlice, Bits};
 use bit_table_layout::{Layout, Rule};
@@ -28,7 +28,7 @@ pub fn write<T: BitRegister, O: BitOrder<T>>(
         ≡ bytes_of layout.now.rule (view_bits (read_by T.BitRegister O.position) bits.entry)) }
 {
     let rule = layout.rule();
-    if bits.len() <= most_singly::<T, O>(Walk::Bytes) {
+    if bits.len() <= bit_loop_limit::<T, O>(BulkOp::Bytes) {
         return bytes_singly(alloc, rule, bits);
     }
     match rule {

@@ -18,10 +18,10 @@ ghost use Rattle.bit_slice_words.specs.Stretch.{bit_found, Nowhere};
 ghost use Rattle.bit_table_rows.specs.KeepSteps.{Filled, Fills, IsFilledWord};
 ghost use Rattle.bit_table_rows.specs.RowsKept.{KeepsRows, rows_kept};
 
+use crate::bulk_ops::{RowOp, row_loop_limit};
 use bit_addressing_memory::mem::bits_of;
 use bit_addressing_memory::{
-    BitIdx, BitOrder, BitRegister, Direction, Sweep, Walk, direction_of, most_singly, no_digits,
-    taken,
+    BitIdx, BitOrder, BitRegister, Direction, Sweep, direction_of, no_digits, taken,
 };
 use bit_slice_views::{BitSlice, Bits};
 
@@ -63,39 +63,44 @@ pub fn keep_rows<T: BitRegister, O: BitOrder<T>>(
     ensures way { way_of sweep.new ≡ way_of sweep.old }
     ensures lender { sweep_lender sweep.new ≡ sweep_lender sweep.old }
 {
+    let first = head.into_inner() as usize;
     let left = off.count_zeros();
-    keep_counted::<T, O>(sweep, head, n, w, off, left);
+    if !keep_zeros::<T, O>(sweep, first, n, w, off, left) {
+        keep_runs::<T, O>(sweep, first, n, w, off);
+    }
     left
 }
 
-// The same, where one knows how many rows stay.
+// Keeps rows none of whose bits is 1, by zeros alone, where one knows that `left` of them stay. It returns false if a bit
+// is 1, and then it has written nothing.
 #[inline(always)]
-pub(crate) fn keep_counted<T: BitRegister, O: BitOrder<T>>(
+pub(crate) fn keep_zeros<T: BitRegister, O: BitOrder<T>>(
     sweep: &mut Sweep<'_, T>,
-    head: BitIdx<T>,
+    first: usize,
     n: usize,
     w: usize,
     off: BitSlice<'_, T, O>,
     left: usize,
-)
+) -> bool
     requires fresh { IsFresh sweep.old Up }
     requires flags { length (view_bits (read_by T.BitRegister O.position) off) ≡ n }
     requires left { left ≡ count_by not (view_bits (read_by T.BitRegister O.position) off) }
-    requires within { head + n * w ≤ length (sweep_words sweep.old) * T.BITS }
-    requires ends { head + n * w < 2 ^ 64 }
-    ensures rows { KeepsRows (read_by T.BitRegister O.position) (sweep_words sweep.old) (sweep_words sweep.new)
-        head w (view_bits (read_by T.BitRegister O.position) off.entry) }
-    ensures writes { writes_of sweep.new ≡ touched T.BITS head (left * w) }
-    ensures changed { changed T.number (sweep_words sweep.old) (sweep_words sweep.new) ≤ writes_of sweep.new }
+    requires within { first + n * w ≤ length (sweep_words sweep.old) * T.BITS }
+    requires ends { first + n * w < 2 ^ 64 }
+    ensures rows { result ≡ true → KeepsRows (read_by T.BitRegister O.position) (sweep_words sweep.old)
+        (sweep_words sweep.new) first w (view_bits (read_by T.BitRegister O.position) off.entry) }
+    ensures writes { result ≡ true → writes_of sweep.new ≡ touched T.BITS first (left * w) }
+    ensures changed { result ≡ true
+        → changed T.number (sweep_words sweep.old) (sweep_words sweep.new) ≤ writes_of sweep.new }
+    ensures same { result ≡ false → SameButReads sweep.old sweep.new }
     ensures way { way_of sweep.new ≡ way_of sweep.old }
     ensures lender { sweep_lender sweep.new ≡ sweep_lender sweep.old }
 {
-    let first = head.into_inner() as usize;
-    if holds_no_one::<T, O>(sweep, words_before::<T>(first + n * w)) {
-        put_zeros::<T, O>(sweep, first, left * w);
-    } else {
-        keep_runs::<T, O>(sweep, first, n, w, off);
+    if !holds_no_one::<T, O>(sweep, words_before::<T>(first + n * w)) {
+        return false;
     }
+    put_zeros::<T, O>(sweep, first, left * w);
+    true
 }
 
 // How many words have the bits before a place.
@@ -151,10 +156,9 @@ fn put_zeros<T: BitRegister, O: BitOrder<T>>(sweep: &mut Sweep<'_, T>, first: us
     }
 }
 
-// Keeps rows run by run: those that stay one behind the other move as one. Out of line, so that lists without a one are
-// passed by a short loop.
-#[inline(never)]
-fn keep_runs<T: BitRegister, O: BitOrder<T>>(
+// Keeps rows run by run: those that stay one behind the other move as one.
+#[inline(always)]
+pub(crate) fn keep_runs<T: BitRegister, O: BitOrder<T>>(
     sweep: &mut Sweep<'_, T>,
     first: usize,
     n: usize,
@@ -177,7 +181,7 @@ fn keep_runs<T: BitRegister, O: BitOrder<T>>(
 {
     // Found once: at each row it would cost more than the row where the compiler does not know it.
     let direction = direction_of::<T, O>();
-    let few = most_singly::<T, O>(Walk::Keep);
+    let few = row_loop_limit::<T, O>(RowOp::Keep);
     let mut word = T::ZERO;
     let mut kept: usize = 0;
     let mut k: usize = 0;

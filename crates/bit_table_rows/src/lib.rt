@@ -2,6 +2,7 @@
 //! bits, one entry a row each.
 #![tactic(auto)]
 
+mod bulk_ops;
 mod combine;
 mod drops;
 mod edit;
@@ -15,6 +16,7 @@ mod rows;
 mod vectors;
 mod windows;
 
+pub use bulk_ops::{RowOp, row_loop_limit};
 pub use edit::RowEdit;
 pub use edits::{copy_rows, keep_rows_in, move_rows_in, rotate_rows, swap_rows, write_row};
 pub use keep::keep_rows;

@@ -1,15 +1,16 @@
 //! Moves of rows by one sweep over the words of a window, whose writes are counted: by its list, and by what stays beside
 //! it.
 
-ghost use Rattle.std.specs.Prelude.{◌≡◌, ◌+◌, ◌-◌, ◌*◌, ◌^◌, ◌<◌, ◌≤◌, count_by, length, not};
+ghost use Rattle.std.specs.Prelude.{◌≡◌, ℕ, ◌+◌, ◌-◌, ◌*◌, ◌^◌, ◌<◌, ◌≤◌, None, Some, count_by, length, not};
 ghost use Rattle.bit_addressing_memory.specs.Memory.{memory, piece, read_by, touched};
 ghost use Rattle.bit_addressing_memory.specs.Moves.{changed};
 ghost use Rattle.bit_slice_views.specs.SpanLimits.{MAX_BITS};
+ghost use Rattle.bit_slice_views.specs.View.{view_bits};
 ghost use Rattle.bit_slice_views_mut.specs.Frame.{KeepsBeside};
 ghost use Rattle.bit_table_rows.specs.RowMoves.{rows_moved};
-ghost use Rattle.bit_table_rows.specs.RowsKept.{rows_kept};
+ghost use Rattle.bit_table_rows.specs.RowsKept.{KeepsRows, rows_kept};
 
-use crate::keep::keep_counted;
+use crate::keep::{keep_runs, keep_zeros};
 use crate::rows::move_rows;
 use bit_addressing_memory::{BitIdx, BitOrder, BitRegister, Sweep, Way, way_for};
 use bit_slice_views::BitSlice;
@@ -43,8 +44,87 @@ pub(crate) fn move_window_rows<R: BitRegister, O: BitOrder<R>>(
     sweep.writes()
 }
 
-// Keeps rows of a window that begins in the first word, by one sweep, where one knows how many stay, and answers how
-// many words it wrote. Their flags are `n` bits of other words, from an index of the first of these on.
+// Keeps rows none of whose bits is 1, where one knows that `left` of them stay, and returns how many words it wrote; `None`
+// if a bit is 1, and then it has written nothing. The sweep is handed to no call out of line, so that all that it counts
+// stays in registers.
+#[inline(always)]
+fn keep_zeros_in<R: BitRegister, O: BitOrder<R>>(
+    words: &mut [R],
+    place: usize,
+    n: usize,
+    w: usize,
+    off: BitSlice<'_, R, O>,
+    left: usize,
+) -> Option<usize>
+    requires flags { length (view_bits (read_by R.BitRegister O.position) off) ≡ n }
+    requires left { left ≡ count_by not (view_bits (read_by R.BitRegister O.position) off) }
+    requires within { place + n * w ≤ length words.old * R.BITS }
+    requires ends { place + n * w < 2 ^ 64 }
+    ensures rows { (k : ℕ) → result ≡ Some k → KeepsRows (read_by R.BitRegister O.position) words.old words.new
+        place w (view_bits (read_by R.BitRegister O.position) off.entry) }
+    ensures writes { (k : ℕ) → result ≡ Some k → k ≡ touched R.BITS place (left * w) }
+    ensures changed { (k : ℕ) → result ≡ Some k → changed R.number words.old words.new ≤ k }
+    ensures same { result ≡ None → words.new ≡ words.old }
+{
+    let mut sweep = Sweep::new(words, Way::Up);
+    if keep_zeros::<R, O>(&mut sweep, place, n, w, off, left) {
+        Some(sweep.writes())
+    } else {
+        None
+    }
+}
+
+// Keeps rows run by run, and returns how many words it wrote. Out of line, so that lists without a one are passed by a
+// short function.
+#[inline(never)]
+fn keep_runs_in<R: BitRegister, O: BitOrder<R>>(
+    words: &mut [R],
+    place: usize,
+    n: usize,
+    w: usize,
+    off: BitSlice<'_, R, O>,
+) -> usize
+    requires flags { length (view_bits (read_by R.BitRegister O.position) off) ≡ n }
+    requires within { place + n * w ≤ length words.old * R.BITS }
+    requires ends { place + n * w < 2 ^ 64 }
+    ensures rows { KeepsRows (read_by R.BitRegister O.position) words.old words.new
+        place w (view_bits (read_by R.BitRegister O.position) off.entry) }
+    ensures writes { result ≡ touched R.BITS place
+        (count_by not (view_bits (read_by R.BitRegister O.position) off.entry) * w) }
+    ensures changed { changed R.number words.old words.new ≤ result }
+{
+    let mut sweep = Sweep::new(words, Way::Up);
+    keep_runs::<R, O>(&mut sweep, place, n, w, off);
+    sweep.writes()
+}
+
+// Keeps rows, where one knows how many stay, and returns how many words it wrote, each once.
+#[inline(always)]
+fn keep_in<R: BitRegister, O: BitOrder<R>>(
+    words: &mut [R],
+    place: usize,
+    n: usize,
+    w: usize,
+    off: BitSlice<'_, R, O>,
+    left: usize,
+) -> usize
+    requires flags { length (view_bits (read_by R.BitRegister O.position) off) ≡ n }
+    requires left { left ≡ count_by not (view_bits (read_by R.BitRegister O.position) off) }
+    requires within { place + n * w ≤ length words.old * R.BITS }
+    requires ends { place + n * w < 2 ^ 64 }
+    ensures rows { KeepsRows (read_by R.BitRegister O.position) words.old words.new
+        place w (view_bits (read_by R.BitRegister O.position) off.entry) }
+    ensures writes { result ≡ touched R.BITS place (left * w) }
+    ensures changed { changed R.number words.old words.new ≤ result }
+{
+    match keep_zeros_in::<R, O>(words, place, n, w, off, left) {
+        Some(writes) => writes,
+        None => keep_runs_in::<R, O>(words, place, n, w, off),
+    }
+}
+
+// Keeps rows of a window that begins in the first word, where one knows how many stay, and returns how many words it
+// wrote. Their flags are `n` bits of other words, from an index of the first of these on.
 #[inline(always)]
 pub(crate) fn keep_window_rows<R: BitRegister, O: BitOrder<R>>(
     words: &mut [R],
@@ -71,9 +151,6 @@ pub(crate) fn keep_window_rows<R: BitRegister, O: BitOrder<R>>(
     ensures writes { result ≤ touched R.BITS place (left * w) }
     ensures changed { changed R.number words.old words.new ≤ result }
 {
-    let mut sweep = Sweep::new(words, Way::Up);
-    let head = BitIdx::new_unchecked(place as u8);
     let off = BitSlice::<R, O>::from_parts(flags, index, n);
-    keep_counted::<R, O>(&mut sweep, head, n, w, off, left);
-    sweep.writes()
+    keep_in::<R, O>(words, place, n, w, off, left)
 }

@@ -13,7 +13,7 @@ ghost use Rattle.bit_table_commands.specs.Marks.{number_in_field, passes};
 ghost use Rattle.bit_table_fields.specs.Windows.{number_held};
 ghost use Rattle.bit_table_script.specs.Told.{ones_from, told, AreDigits, HasChunk};
 
-use bit_addressing_memory::{BitOrder, BitRegister, Direction, Walk, most_singly};
+use bit_addressing_memory::{BitOrder, BitRegister, Direction};
 use bit_containers_vector::BitVec;
 use bit_slice_chunks::any_order::{direction_for, read_bits, read_chunk};
 use bit_slice_views::{BitSlice, BitStore, Bits};
@@ -21,7 +21,7 @@ use bit_slice_words::{Steps, WordPaths};
 use bit_table_commands::Test;
 use bit_table_fields::{Digits, bits_before};
 use bit_table_layout::{Layout, Rule};
-use bit_table_rows::Letters;
+use bit_table_rows::{Letters, RowOp, row_loop_limit};
 use std::alloc::{AllocError, Global};
 
 // How many bits a chunk has, and how many rows are told at once.
@@ -58,7 +58,7 @@ pub(crate) fn mark_rows<T: BitStore, O: WordPaths<T> + Digits<T>>(
         letters.old.sets }
     ensures space { letters.new.space ≡ letters.old.space }
 {
-    if letters.rows() <= most_singly::<T, O>(Walk::Mark) {
+    if letters.rows() <= row_loop_limit::<T, O>(RowOp::Mark) {
         mark_singly(letters, layout, bits, letter, field, test, value);
     } else {
         mark_by_blocks(letters, layout, bits, letter, field, test, value);
@@ -214,7 +214,7 @@ pub(crate) fn places_of_ones<T: BitRegister, O: BitOrder<T>>(
     ensures { IfOk result (λ places. places.items
         ≡ ones_from 0 (view_bits (read_by T.BitRegister O.position) bits.entry)) }
 {
-    if bits.len() <= most_singly::<T, O>(Walk::List) {
+    if bits.len() <= row_loop_limit::<T, O>(RowOp::List) {
         return places_singly(alloc, bits);
     }
 

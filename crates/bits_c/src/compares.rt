@@ -12,7 +12,7 @@ ghost use Rattle.bits_c.specs.declared.status.TheConstants.{OK};
 use crate::reads::number_of;
 use crate::status::{OK, OUT_OF_RANGE};
 use crate::windows::window_of;
-use bit_addressing_memory::{BitOrder, BitRegister};
+use bit_addressing_memory::{BitOrder, BitRegister, COMPARED_BY_PATHS};
 use bit_slice_views::{BitSlice, Bits};
 use bit_slice_words::WordPaths;
 use std::cmp::Ordering;
@@ -28,10 +28,6 @@ fn number_of_order(order: Ordering) -> i32
     }
 }
 
-// Up to so many bits the word path of the order is quicker than the comparison of any two windows, which looks at some bits
-// one by one at first.
-const FEW: usize = 2048;
-
 // Whether two windows are the same list.
 #[tactic(auto, using(crate::proofs::NumberLemmas::same_lists))]
 fn is_same<T: BitRegister, O: WordPaths<T>>(
@@ -41,7 +37,7 @@ fn is_same<T: BitRegister, O: WordPaths<T>>(
     ensures { IsTrue result ↔ (view_bits (read_by T.BitRegister O.position) view.entry
         ≡ view_bits (read_by T.BitRegister O.position) others.entry) }
 {
-    if view.len() > FEW {
+    if view.len() > COMPARED_BY_PATHS {
         return view.eq_bits(&others);
     }
     view == others

@@ -11,7 +11,7 @@ use Rattle.bit_slice_words.specs.Stretch.{bit_found, Nowhere}
 use Rattle.bit_table_rows.specs.RowsKept.{KeepsRows}
 use Rattle.bit_table_rows.proofs.KeepRowLemmas.{kept_zeros}
 use Rattle.bit_table_rows.proofs.PlaceLemmas.{place_order}
-use Rattle.bit_table_rows.proofs.keep.keep_counted.Goals as goal
+use Rattle.bit_table_rows.proofs.keep.keep_zeros.Goals as goal
 
 -- the words that were looked at have all bits of the rows, and none of their bits is 1
 looked_at : {R : Type 0} (reading : Reading R) (words : List R) (end count : ℕ) → end ≤ count * reading.bits
@@ -28,7 +28,7 @@ pub put_zeros-requires : goal.put_zeros-requires
 put_zeros-requires g c =
     let reading = read_by g.T.BitRegister g.O.Positions.position in
     let off = view_bits reading c.args.off in
-    let end : ℕ = c.into_inner-first.result + c.args.n * c.args.w in
+    let end : ℕ = c.args.first + c.args.n * c.args.w in
     let few = count_by-le-length not off in
     let left : c.args.left ≤ c.args.n = omega (arith, few, c.requires.flags, c.requires.left) in
     let rows = place_order c.args.left c.args.n c.args.w left in
@@ -46,12 +46,12 @@ put_zeros-requires g c =
           (c.holds_no_one.ensures.zeros c.if-holds_no_one.true) upto (omega (arith, rows, low)));
     }
 
-pub returns-then-holds_no_one-clause-rows : goal.returns-then-holds_no_one-clause-rows
-returns-then-holds_no_one-clause-rows g c =
+pub returns-else-not-holds_no_one-clause-rows : goal.returns-else-not-holds_no_one-clause-rows
+returns-else-not-holds_no_one-clause-rows g c =
     let reading = read_by g.T.BitRegister g.O.Positions.position in
     let b = reading.bits in
     let off = view_bits reading c.args.off in
-    let end : ℕ = c.into_inner-first.result + c.args.n * c.args.w in
+    let end : ℕ = c.args.first + c.args.n * c.args.w in
     let some : 0 < b = omega (arith, g.met.T.BitRegister.least_bits) in
     let rows : length off * c.args.w ≡ c.args.n * c.args.w = ap (λ m. m * c.args.w) c.requires.flags in
     let same = c.holds_no_one.ensures.same.words in
@@ -59,8 +59,8 @@ returns-then-holds_no_one-clause-rows g c =
     let before = sweep_words c.args.sweep.now in
     let after = sweep_words c.put_zeros.new.sweep in
     let within : end ≤ length before * b = rw first c.requires.within in
-    let kept : KeepsRows reading before after c.into_inner-first.result c.args.w off =
-    kept_zeros reading before after c.into_inner-first.result c.args.w off some (omega (arith, rows, within))
+    let kept : KeepsRows reading before after c.args.first c.args.w off =
+    kept_zeros reading before after c.args.first c.args.w off some (omega (arith, rows, within))
     (λ p low.
     let rest = mod_below p b some in
     let whole = div-add-mod' p b in
@@ -69,8 +69,8 @@ returns-then-holds_no_one-clause-rows g c =
     (rw same at c.put_zeros.ensures.same) (rw same at c.put_zeros.ensures.words) in
     rw first at kept
 
-pub returns-then-holds_no_one-clause-changed : goal.returns-then-holds_no_one-clause-changed
-returns-then-holds_no_one-clause-changed g c =
+pub returns-else-not-holds_no_one-clause-changed : goal.returns-else-not-holds_no_one-clause-changed
+returns-else-not-holds_no_one-clause-changed g c =
     let words = sweep_words c.args.sweep.now in
     let some = rw c.holds_no_one.ensures.same.words at c.put_zeros.ensures.changed words in
     omega (

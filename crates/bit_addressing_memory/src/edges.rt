@@ -1,9 +1,9 @@
 //! Where a stretch of bits begins and ends in its words.
 
-ghost use Rattle.std.specs.Prelude.{◌≡◌, ℕ, ◌+◌, ◌-◌, ◌*◌, ◌^◌, ◌<◌, ◌≤◌, length, take, drop};
+ghost use Rattle.std.specs.Prelude.{◌≡◌, ℕ, ◌+◌, ◌-◌, ◌*◌, ◌/◌, ◌^◌, ◌<◌, ◌≤◌, length, take, drop};
 
-use bit_addressing_memory::BitRegister;
-use bit_addressing_memory::mem::bits_of;
+use bit_addressing_order::BitRegister;
+use bit_addressing_order::mem::bits_of;
 
 /// Where a stretch of bits begins and ends: in the word `first` at the index `from`, and in the word `last` up to
 /// before the index `upto`.
@@ -44,6 +44,17 @@ pub fn edges_of<R: BitRegister>(place: usize, len: usize) -> Edges
         last: last / bits,
         upto: (last % bits) as u8 + 1,
     }
+}
+
+/// How many bits lie before the next word: none if a word begins at the place.
+#[inline(always)]
+pub fn bits_to_next_word<R: BitRegister>(place: usize) -> usize
+    ensures few { result < R.BITS }
+    ensures whole { (place + result) / R.BITS * R.BITS ≡ place + result }
+{
+    let bits = bits_of::<R>();
+    let index = place % bits;
+    if index == 0 { 0 } else { bits - index }
 }
 
 /// The words from one number up to before another.

@@ -7,7 +7,7 @@ pub mod combining;
 pub mod exchange;
 mod kernel;
 pub mod match_words;
-mod merge;
+pub mod merge;
 pub mod mirror;
 pub mod rotation;
 pub mod seek;

@@ -14,9 +14,9 @@ use bit_addressing_memory::{BitOrder, BitRegister, Direction};
 use bit_slice_chunks::Combination;
 use std::marker::PhantomData;
 
-// The word whose digits those of two words make.
+/// The word whose digits those of two words make.
 #[inline(always)]
-fn merged<H: Combining, R: BitRegister>(mine: R, its: R) -> R
+pub fn merged<H: Combining, R: BitRegister>(mine: R, its: R) -> R
     ensures { (p : ℕ) → digit_at (R.number result) p
         ≡ combined_bit H.HOW (digit_at (R.number mine) p) (digit_at (R.number its) p) }
 {

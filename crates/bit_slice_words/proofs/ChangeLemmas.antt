@@ -8,16 +8,6 @@ use Rattle.bit_addressing_memory.proofs.EntryLemmas.{entry_read}
 use Rattle.bit_addressing_memory.proofs.PartsLemmas.{stores_as, stores_part}
 use Rattle.bit_slice_words.specs.Edits.{Changes}
 
--- nothing is changed
-pub changes_none : {R : Type 0} (reading : Reading R) (words : List R) (place n : ℕ) (on : Bool → Bool) → n ≡ 0
-    → Changes reading words words place n on
-changes_none reading words place n on none = record {
-  there = λ k small. absurd (omega arith);
-  below = λ p low. refl;
-  above = λ p high. refl;
-  words = refl;
-}
-
 -- two changes end to end
 pub changes_join : {R : Type 0} (reading : Reading R) (before mid after : List R) (place n next m all : ℕ)
     (on : Bool → Bool) → next ≡ place + n → all ≡ n + m
@@ -58,37 +48,6 @@ changes_part reading before after place n from j x value on is turned e inside w
     let here : j * reading.bits + (from + i) ≡ place + i = omega arith in
     turned (from + i) low
     ∙ ap on (entry_read reading before j (from + i) x low inside e ∙ ap (entry reading before) here))
-
--- the word j changed as a whole
-changes_word : {R : Type 0} (reading : Reading R) (words : List R) (j : ℕ) (x w : R) (on : Bool → Bool)
-    → 0 < reading.bits → j < length words → x ≡ get_or words j x
-    → ((i : ℕ) → i < reading.bits → reading.digit w i ≡ on (reading.digit x i))
-    → Changes reading words (set words j w) (j * reading.bits + 0) (reading.bits - 0) on
-changes_word reading words j x w on some within e turned =
-    let stored : IsStored reading x w 0 reading.bits (reading.digit w) = record {
-      inside = λ i _ _ small. refl;
-      below = λ i none _. absurd (omega arith);
-      above = λ i past small. absurd (omega arith);
-    } in
-    changes_part reading words (set words j w) (j * reading.bits + 0) (reading.bits - 0) 0 j x w on
-    (stores_part reading words j x w 0 reading.bits (reading.digit w) within e (omega arith) (omega arith) some stored)
-    turned e within (omega arith) refl
-
--- one whole word more
-pub changes_whole : {R : Type 0} (reading : Reading R) (before mid : List R) (from k : ℕ) (x w : R) (on : Bool → Bool)
-    → 0 < reading.bits → from ≤ k → k < length mid → x ≡ get_or mid k x
-    → ((i : ℕ) → i < reading.bits → reading.digit w i ≡ on (reading.digit x i))
-    → Changes reading before mid (from * reading.bits) ((k - from) * reading.bits) on
-    → Changes reading before (set mid k w) (from * reading.bits) ((k + 1 - from) * reading.bits) on
-changes_whole reading before mid from k x w on some least low e turned so_far =
-    let b = reading.bits in
-    let one = changes_word reading mid k x w on some low e turned in
-    let split : from + (k - from) ≡ k = omega arith in
-    let row : (from + (k - from)) * b ≡ k * b = ap (λ n. n * b) split in
-    let next : k + 1 - from ≡ k - from + 1 = omega arith in
-    let rows : (k + 1 - from) * b ≡ (k - from + 1) * b = ap (λ n. n * b) next in
-    changes_join reading before mid (set mid k w) (from * b) ((k - from) * b) (k * b + 0) (b - 0)
-    ((k + 1 - from) * b) on (omega arith) (omega arith) so_far one
 
 -- a stretch cut at its edges: its first word, whole words, its last word
 pub changes_cut : {R : Type 0} (reading : Reading R) (w0 w1 w2 w3 : List R) (place len first from last upto top : ℕ)

@@ -87,14 +87,6 @@ pub record IsBack {R : Type 0} (reading : Reading R) (words : List R) (place n :
 abbrev pub Opposite : Direction → Direction → Type 0
 Opposite direction other = (i : ℕ) → i < 64 → straight 64 other i ≡ straight 64 direction (63 - i)
 
--- 64 bits are met from the last on
-pub back_whole : {R : Type 0} (reading : Reading R) (words : List R) (place : ℕ) (direction other : Direction)
-    (chunk : ℕ) → Opposite direction other → IsChunk reading words place 64 direction chunk
-    → IsBack reading words place 64 other chunk
-back_whole reading words place direction other chunk turned had = record {
-  inside = λ i low. ap (digit_at chunk) (turned i low) ∙ had.inside (63 - i) (omega arith);
-}
-
 -- and so are fewer, once they are moved up to the end of the chunk
 pub back_rest : {R : Type 0} (reading : Reading R) (words : List R) (place n by : ℕ) (direction other : Direction)
     (chunk raised : ℕ) → n + by ≡ 64 → Opposite direction other → IsChunk reading words place n direction chunk
@@ -161,16 +153,6 @@ first_later passes from again mid upto (Some q) later early front found =
       before = nowhere_join passes from again q (λ p low high. front p low (omega arith)) found.before;
     }
 
--- the first of a stretch is that of a longer one
-pub first_longer : (passes : ℕ → Bool) (from mid upto q : ℕ) → mid ≤ upto → FirstAt passes from mid q
-    → FirstAt passes from upto q
-first_longer passes from mid upto q longer found = record {
-  low = found.low;
-  high = omega (arith, found.high);
-  here = found.here;
-  before = found.before;
-}
-
 -- nowhere from a place on, and the last up to before that place or one behind it
 pub last_earlier : (passes : ℕ → Bool) (from mid again upto : ℕ) (r : Option ℕ) → mid ≤ again → again ≤ upto
     → Nowhere passes mid upto → IsLast passes from again r → IsLast passes from upto r
@@ -187,13 +169,3 @@ last_earlier passes from mid again upto (Some q) late within back found =
         | inr behind ↦ back p (omega arith) less
       ];
     }
-
--- the last of a stretch is that of one that begins before it
-pub last_wider : (passes : ℕ → Bool) (from mid upto q : ℕ) → from ≤ mid → LastAt passes mid upto q
-    → LastAt passes from upto q
-last_wider passes from mid upto q wider found = record {
-  low = omega (arith, found.low);
-  high = found.high;
-  here = found.here;
-  after = found.after;
-}

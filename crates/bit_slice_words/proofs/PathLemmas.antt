@@ -42,13 +42,6 @@ takes_no_more old new n had =
     let b = had.at_most in
     record { at_least = omega arith; at_most = omega (arith, groups_64 n, groups_one n) }
 
--- a step a bit, up to the first that differs
-pub takes_some : (old new n k : ℕ) → 1 ≤ k → k ≤ n → Takes old new k k → Takes old new 1 (groups n 1)
-takes_some old new n k some h had =
-    let a = had.at_least in
-    let b = had.at_most in
-    record { at_least = omega arith; at_most = omega (arith, groups_one n) }
-
 -- one step more, the last one
 pub takes_last : (old now new k most : ℕ) → k < most → new ≡ min (now + 1) most_steps → Takes old now k k
     → Takes old new 1 most

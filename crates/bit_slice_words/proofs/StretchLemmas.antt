@@ -115,10 +115,6 @@ nowhere_join passes from mid upto front back p low high = elim (cases_lt p mid) 
   | inr late ↦ back p late high
 ]
 
--- nowhere in a stretch without places
-pub nowhere_none : (passes : ℕ → Bool) (from upto : ℕ) → upto ≤ from → Nowhere passes from upto
-nowhere_none passes from upto none p low high = absurd (omega arith)
-
 -- the first place of a stretch that is cut at its edges: none in the first word's part, none in the words between up
 -- to `next`, which has one or is the last word
 pub first_of_cut : (passes : ℕ → Bool) (b place end first from last upto next stop : ℕ) (r : Option ℕ)

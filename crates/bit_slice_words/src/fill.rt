@@ -4,8 +4,9 @@ ghost use Rattle.std.specs.Prelude.{◌≡◌};
 ghost use Rattle.bit_addressing_memory.specs.Lies.{Lies};
 ghost use Rattle.bit_addressing_memory.specs.Memory.{read_by, touched, Overwrites};
 
-use crate::change::{Change, change_in};
+use crate::change::change_in;
 use bit_addressing_memory::{BitOrder, BitRegister};
+use bit_slice_paths::combining::Taken;
 
 /// Makes `len` bits of a memory, those from `place` on, `bit`. They lie in the memory, and `place + len` fits a
 /// `usize`. Every other bit of the memory stays, also in the words that hold the first and the last of them.
@@ -29,9 +30,5 @@ pub fn fill_counted<R: BitRegister, O: BitOrder<R>>(
     ensures filled { Overwrites (read_by R.BitRegister O.position) words.old words.new place len (λ _. bit) }
     ensures writes { result ≡ touched R.BITS place len }
 {
-    if bit {
-        change_in::<R, O>(words, place, len, Change::Set)
-    } else {
-        change_in::<R, O>(words, place, len, Change::Clear)
-    }
+    change_in::<Taken, R, O>(words, place, len, bit)
 }

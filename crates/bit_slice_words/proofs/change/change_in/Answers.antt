@@ -1,7 +1,7 @@
 use Rattle.std.proofs.Common.{arith}
 use Rattle.bit_addressing_memory.specs.Memory.{read_by}
 use Rattle.bit_addressing_memory.proofs.PlaceLemmas.{touched_words}
-use Rattle.bit_slice_words.specs.Edits.{changed_bit}
+use Rattle.bit_slice_paths.specs.Combined.{combined_bit}
 use Rattle.bit_slice_words.proofs.ChangeLemmas.{changes_cut}
 use Rattle.bit_slice_words.proofs.change.change_in.Goals as goal
 
@@ -20,7 +20,7 @@ returns-clause-changed g c =
     let is = c.edges_of-cut.ensures in
     changes_cut (read_by g.R.BitRegister g.O.Positions.position) c.args.words.now c.change_part-2.new.words
     c.change_whole-whole.new.words c.change_part-3.new.words c.args.place c.args.len cut.first cut.from cut.last cut.upto
-    c.BITS.result (changed_bit c.args.change) is.start is.end (omega arith) (omega arith) is.within c.BITS.ensures
+    c.BITS.result (λ b. combined_bit g.H.Combining.HOW b c.args.bit) is.start is.end (omega arith) (omega arith) is.within c.BITS.ensures
     c.change_part-2.ensures c.change_whole-whole.ensures.changed c.change_part-3.ensures
 
 pub returns-clause-writes : goal.returns-clause-writes

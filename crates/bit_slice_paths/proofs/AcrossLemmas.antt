@@ -1,5 +1,7 @@
 -- How far two stretches are the same, chunk by chunk.
-use Rattle.std.proofs.Common.{◌≡◌, ℕ, ◌+◌, ◌<◌, ◌≤◌, List, min, refl, sym, ◌∙◌, arith}
+use Rattle.std.proofs.Common.{◌≡◌, ℕ, ◌+◌, ◌==◌, ◌<◌, ◌≤◌, ◌↔◌, IsTrue, List, min, refl, sym, ◌∙◌}
+use Rattle.std.proofs.Common.{inl, inr, arith}
+use Rattle.std.proofs.lemmas.Bool.{cases_lt, eqb-true, eq-eqb}
 use Rattle.bit_addressing_memory.specs.Memory.{Reading, entry}
 use Rattle.bit_addressing_memory.specs.declared.direction.Direction.{Direction}
 use Rattle.bit_slice_chunks.specs.Chunk.{IsChunk, AgreeTo}
@@ -49,3 +51,15 @@ agrees_all reading its words others place other_place n same = record {
   same = same;
   differ = λ low. absurd (omega arith);
 }
+
+-- they are so exactly if they are the same up to their end
+pub agrees_test : {R Q : Type 0} (reading : Reading R) (its : Reading Q) (words : List R) (others : List Q)
+    (place other_place n at : ℕ) → Agrees reading words place its others other_place n at
+    → IsTrue (at == n) ↔ ((k : ℕ) → k < n → entry reading words (place + k) ≡ entry its others (other_place + k))
+agrees_test reading its words others place other_place n at agree = (
+  λ yes k low. agree.same k (omega (arith, eqb-true at n yes)),
+  λ same. eq-eqb at n (elim (cases_lt at n) [
+    | inl low ↦ absurd (agree.differ low (same at low))
+    | inr high ↦ omega (arith, agree.most)
+  ]),
+)

@@ -141,18 +141,6 @@ chunks_equal reading its words others place other_place n direction x y low_x lo
   ]),
 )
 
--- and so says their comparison
-pub chunks_equal_test : {R Q : Type 0} (reading : Reading R) (its : Reading Q) (words : List R) (others : List Q)
-    (place other_place n : ℕ) (direction : Direction) (x y : ℕ) → x < 2 ^ 64 → y < 2 ^ 64
-    → IsChunk reading words place n direction x → IsChunk its others other_place n direction y
-    → IsTrue (x == y)
-    ↔ ((k : ℕ) → k < n → entry reading words (place + k) ≡ entry its others (other_place + k))
-chunks_equal_test reading its words others place other_place n direction x y low_x low_y mine theirs =
-    let is = chunks_equal reading its words others place other_place n direction x y low_x low_y mine theirs in (
-      λ test. is.0 (eqb-true x y test),
-      λ same. eq-eqb x y (is.1 same),
-    )
-
 -- one more chunk that is equal
 pub equal_more : {R Q : Type 0} (reading : Reading R) (its : Reading Q) (words : List R) (others : List Q)
     (place other_place n m all : ℕ) → all ≡ n + m
@@ -166,13 +154,3 @@ equal_more reading its words others place other_place n m all sum had more k low
       let there : other_place + n + (k - n) ≡ other_place + k = omega arith in
       ap (entry reading words) (sym here) ∙ more (k - n) (omega arith) ∙ ap (entry its others) there
 ]
-
--- a part of two stretches that are equal
-pub equal_part : {R Q : Type 0} (reading : Reading R) (its : Reading Q) (words : List R) (others : List Q)
-    (place other_place n m all : ℕ) → n + m ≤ all
-    → ((k : ℕ) → k < all → entry reading words (place + k) ≡ entry its others (other_place + k))
-    → (k : ℕ) → k < m → entry reading words (place + n + k) ≡ entry its others (other_place + n + k)
-equal_part reading its words others place other_place n m all within same k low =
-    let here : place + n + k ≡ place + (n + k) = omega arith in
-    let there : other_place + n + k ≡ other_place + (n + k) = omega arith in
-    ap (entry reading words) here ∙ same (n + k) (omega arith) ∙ ap (entry its others) (sym there)

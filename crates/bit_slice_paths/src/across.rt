@@ -10,6 +10,7 @@ ghost use Rattle.bit_slice_paths.specs.Agrees.{Agrees};
 
 use crate::combining::Combining;
 use crate::two_memories::{self, NEAR, fit_of, matched};
+use crate::walk::Reached;
 use bit_addressing_memory::mem::bits_of;
 use bit_addressing_memory::{BitOrder, BitRegister, Direction};
 use bit_slice_chunks::any_order::{
@@ -179,9 +180,9 @@ fn combine_chunks<H: Combining, R: BitRegister, O: BitOrder<R>, Q: BitRegister, 
     }
 }
 
-// The first of the 64 bits behind `64 * k` others that differ.
+// The first of the 64 bits behind `64 * k` others that differs: 64 if none does.
 #[inline(always)]
-fn difference_of_whole<R: BitRegister, O: BitOrder<R>, Q: BitRegister, P: BitOrder<Q>>(
+fn difference_of_block<R: BitRegister, O: BitOrder<R>, Q: BitRegister, P: BitOrder<Q>>(
     words: &[R],
     place: usize,
     others: &[Q],
@@ -199,22 +200,24 @@ fn difference_of_whole<R: BitRegister, O: BitOrder<R>, Q: BitRegister, P: BitOrd
     first_difference(direction, chunk, other)
 }
 
-// The first of up to 64 bits that differ.
+// The first of up to 64 bits that differs: `count` if none does.
 #[inline(always)]
-fn difference_of_rest<R: BitRegister, O: BitOrder<R>, Q: BitRegister, P: BitOrder<Q>>(
+pub(crate) fn difference_of_part<R: BitRegister, O: BitOrder<R>, Q: BitRegister, P: BitOrder<Q>>(
     words: &[R],
     place: usize,
     others: &[Q],
     other_place: usize,
     count: usize,
 ) -> usize
-    requires some { 0 < count }
     requires few { count ≤ 64 }
     requires lies { Lies R.BITS words.now place count }
     requires other_lies { Lies Q.BITS others.now other_place count }
     ensures { Agrees (read_by R.BitRegister O.position) words.now place
         (read_by Q.BitRegister P.position) others.now other_place count result }
 {
+    if count == 0 {
+        return count;
+    }
     let direction = direction_for::<R, O>();
     let chunk = read_bits::<R, O>(direction, words, place, count);
     let other = read_bits::<Q, P>(direction, others, other_place, count);
@@ -235,42 +238,72 @@ pub fn difference<R: BitRegister, O: BitOrder<R>, Q: BitRegister, P: BitOrder<Q>
     ensures { Agrees (read_by R.BitRegister O.position) words.now place
         (read_by Q.BitRegister P.position) others.now other_place len result }
 {
-    if len < 2 * NEAR {
-        return difference_by_blocks::<R, O, Q, P>(words, place, others, other_place, len);
-    }
-    difference_of_many::<R, O, Q, P>(words, place, others, other_place, len)
+    mismatch::<R, O, Q, P>(words, place, others, other_place, len).done
 }
 
-// `difference` of many bits. Out of line, so that few are compared by a short function.
-#[inline(never)]
-fn difference_of_many<R: BitRegister, O: BitOrder<R>, Q: BitRegister, P: BitOrder<Q>>(
+/// The first of `len` bits that is not as that of another memory, `len` where none is, and how many were read for it.
+#[inline(always)]
+pub fn mismatch<R: BitRegister, O: BitOrder<R>, Q: BitRegister, P: BitOrder<Q>>(
     words: &[R],
     place: usize,
     others: &[Q],
     other_place: usize,
     len: usize,
-) -> usize
+) -> Reached
+    requires lies { Lies R.BITS words.now place len }
+    requires other_lies { Lies Q.BITS others.now other_place len }
+    ensures agrees { Agrees (read_by R.BitRegister O.position) words.now place
+        (read_by Q.BitRegister P.position) others.now other_place len result.done }
+    ensures order { result.done ≤ result.seen }
+    ensures most { result.seen ≤ len }
+    ensures some { result.done < len → 0 < result.seen }
+{
+    if len < 2 * NEAR {
+        return mismatch_by_blocks::<R, O, Q, P>(words, place, others, other_place, len);
+    }
+    mismatch_of_many::<R, O, Q, P>(words, place, others, other_place, len)
+}
+
+// `mismatch` of many bits: by blocks near the start, then by rounds of whole words up to the one in which a bit differs, and
+// by blocks behind them. Out of line, so that few are compared by a short function.
+#[inline(never)]
+fn mismatch_of_many<R: BitRegister, O: BitOrder<R>, Q: BitRegister, P: BitOrder<Q>>(
+    words: &[R],
+    place: usize,
+    others: &[Q],
+    other_place: usize,
+    len: usize,
+) -> Reached
     requires many { 2 * 8192 ≤ len }
     requires lies { Lies R.BITS words.now place len }
     requires other_lies { Lies Q.BITS others.now other_place len }
-    ensures { Agrees (read_by R.BitRegister O.position) words.now place
-        (read_by Q.BitRegister P.position) others.now other_place len result }
+    ensures agrees { Agrees (read_by R.BitRegister O.position) words.now place
+        (read_by Q.BitRegister P.position) others.now other_place len result.done }
+    ensures order { result.done ≤ result.seen }
+    ensures most { result.seen ≤ len }
+    ensures some { result.done < len → 0 < result.seen }
 {
-    let near = difference_by_blocks::<R, O, Q, P>(words, place, others, other_place, NEAR);
-    if near < NEAR {
+    let near = mismatch_by_blocks::<R, O, Q, P>(words, place, others, other_place, NEAR);
+    if near.done < NEAR {
         return near;
     }
-    let rest = difference_behind::<R, O, Q, P>(
+    let (at, other_at, left) = (place + NEAR, other_place + NEAR, len - NEAR);
+    let known = known_same::<R, O, Q, P>(words, at, others, other_at, left);
+    let same = known.done;
+    let rest = mismatch_by_blocks::<R, O, Q, P>(
         words,
-        place + NEAR,
+        at + same,
         others,
-        other_place + NEAR,
-        len - NEAR,
+        other_at + same,
+        left - same,
     );
-    NEAR + rest
+    Reached {
+        done: NEAR + (same + rest.done),
+        seen: NEAR + known.seen.max(same + rest.seen),
+    }
 }
 
-// How many of many first bits are found to be the same by rounds of whole words.
+// How many of many first bits are found to be the same by rounds of whole words, and how many were read for it.
 #[inline(always)]
 fn known_same<R: BitRegister, O: BitOrder<R>, Q: BitRegister, P: BitOrder<Q>>(
     words: &[R],
@@ -278,107 +311,67 @@ fn known_same<R: BitRegister, O: BitOrder<R>, Q: BitRegister, P: BitOrder<Q>>(
     others: &[Q],
     other_place: usize,
     len: usize,
-) -> usize
+) -> Reached
     requires lies { Lies R.BITS words.now place len }
     requires other_lies { Lies Q.BITS others.now other_place len }
-    ensures most { result ≤ len }
-    ensures same { (k : ℕ) → k < result → entry (read_by R.BitRegister O.position) words.now (place + k)
+    ensures order { result.done ≤ result.seen }
+    ensures most { result.seen ≤ len }
+    ensures same { (k : ℕ) → k < result.done → entry (read_by R.BitRegister O.position) words.now (place + k)
         ≡ entry (read_by Q.BitRegister P.position) others.now (other_place + k) }
 {
     match fit_of::<R, O, Q, P>(place, other_place, len) {
-        Some(fit) => matched::<R, O, Q, P>(fit, words, place, others, other_place, len).done,
-        None => 0,
+        Some(fit) => matched::<R, O, Q, P>(fit, words, place, others, other_place, len),
+        None => Reached { done: 0, seen: 0 },
     }
 }
 
-// `difference` by rounds of whole words, up to the one in which it lies.
+// `mismatch`, block by block.
 #[inline(always)]
-fn difference_behind<R: BitRegister, O: BitOrder<R>, Q: BitRegister, P: BitOrder<Q>>(
+fn mismatch_by_blocks<R: BitRegister, O: BitOrder<R>, Q: BitRegister, P: BitOrder<Q>>(
     words: &[R],
     place: usize,
     others: &[Q],
     other_place: usize,
     len: usize,
-) -> usize
+) -> Reached
     requires lies { Lies R.BITS words.now place len }
     requires other_lies { Lies Q.BITS others.now other_place len }
-    ensures { Agrees (read_by R.BitRegister O.position) words.now place
-        (read_by Q.BitRegister P.position) others.now other_place len result }
-{
-    let same = known_same::<R, O, Q, P>(words, place, others, other_place, len);
-    let rest = difference_by_blocks::<R, O, Q, P>(
-        words,
-        place + same,
-        others,
-        other_place + same,
-        len - same,
-    );
-    same + rest
-}
-
-// `difference`, block by block.
-#[inline(always)]
-fn difference_by_blocks<R: BitRegister, O: BitOrder<R>, Q: BitRegister, P: BitOrder<Q>>(
-    words: &[R],
-    place: usize,
-    others: &[Q],
-    other_place: usize,
-    len: usize,
-) -> usize
-    requires lies { Lies R.BITS words.now place len }
-    requires other_lies { Lies Q.BITS others.now other_place len }
-    ensures { Agrees (read_by R.BitRegister O.position) words.now place
-        (read_by Q.BitRegister P.position) others.now other_place len result }
+    ensures agrees { Agrees (read_by R.BitRegister O.position) words.now place
+        (read_by Q.BitRegister P.position) others.now other_place len result.done }
+    ensures order { result.done ≤ result.seen }
+    ensures most { result.seen ≤ len }
+    ensures some { result.done < len → 0 < result.seen }
 {
     let before = before_chunks::<R>(place, len);
-    if before > 0 {
-        let same = difference_of_rest::<R, O, Q, P>(words, place, others, other_place, before);
-        if same < before {
-            return same;
-        }
+    let same = difference_of_part::<R, O, Q, P>(words, place, others, other_place, before);
+    if same < before {
+        return Reached {
+            done: same,
+            seen: before,
+        };
     }
-    let same = difference_of_chunks::<R, O, Q, P>(
-        words,
-        place + before,
-        others,
-        other_place + before,
-        len - before,
-    );
-    before + same
-}
-
-// The same, whole chunks and the rest.
-#[inline(always)]
-fn difference_of_chunks<R: BitRegister, O: BitOrder<R>, Q: BitRegister, P: BitOrder<Q>>(
-    words: &[R],
-    place: usize,
-    others: &[Q],
-    other_place: usize,
-    len: usize,
-) -> usize
-    requires lies { Lies R.BITS words.now place len }
-    requires other_lies { Lies Q.BITS others.now other_place len }
-    ensures { Agrees (read_by R.BitRegister O.position) words.now place
-        (read_by Q.BitRegister P.position) others.now other_place len result }
-{
-    let whole = len / 64;
-    let rest = len % 64;
-    for k in 0..whole {
-        let same = difference_of_whole::<R, O, Q, P>(words, place, others, other_place, k);
+    let (at, other_at) = (place + before, other_place + before);
+    let mut done = before;
+    for k in 0..(len - before) / 64 {
+        let same = difference_of_block::<R, O, Q, P>(words, at, others, other_at, k);
         if same < 64 {
-            return 64 * k + same;
+            return Reached {
+                done: done + same,
+                seen: done + 64,
+            };
         }
+        done += 64;
     }
-    if rest == 0 {
-        return len;
-    }
-    let done = 64 * whole;
-    let same = difference_of_rest::<R, O, Q, P>(
+    let rest = len - done;
+    let same = difference_of_part::<R, O, Q, P>(
         words,
         place + done,
         others,
         other_place + done,
         rest,
     );
-    done + same
+    Reached {
+        done: done + same,
+        seen: done + rest,
+    }
 }

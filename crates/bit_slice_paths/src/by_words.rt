@@ -13,13 +13,13 @@ ghost use Rattle.bit_addressing_memory.specs.Straight.{Goes};
 ghost use Rattle.bit_slice_chunks.specs.Combined.{combined_bit, Combines};
 ghost use Rattle.bit_slice_paths.specs.Steps.{groups, Takes};
 
+use crate::across;
 use crate::combining::Combining;
 use crate::steps::Steps;
-use crate::two_memories::{self, NEAR, fit_of, matched};
+use crate::two_memories::{self, fit_of};
 use bit_addressing_memory::{BitOrder, BitRegister, Direction};
 use bit_slice_chunks::{
-    Combination, combine_bits, combine_chunk, read_bits, read_chunk, read_nth_chunk, write_bits,
-    write_chunk,
+    Combination, combine_bits, combine_chunk, read_bits, read_chunk, write_bits, write_chunk,
 };
 use std::mem;
 
@@ -429,56 +429,9 @@ fn swap_counted<R: BitRegister, O: BitOrder<R>>(
     steps
 }
 
-// Whether the 64 bits behind `64 * k` others are the same in two stretches.
-#[inline(always)]
-fn equal_chunk<R: BitRegister, O: BitOrder<R>>(
-    direction: Direction,
-    words: &[R],
-    place: usize,
-    others: &[R],
-    other_place: usize,
-    k: usize,
-) -> bool
-    requires goes { Goes R.BITS O.position direction }
-    requires lies { Lies R.BITS words.now (place + 64 * k) 64 }
-    requires other_lies { Lies R.BITS others.now (other_place + 64 * k) 64 }
-    ensures { IsTrue result ↔ ((i : ℕ) → i < 64
-        → entry (read_by R.BitRegister O.position) words.now (place + 64 * k + i)
-        ≡ entry (read_by R.BitRegister O.position) others.now (other_place + 64 * k + i)) }
-{
-    let chunk = read_nth_chunk::<R, O>(direction, words, place, k);
-    let other = read_nth_chunk::<R, O>(direction, others, other_place, k);
-    chunk == other
-}
-
-// Whether two stretches of up to 64 bits have the same bits.
-#[inline(never)]
-fn equal_rest<R: BitRegister, O: BitOrder<R>>(
-    direction: Direction,
-    words: &[R],
-    place: usize,
-    others: &[R],
-    other_place: usize,
-    count: usize,
-) -> bool
-    requires goes { Goes R.BITS O.position direction }
-    requires some { 0 < count }
-    requires few { count ≤ 64 }
-    requires lies { Lies R.BITS words.now place count }
-    requires other_lies { Lies R.BITS others.now other_place count }
-    ensures { IsTrue result ↔ ((k : ℕ) → k < count
-        → entry (read_by R.BitRegister O.position) words.now (place + k)
-        ≡ entry (read_by R.BitRegister O.position) others.now (other_place + k)) }
-{
-    let chunk = read_bits::<R, O>(direction, words, place, count);
-    let other = read_bits::<R, O>(direction, others, other_place, count);
-    chunk == other
-}
-
 /// Whether two stretches have the same bits, a step for each 64 up to the first that differ.
 #[inline(always)]
 pub fn equal<R: BitRegister, O: BitOrder<R>>(
-    direction: Direction,
     words: &[R],
     place: usize,
     others: &[R],
@@ -486,7 +439,6 @@ pub fn equal<R: BitRegister, O: BitOrder<R>>(
     len: usize,
     steps: &mut Steps,
 ) -> bool
-    requires goes { Goes R.BITS O.position direction }
     requires lies { Lies R.BITS words.now place len }
     requires other_lies { Lies R.BITS others.now other_place len }
     ensures value { IsTrue result ↔ ((k : ℕ) → k < len
@@ -495,148 +447,7 @@ pub fn equal<R: BitRegister, O: BitOrder<R>>(
     ensures same { result ≡ true → Takes steps.old steps.new (groups len 64) (groups len 64) }
     ensures other { result ≡ false → Takes steps.old steps.new 1 (groups len 64) }
 {
-    if len < 2 * NEAR {
-        return equal_by_blocks::<R, O>(direction, words, place, others, other_place, len, steps);
-    }
-    equal_of_many::<R, O>(direction, words, place, others, other_place, len, steps)
-}
-
-// `equal` of many bits. Out of line, so that few are compared by a short function.
-#[inline(never)]
-fn equal_of_many<R: BitRegister, O: BitOrder<R>>(
-    direction: Direction,
-    words: &[R],
-    place: usize,
-    others: &[R],
-    other_place: usize,
-    len: usize,
-    steps: &mut Steps,
-) -> bool
-    requires goes { Goes R.BITS O.position direction }
-    requires many { 2 * 8192 ≤ len }
-    requires lies { Lies R.BITS words.now place len }
-    requires other_lies { Lies R.BITS others.now other_place len }
-    ensures value { IsTrue result ↔ ((k : ℕ) → k < len
-        → entry (read_by R.BitRegister O.position) words.now (place + k)
-        ≡ entry (read_by R.BitRegister O.position) others.now (other_place + k)) }
-    ensures same { result ≡ true → Takes steps.old steps.new (groups len 64) (groups len 64) }
-    ensures other { result ≡ false → Takes steps.old steps.new 1 (groups len 64) }
-{
-    equal_by_blocks::<R, O>(direction, words, place, others, other_place, NEAR, steps)
-        && equal_behind::<R, O>(
-            direction,
-            words,
-            place + NEAR,
-            others,
-            other_place + NEAR,
-            len - NEAR,
-            steps,
-        )
-}
-
-// `equal` by rounds of whole words.
-#[inline(always)]
-fn equal_behind<R: BitRegister, O: BitOrder<R>>(
-    direction: Direction,
-    words: &[R],
-    place: usize,
-    others: &[R],
-    other_place: usize,
-    len: usize,
-    steps: &mut Steps,
-) -> bool
-    requires goes { Goes R.BITS O.position direction }
-    requires lies { Lies R.BITS words.now place len }
-    requires other_lies { Lies R.BITS others.now other_place len }
-    ensures value { IsTrue result ↔ ((k : ℕ) → k < len
-        → entry (read_by R.BitRegister O.position) words.now (place + k)
-        ≡ entry (read_by R.BitRegister O.position) others.now (other_place + k)) }
-    ensures same { result ≡ true → Takes steps.old steps.new (groups len 64) (groups len 64) }
-    ensures other { result ≡ false → Takes steps.old steps.new 1 (groups len 64) }
-{
-    if let Some(fit) = fit_of::<R, O, R, O>(place, other_place, len) {
-        let reached = matched::<R, O, R, O>(fit, words, place, others, other_place, len);
-        steps.bits(reached.seen);
-        return reached.done == len;
-    }
-    equal_by_blocks::<R, O>(direction, words, place, others, other_place, len, steps)
-}
-
-// Whether two stretches have the same bits, block by block.
-#[inline(always)]
-fn equal_by_blocks<R: BitRegister, O: BitOrder<R>>(
-    direction: Direction,
-    words: &[R],
-    place: usize,
-    others: &[R],
-    other_place: usize,
-    len: usize,
-    steps: &mut Steps,
-) -> bool
-    requires goes { Goes R.BITS O.position direction }
-    requires lies { Lies R.BITS words.now place len }
-    requires other_lies { Lies R.BITS others.now other_place len }
-    ensures value { IsTrue result ↔ ((k : ℕ) → k < len
-        → entry (read_by R.BitRegister O.position) words.now (place + k)
-        ≡ entry (read_by R.BitRegister O.position) others.now (other_place + k)) }
-    ensures same { result ≡ true → Takes steps.old steps.new (groups len 64) (groups len 64) }
-    ensures other { result ≡ false → Takes steps.old steps.new 1 (groups len 64) }
-{
-    let counted = mem::replace(steps, Steps::new());
-    let (same, all) = equal_counted::<R, O>(
-        direction,
-        words,
-        place,
-        others,
-        other_place,
-        len,
-        counted,
-    );
-    *steps = all;
-    same
-}
-
-// `equal`, with a count that is handed in and back.
-#[inline(always)]
-fn equal_counted<R: BitRegister, O: BitOrder<R>>(
-    direction: Direction,
-    words: &[R],
-    place: usize,
-    others: &[R],
-    other_place: usize,
-    len: usize,
-    counted: Steps,
-) -> (bool, Steps)
-    requires goes { Goes R.BITS O.position direction }
-    requires lies { Lies R.BITS words.now place len }
-    requires other_lies { Lies R.BITS others.now other_place len }
-    ensures value { IsTrue result.0 ↔ ((k : ℕ) → k < len
-        → entry (read_by R.BitRegister O.position) words.now (place + k)
-        ≡ entry (read_by R.BitRegister O.position) others.now (other_place + k)) }
-    ensures same { result.0 ≡ true → Takes counted result.1 (groups len 64) (groups len 64) }
-    ensures other { result.0 ≡ false → Takes counted result.1 1 (groups len 64) }
-{
-    let mut steps = counted;
-    let whole = len / 64;
-    let rest = len % 64;
-    for k in 0..whole {
-        steps.step();
-        if !equal_chunk::<R, O>(direction, words, place, others, other_place, k) {
-            return (false, steps);
-        }
-    }
-    if rest == 0 {
-        return (true, steps);
-    }
-    let done = 64 * whole;
-    steps.step();
-    let same = equal_rest::<R, O>(
-        direction,
-        words,
-        place + done,
-        others,
-        other_place + done,
-        rest,
-    );
-    (same, steps)
+    let reached = across::mismatch::<R, O, R, O>(words, place, others, other_place, len);
+    steps.bits(reached.seen);
+    reached.done == len
 }

@@ -21,3 +21,4 @@ pub use bit_slice_chunks::{
     Combination, first_difference, raised, read_bits, read_nth_chunk, read_part,
 };
 pub use steps::Steps;
+pub use walk::Reached;

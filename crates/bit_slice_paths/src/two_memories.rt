@@ -9,7 +9,7 @@ ghost use Rattle.bit_slice_paths.specs.Fits.{IsFit};
 ghost use Rattle.bit_slice_paths.specs.declared.two_memories.Fit.{Fit};
 ghost use Rattle.bit_slice_paths.specs.declared.two_memories.Fit.TheVariants.{Level};
 
-use crate::across::combine_rest;
+use crate::across::{combine_rest, difference_of_part};
 use crate::combining::Combining;
 use crate::match_words::{match_joined, match_words};
 use crate::merge::{merge_joined, merge_words};
@@ -17,7 +17,6 @@ use crate::walk::{Reached, Stretch, walk};
 use crate::word_source::{Aligned, are_alike};
 use bit_addressing_memory::mem::bits_of;
 use bit_addressing_memory::{BitOrder, BitRegister, Direction, direction_of};
-use bit_slice_chunks::any_order::{direction_for, read_bits};
 use std::marker::PhantomData;
 
 // From how many bits on whole words are quicker than blocks of 64 bits, if they are taken as they are, and if each is joined
@@ -205,29 +204,6 @@ pub fn combine<H: Combining, R: BitRegister, O: BitOrder<R>, Q: BitRegister, P: 
     walk::<R, O, Merging<'_, '_, H, R, O, Q, P>>(&mut stretch, len).done
 }
 
-// Whether up to 64 bits of two memories are the same.
-#[inline(never)]
-fn same_rest<R: BitRegister, O: BitOrder<R>, Q: BitRegister, P: BitOrder<Q>>(
-    words: &[R],
-    place: usize,
-    others: &[Q],
-    other_place: usize,
-    count: usize,
-) -> bool
-    requires some { 0 < count }
-    requires few { count ≤ 64 }
-    requires lies { Lies R.BITS words.now place count }
-    requires other_lies { Lies Q.BITS others.now other_place count }
-    ensures { IsTrue result ↔ ((k : ℕ) → k < count
-        → entry (read_by R.BitRegister O.position) words.now (place + k)
-        ≡ entry (read_by Q.BitRegister P.position) others.now (other_place + k)) }
-{
-    let direction = direction_for::<R, O>();
-    let chunk = read_bits::<R, O>(direction, words, place, count);
-    let other = read_bits::<Q, P>(direction, others, other_place, count);
-    chunk == other
-}
-
 // Up to which whole words two memories are the same, from a place on at which a word begins: `n`, or the first word of a
 // round with a difference.
 #[inline(always)]
@@ -306,14 +282,14 @@ impl<'a, 'b, R: BitRegister, O: BitOrder<R>, Q: BitRegister, P: BitOrder<Q>> Str
 
     #[inline(always)]
     fn part(&mut self, done: usize, count: usize) -> bool {
-        count == 0
-            || same_rest::<R, O, Q, P>(
-                self.words,
-                self.place + done,
-                self.others,
-                self.other_place + done,
-                count,
-            )
+        let same = difference_of_part::<R, O, Q, P>(
+            self.words,
+            self.place + done,
+            self.others,
+            self.other_place + done,
+            count,
+        );
+        same == count
     }
 
     #[inline(always)]

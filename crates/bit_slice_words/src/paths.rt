@@ -164,7 +164,6 @@ impl<R: BitRegister> WordPaths<R> for Lsb0 {
         steps: &mut Steps,
     ) -> bool {
         by_words::equal::<R, Lsb0>(
-            Direction::Ascending,
             words,
             place,
             others,
@@ -294,7 +293,6 @@ impl<R: BitRegister> WordPaths<R> for Msb0 {
         steps: &mut Steps,
     ) -> bool {
         by_words::equal::<R, Msb0>(
-            Direction::Descending,
             words,
             place,
             others,

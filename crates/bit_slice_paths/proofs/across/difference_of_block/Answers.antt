@@ -1,7 +1,7 @@
 use Rattle.std.proofs.Common.{◌+◌, ◌*◌, arith}
 use Rattle.bit_addressing_memory.specs.Memory.{read_by}
 use Rattle.bit_slice_paths.proofs.AcrossLemmas.{agrees_chunk}
-use Rattle.bit_slice_paths.proofs.across.difference_of_whole.Goals as goal
+use Rattle.bit_slice_paths.proofs.across.difference_of_block.Goals as goal
 
 pub returns : goal.returns
 returns g c =

@@ -1,6 +1,6 @@
 use Rattle.bit_addressing_memory.specs.Memory.{read_by}
 use Rattle.bit_slice_paths.proofs.AcrossLemmas.{agrees_chunk}
-use Rattle.bit_slice_paths.proofs.across.difference_of_rest.Goals as goal
+use Rattle.bit_slice_paths.proofs.across.difference_of_part.Goals as goal
 
 pub returns : goal.returns
 returns g c =

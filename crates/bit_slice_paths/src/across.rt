@@ -9,10 +9,10 @@ ghost use Rattle.bit_slice_chunks.specs.Combined.{combined_bit, Combines};
 ghost use Rattle.bit_slice_paths.specs.Agrees.{Agrees};
 
 use crate::combining::Combining;
-use crate::two_memories::{self, NEAR, fit_of, matched};
+use crate::two_memories::{self, fit_of, matched};
 use crate::walk::Reached;
 use bit_addressing_memory::mem::bits_of;
-use bit_addressing_memory::{BitOrder, BitRegister, Direction};
+use bit_addressing_memory::{BitOrder, BitRegister, Direction, FROM_BORDER, NEAR_BITS};
 use bit_slice_chunks::any_order::{
     combine_bits, combine_chunk, direction_for, read_bits, read_chunk, read_nth_chunk,
 };
@@ -70,13 +70,13 @@ fn combine_whole<H: Combining, R: BitRegister, O: BitOrder<R>, Q: BitRegister, P
 
 // Combines up to 64 bits.
 #[inline(never)]
-pub(crate) fn combine_rest<
-    H: Combining,
-    R: BitRegister,
-    O: BitOrder<R>,
-    Q: BitRegister,
-    P: BitOrder<Q>,
->(words: &mut [R], place: usize, others: &[Q], other_place: usize, count: usize)
+fn combine_rest<H: Combining, R: BitRegister, O: BitOrder<R>, Q: BitRegister, P: BitOrder<Q>>(
+    words: &mut [R],
+    place: usize,
+    others: &[Q],
+    other_place: usize,
+    count: usize,
+)
     requires some { 0 < count }
     requires few { count ≤ 64 }
     requires lies { Lies R.BITS words.old place count }
@@ -89,8 +89,25 @@ pub(crate) fn combine_rest<
     combine_bits::<R, O>(direction, H::HOW, words, place, count, other);
 }
 
-// From how many bits on a walk begins with those before the next word.
-const MANY: usize = 256;
+// Combines up to 64 bits, or none.
+#[inline(always)]
+pub(crate) fn combine_part<
+    H: Combining,
+    R: BitRegister,
+    O: BitOrder<R>,
+    Q: BitRegister,
+    P: BitOrder<Q>,
+>(words: &mut [R], place: usize, others: &[Q], other_place: usize, count: usize)
+    requires few { count ≤ 64 }
+    requires lies { Lies R.BITS words.old place count }
+    requires other_lies { Lies Q.BITS others.now other_place count }
+    ensures { Combines (read_by R.BitRegister O.position) words.old words.new place count
+        (combined_bit H.HOW) (read_by Q.BitRegister P.position) others.now other_place }
+{
+    if count > 0 {
+        combine_rest::<H, R, O, Q, P>(words, place, others, other_place, count);
+    }
+}
 
 // How many bits go before whole chunks: of many those before the next word, or half of one of 128 bits, so that each chunk
 // of the first memory lies in as few words as it can.
@@ -99,14 +116,14 @@ fn before_chunks<R: BitRegister>(place: usize, len: usize) -> usize
     ensures few { result ≤ 64 }
     ensures within { result ≤ len }
 {
-    if len < MANY {
+    if len < FROM_BORDER {
         return 0;
     }
     let bits = bits_of::<R>().min(64);
     (bits - place % bits) % bits
 }
 
-/// Combines each of `len` bits with one of another memory; by `Taken` it is a copy.
+/// Combines each of `len` bits with one of another memory, and returns how many; by `CopyOp` it is a copy.
 #[inline(always)]
 pub fn combine<H: Combining, R: BitRegister, O: BitOrder<R>, Q: BitRegister, P: BitOrder<Q>>(
     words: &mut [R],
@@ -114,70 +131,26 @@ pub fn combine<H: Combining, R: BitRegister, O: BitOrder<R>, Q: BitRegister, P: 
     others: &[Q],
     other_place: usize,
     len: usize,
-)
+) -> usize
     requires lies { Lies R.BITS words.old place len }
     requires other_lies { Lies Q.BITS others.now other_place len }
-    ensures { Combines (read_by R.BitRegister O.position) words.old words.new place len
+    ensures combined { Combines (read_by R.BitRegister O.position) words.old words.new place len
         (combined_bit H.HOW) (read_by Q.BitRegister P.position) others.now other_place }
+    ensures all { result ≡ len }
 {
     if let Some(fit) = fit_of::<R, O, Q, P>(place, other_place, len) {
-        two_memories::combine::<H, R, O, Q, P>(fit, words, place, others, other_place, len);
-        return;
+        return two_memories::combine::<H, R, O, Q, P>(fit, words, place, others, other_place, len);
     }
-    combine_by_blocks::<H, R, O, Q, P>(words, place, others, other_place, len);
-}
-
-// `combine`, block by block.
-#[inline(always)]
-fn combine_by_blocks<H: Combining, R: BitRegister, O: BitOrder<R>, Q: BitRegister, P: BitOrder<Q>>(
-    words: &mut [R],
-    place: usize,
-    others: &[Q],
-    other_place: usize,
-    len: usize,
-)
-    requires lies { Lies R.BITS words.old place len }
-    requires other_lies { Lies Q.BITS others.now other_place len }
-    ensures { Combines (read_by R.BitRegister O.position) words.old words.new place len
-        (combined_bit H.HOW) (read_by Q.BitRegister P.position) others.now other_place }
-{
-    let first = before_chunks::<R>(place, len);
-    if first > 0 {
-        combine_rest::<H, R, O, Q, P>(words, place, others, other_place, first);
-    }
-    combine_chunks::<H, R, O, Q, P>(
-        words,
-        place + first,
-        others,
-        other_place + first,
-        len - first,
-    );
-}
-
-// The same, whole chunks and the rest.
-#[inline(always)]
-fn combine_chunks<H: Combining, R: BitRegister, O: BitOrder<R>, Q: BitRegister, P: BitOrder<Q>>(
-    words: &mut [R],
-    place: usize,
-    others: &[Q],
-    other_place: usize,
-    len: usize,
-)
-    requires lies { Lies R.BITS words.old place len }
-    requires other_lies { Lies Q.BITS others.now other_place len }
-    ensures { Combines (read_by R.BitRegister O.position) words.old words.new place len
-        (combined_bit H.HOW) (read_by Q.BitRegister P.position) others.now other_place }
-{
-    let whole = len / 64;
-    let rest = len % 64;
-    for k in 0..whole {
-        let done = 64 * k;
+    let before = before_chunks::<R>(place, len);
+    combine_part::<H, R, O, Q, P>(words, place, others, other_place, before);
+    let mut done = before;
+    for _k in 0..(len - before) / 64 {
         combine_whole::<H, R, O, Q, P>(words, place + done, others, other_place + done);
+        done += 64;
     }
-    if rest > 0 {
-        let done = 64 * whole;
-        combine_rest::<H, R, O, Q, P>(words, place + done, others, other_place + done, rest);
-    }
+    let rest = len - done;
+    combine_part::<H, R, O, Q, P>(words, place + done, others, other_place + done, rest);
+    done + rest
 }
 
 // The first of the 64 bits behind `64 * k` others that differs: 64 if none does.
@@ -258,7 +231,7 @@ pub fn mismatch<R: BitRegister, O: BitOrder<R>, Q: BitRegister, P: BitOrder<Q>>(
     ensures most { result.seen ≤ len }
     ensures some { result.done < len → 0 < result.seen }
 {
-    if len < 2 * NEAR {
+    if len < 2 * NEAR_BITS {
         return mismatch_by_blocks::<R, O, Q, P>(words, place, others, other_place, len);
     }
     mismatch_of_many::<R, O, Q, P>(words, place, others, other_place, len)
@@ -283,11 +256,11 @@ fn mismatch_of_many<R: BitRegister, O: BitOrder<R>, Q: BitRegister, P: BitOrder<
     ensures most { result.seen ≤ len }
     ensures some { result.done < len → 0 < result.seen }
 {
-    let near = mismatch_by_blocks::<R, O, Q, P>(words, place, others, other_place, NEAR);
-    if near.done < NEAR {
+    let near = mismatch_by_blocks::<R, O, Q, P>(words, place, others, other_place, NEAR_BITS);
+    if near.done < NEAR_BITS {
         return near;
     }
-    let (at, other_at, left) = (place + NEAR, other_place + NEAR, len - NEAR);
+    let (at, other_at, left) = (place + NEAR_BITS, other_place + NEAR_BITS, len - NEAR_BITS);
     let known = known_same::<R, O, Q, P>(words, at, others, other_at, left);
     let same = known.done;
     let rest = mismatch_by_blocks::<R, O, Q, P>(
@@ -298,8 +271,8 @@ fn mismatch_of_many<R: BitRegister, O: BitOrder<R>, Q: BitRegister, P: BitOrder<
         left - same,
     );
     Reached {
-        done: NEAR + (same + rest.done),
-        seen: NEAR + known.seen.max(same + rest.seen),
+        done: NEAR_BITS + (same + rest.done),
+        seen: NEAR_BITS + known.seen.max(same + rest.seen),
     }
 }
 

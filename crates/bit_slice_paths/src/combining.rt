@@ -13,9 +13,9 @@ pub trait Combining {
 }
 
 /// The other one: a copy.
-pub struct Taken;
+pub struct CopyOp;
 
-impl Combining for Taken {
+impl Combining for CopyOp {
     ghost use Rattle.bit_slice_chunks.specs.declared.combination.Combination.TheVariants.{Take};
 
     ghost HOW = { Take };
@@ -24,9 +24,9 @@ impl Combining for Taken {
 }
 
 /// A 1 where both are.
-pub struct Both;
+pub struct AndOp;
 
-impl Combining for Both {
+impl Combining for AndOp {
     ghost use Rattle.bit_slice_chunks.specs.declared.combination.Combination.TheVariants.{And};
 
     ghost HOW = { And };
@@ -35,9 +35,9 @@ impl Combining for Both {
 }
 
 /// A 1 where one of them is.
-pub struct Either;
+pub struct OrOp;
 
-impl Combining for Either {
+impl Combining for OrOp {
     ghost use Rattle.bit_slice_chunks.specs.declared.combination.Combination.TheVariants.{Or};
 
     ghost HOW = { Or };
@@ -46,9 +46,9 @@ impl Combining for Either {
 }
 
 /// A 1 where they differ.
-pub struct Differing;
+pub struct XorOp;
 
-impl Combining for Differing {
+impl Combining for XorOp {
     ghost use Rattle.bit_slice_chunks.specs.declared.combination.Combination.TheVariants.{Xor};
 
     ghost HOW = { Xor };

@@ -11,12 +11,10 @@ use crate::by_words::copy_over;
 use crate::exchange::exchange;
 use crate::steps::Steps;
 use bit_addressing_memory::{
-    BitOrder, BitRegister, Direction, Sweep, direction_of, move_in, way_for,
+    BitOrder, BitRegister, Direction, NARROW_WORD, ROTATED_BY_MOVES, Sweep, direction_of, move_in,
+    way_for,
 };
 use bit_slice_chunks::any_order::{read_bits, write_bits};
-
-// Words of fewer bits are narrow: a chunk has several of them.
-const WIDE: u8 = 32;
 
 // Moves bits to another place of the same memory. The two stretches may overlap.
 #[inline(always)]
@@ -31,7 +29,7 @@ fn move_bits<R: BitRegister, O: BitOrder<R>>(
     ensures { Copies (read_by R.BitRegister O.position) words.old words.new
         (read_by R.BitRegister O.position) words.old source target len }
 {
-    if R::BITS < WIDE {
+    if R::BITS < NARROW_WORD {
         move_narrow::<R, O>(words, source, target, len);
         return;
     }
@@ -109,9 +107,6 @@ fn hold_last<R: BitRegister, O: BitOrder<R>>(
 // How many bits are held aside at most.
 const HELD: usize = 64;
 
-// Up to how many bits of the shorter part go by moves alone: of more, exchanges take less time.
-const MOVED: usize = 256;
-
 // Whether the shorter of two parts of a rotation is exchanged. Else all bits are moved, once for each 64 that it has, which
 // takes less time where the other is over twice as long.
 #[inline(always)]
@@ -121,7 +116,7 @@ fn are_exchanged(left: usize, right: usize) -> bool
 {
     let few = left.min(right);
     let many = left.max(right);
-    few > MOVED || few > HELD && many <= 2 * few
+    few > ROTATED_BY_MOVES || few > HELD && many <= 2 * few
 }
 
 // Moves each of `len` bits towards the first of them; those that leave become the last.

@@ -9,25 +9,17 @@ ghost use Rattle.bit_slice_paths.specs.Fits.{IsFit};
 ghost use Rattle.bit_slice_paths.specs.declared.two_memories.Fit.{Fit};
 ghost use Rattle.bit_slice_paths.specs.declared.two_memories.Fit.TheVariants.{Level};
 
-use crate::across::{combine_rest, difference_of_part};
+use crate::across::{combine_part, difference_of_part};
 use crate::combining::Combining;
 use crate::match_words::{match_joined, match_words};
 use crate::merge::{merge_joined, merge_words};
 use crate::walk::{Reached, Stretch, walk};
 use crate::word_source::{Aligned, are_alike};
 use bit_addressing_memory::mem::bits_of;
-use bit_addressing_memory::{BitOrder, BitRegister, Direction, direction_of};
+use bit_addressing_memory::{
+    BitOrder, BitRegister, Direction, JOINED_WORDS, WHOLE_WORDS, direction_of,
+};
 use std::marker::PhantomData;
-
-// From how many bits on whole words are quicker than blocks of 64 bits, if they are taken as they are, and if each is joined
-// of two.
-const MANY_LEVEL: usize = 256;
-
-const MANY_SHIFTED: usize = 768;
-
-/// How many bits of two memories are compared block by block before whole words are, a round at a time: memories that
-/// differ mostly do so early, and then a round costs more than it saves.
-pub const NEAR: usize = 8_192;
 
 /// How the words of another memory are found for those of the first.
 #[derive(Clone, Copy, PartialEq, Eq, Debug)]
@@ -50,14 +42,14 @@ pub fn fit_of<R: BitRegister, O: BitOrder<R>, Q: BitRegister, P: BitOrder<Q>>(
         → IsFit R.BITS O.position Q.BITS P.position place other_place fit }
     ensures many { (fit : Fit) → result ≡ Some fit → 64 ≤ len }
 {
-    if len < MANY_LEVEL || R::BITS > 64 || !are_alike::<R, O, Q, P>() {
+    if len < WHOLE_WORDS || R::BITS > 64 || !are_alike::<R, O, Q, P>() {
         return None;
     }
     let bits = bits_of::<R>();
     if place % bits == other_place % bits {
         return Some(Fit::Level);
     }
-    if len < MANY_SHIFTED {
+    if len < JOINED_WORDS {
         return None;
     }
     match direction_of::<Q, P>() {
@@ -142,15 +134,13 @@ impl<'a, 'b, H: Combining, R: BitRegister, O: BitOrder<R>, Q: BitRegister, P: Bi
 
     #[inline(always)]
     fn part(&mut self, done: usize, count: usize) -> bool {
-        if count > 0 {
-            combine_rest::<H, R, O, Q, P>(
-                self.words,
-                self.place + done,
-                self.others,
-                self.other_place + done,
-                count,
-            );
-        }
+        combine_part::<H, R, O, Q, P>(
+            self.words,
+            self.place + done,
+            self.others,
+            self.other_place + done,
+            count,
+        );
         true
     }
 

@@ -4,7 +4,7 @@ ghost use Rattle.std.specs.Prelude.{◌≡◌, ℕ, ◌+◌, ◌*◌, ◌/◌, �
 
 use crate::match_words::ROUND;
 use bit_addressing_memory::mem::bits_of;
-use bit_addressing_memory::{BitOrder, BitRegister};
+use bit_addressing_memory::{BitOrder, BitRegister, bits_to_next_word};
 
 /// Bits on which something is done, part by part.
 pub trait Stretch<R: BitRegister, O: BitOrder<R>> {
@@ -57,17 +57,6 @@ pub struct Reached {
     pub seen: usize,
 }
 
-/// How many bits lie before the next word: none if one begins at the place.
-#[inline(always)]
-fn to_border<R: BitRegister>(place: usize) -> usize
-    ensures few { result < R.BITS }
-    ensures whole { (place + result) / R.BITS * R.BITS ≡ place + result }
-{
-    let bits = bits_of::<R>();
-    let index = place % bits;
-    if index == 0 { 0 } else { bits - index }
-}
-
 /// Goes over all bits of a stretch, 64 or more, until it stops.
 #[inline(always)]
 pub fn walk<R: BitRegister, O: BitOrder<R>, K: Stretch<R, O>>(
@@ -84,7 +73,7 @@ pub fn walk<R: BitRegister, O: BitOrder<R>, K: Stretch<R, O>>(
     ensures stopped { result.done < len → K.IsStopped stretch.old }
 {
     let bits = bits_of::<R>();
-    let head = to_border::<R>(stretch.place());
+    let head = bits_to_next_word::<R>(stretch.place());
     if !stretch.part(0, head) {
         return Reached {
             done: 0,

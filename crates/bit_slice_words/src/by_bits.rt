@@ -14,7 +14,7 @@ use crate::combine::combined;
 use bit_addressing_memory::{
     BitOrder, BitRegister, BulkOp, bit_loop_limit, read_entry, write_entry,
 };
-use bit_slice_paths::combining::{Both, Combining, Differing, Either, Taken};
+use bit_slice_paths::combining::{AndOp, Combining, CopyOp, OrOp, XorOp};
 use bit_slice_paths::{Steps, across};
 
 // How many bits are worked on at once, at most.
@@ -115,7 +115,7 @@ pub fn copy<R: BitRegister, O: BitOrder<R>>(
         (read_by R.BitRegister O.position) others.now other_place place len }
     ensures steps { Takes steps.old steps.new (groups len 64) (groups len 1) }
 {
-    combine::<Taken, R, O>(words, place, others, other_place, len, steps);
+    combine::<CopyOp, R, O>(words, place, others, other_place, len, steps);
 }
 
 /// `WordPaths::swap`, in one step a bit.
@@ -197,7 +197,7 @@ pub fn and<R: BitRegister, O: BitOrder<R>>(
         && entry (read_by R.BitRegister O.position) others.now (other_place + k)) }
     ensures steps { Takes steps.old steps.new (groups len 64) (groups len 1) }
 {
-    combine::<Both, R, O>(words, place, others, other_place, len, steps);
+    combine::<AndOp, R, O>(words, place, others, other_place, len, steps);
 }
 
 /// `WordPaths::or`, in at most one step a bit.
@@ -218,7 +218,7 @@ pub fn or<R: BitRegister, O: BitOrder<R>>(
         || entry (read_by R.BitRegister O.position) others.now (other_place + k)) }
     ensures steps { Takes steps.old steps.new (groups len 64) (groups len 1) }
 {
-    combine::<Either, R, O>(words, place, others, other_place, len, steps);
+    combine::<OrOp, R, O>(words, place, others, other_place, len, steps);
 }
 
 /// `WordPaths::xor`, in at most one step a bit.
@@ -239,7 +239,7 @@ pub fn xor<R: BitRegister, O: BitOrder<R>>(
         (entry (read_by R.BitRegister O.position) others.now (other_place + k))) }
     ensures steps { Takes steps.old steps.new (groups len 64) (groups len 1) }
 {
-    combine::<Differing, R, O>(words, place, others, other_place, len, steps);
+    combine::<XorOp, R, O>(words, place, others, other_place, len, steps);
 }
 
 // Makes each of `len` bits what a combination makes of it and of one of another memory.

@@ -9,7 +9,7 @@ ghost use Rattle.bit_slice_paths.specs.Combined.{combined_bit, Combines};
 use bit_addressing_memory::{
     BitOrder, BitRegister, BulkOp, bit_loop_limit_of_two, read_entry, write_entry,
 };
-use bit_slice_paths::combining::{Both, Combining, Differing, Either};
+use bit_slice_paths::combining::{AndOp, Combining, OrOp, XorOp};
 use bit_slice_paths::{Combination, across};
 
 // The bit that two make.
@@ -102,7 +102,7 @@ pub fn and_in<R: BitRegister, O: BitOrder<R>, Q: BitRegister, P: BitOrder<Q>>(
         (λ k. entry (read_by R.BitRegister O.position) words.old (place + k)
         && entry (read_by Q.BitRegister P.position) others.now (other_place + k)) }
 {
-    combine_in::<Both, R, O, Q, P>(words, place, others, other_place, len);
+    combine_in::<AndOp, R, O, Q, P>(words, place, others, other_place, len);
 }
 
 /// Sets each of `len` bits of a memory, from `place` on, where the memory `others` has a one, from `other_place`
@@ -123,7 +123,7 @@ pub fn or_in<R: BitRegister, O: BitOrder<R>, Q: BitRegister, P: BitOrder<Q>>(
         (λ k. entry (read_by R.BitRegister O.position) words.old (place + k)
         || entry (read_by Q.BitRegister P.position) others.now (other_place + k)) }
 {
-    combine_in::<Either, R, O, Q, P>(words, place, others, other_place, len);
+    combine_in::<OrOp, R, O, Q, P>(words, place, others, other_place, len);
 }
 
 /// Flips each of `len` bits of a memory, from `place` on, where the memory `others` has a one, from
@@ -144,5 +144,5 @@ pub fn xor_in<R: BitRegister, O: BitOrder<R>, Q: BitRegister, P: BitOrder<Q>>(
         (λ k. xor (entry (read_by R.BitRegister O.position) words.old (place + k))
         (entry (read_by Q.BitRegister P.position) others.now (other_place + k))) }
 {
-    combine_in::<Differing, R, O, Q, P>(words, place, others, other_place, len);
+    combine_in::<XorOp, R, O, Q, P>(words, place, others, other_place, len);
 }

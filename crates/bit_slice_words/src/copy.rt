@@ -5,7 +5,7 @@ ghost use Rattle.bit_addressing_memory.specs.Memory.{read_by, Copies};
 
 use crate::combine::combine_in;
 use bit_addressing_memory::{BitOrder, BitRegister};
-use bit_slice_paths::combining::Taken;
+use bit_slice_paths::combining::CopyOp;
 
 /// Copies `len` bits of the memory `from`, those from `source` on, to the places from `target` on of the memory
 /// `words`. Both stretches lie in their memories, and their ends fit a `usize`; the two may have different words and
@@ -27,5 +27,5 @@ pub fn copy_in<Q: BitRegister, P: BitOrder<Q>, R: BitRegister, O: BitOrder<R>>(
     ensures copied { Copies (read_by R.BitRegister O.position) words.old words.new
         (read_by Q.BitRegister P.position) from.now source target len }
 {
-    combine_in::<Taken, R, O, Q, P>(words, target, from, source, len);
+    combine_in::<CopyOp, R, O, Q, P>(words, target, from, source, len);
 }

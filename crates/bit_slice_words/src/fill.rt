@@ -6,7 +6,7 @@ ghost use Rattle.bit_addressing_memory.specs.Memory.{read_by, touched, Overwrite
 
 use crate::change::change_in;
 use bit_addressing_memory::{BitOrder, BitRegister};
-use bit_slice_paths::combining::Taken;
+use bit_slice_paths::combining::CopyOp;
 
 /// Makes `len` bits of a memory, those from `place` on, `bit`. They lie in the memory, and `place + len` fits a
 /// `usize`. Every other bit of the memory stays, also in the words that hold the first and the last of them.
@@ -30,5 +30,5 @@ pub fn fill_counted<R: BitRegister, O: BitOrder<R>>(
     ensures filled { Overwrites (read_by R.BitRegister O.position) words.old words.new place len (λ _. bit) }
     ensures writes { result ≡ touched R.BITS place len }
 {
-    change_in::<Taken, R, O>(words, place, len, bit)
+    change_in::<CopyOp, R, O>(words, place, len, bit)
 }

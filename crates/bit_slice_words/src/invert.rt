@@ -6,7 +6,7 @@ ghost use Rattle.bit_addressing_memory.specs.Memory.{entry, read_by, Overwrites}
 
 use crate::change::change_in;
 use bit_addressing_memory::{BitOrder, BitRegister};
-use bit_slice_paths::combining::Differing;
+use bit_slice_paths::combining::XorOp;
 
 /// Flips `len` bits of a memory, those from `place` on. They lie in the memory, and `place + len` fits a
 /// `usize`. Every other bit of the memory stays.
@@ -17,5 +17,5 @@ pub fn not_in<R: BitRegister, O: BitOrder<R>>(words: &mut [R], place: usize, len
     ensures flipped { Overwrites (read_by R.BitRegister O.position) words.old words.new place len
         (λ k. not (entry (read_by R.BitRegister O.position) words.old (place + k))) }
 {
-    change_in::<Differing, R, O>(words, place, len, true);
+    change_in::<XorOp, R, O>(words, place, len, true);
 }

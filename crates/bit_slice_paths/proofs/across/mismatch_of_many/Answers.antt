@@ -15,7 +15,7 @@ returns-clause-agrees g c =
     let left = c.args.len - 8192 in
     agrees_more reading its words others c.args.place c.args.other_place 8192 left c.args.len (same + rest.result.done)
     (omega arith) (λ low. omega arith)
-    (λ k small. c.mismatch_by_blocks-near.ensures.agrees.same k (omega (arith, c.if-near-lt-NEAR.false)))
+    (λ k small. c.mismatch_by_blocks-near.ensures.agrees.same k (omega (arith, c.if-near-lt-NEAR_BITS.false)))
     (agrees_more reading its words others (c.args.place + 8192) (c.args.other_place + 8192) same (left - same) left
     rest.result.done (omega (arith, known.ensures.order, known.ensures.most)) (λ low. omega arith) known.ensures.same
     rest.ensures.agrees)

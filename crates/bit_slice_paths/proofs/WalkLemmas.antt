@@ -31,13 +31,6 @@ combines_chunk reading its before after others place n other_place how direction
 
 -- ---- chunk after chunk
 
-pub combines_none : {R Q : Type 0} (reading : Reading R) (its : Reading Q) (words : List R) (others : List Q)
-    (place other_place : ℕ) (how : Bool → Bool → Bool)
-    → Combines reading words words place (64 * 0) how its others other_place
-combines_none reading its words others place other_place how =
-    write_none reading words place (64 * 0)
-    (λ k. how (entry reading words (place + k)) (entry its others (other_place + k))) (omega arith)
-
 pub combines_more : {R Q : Type 0} (reading : Reading R) (its : Reading Q) (before mid after : List R)
     (others : List Q) (place other_place n m all : ℕ) (how : Bool → Bool → Bool) → all ≡ n + m
     → Combines reading before mid place n how its others other_place
@@ -65,11 +58,6 @@ pub copies_chunk : {R Q : Type 0} (reading : Reading R) (its : Reading Q) (befor
 copies_chunk reading its before after others place n other_place direction other theirs wrote =
     stores_as reading before after place n (chunk_bit direction other)
     (λ k. entry its others (other_place + k)) wrote (λ i low. theirs.inside i low)
-
-pub copied_none : {R Q : Type 0} (reading : Reading R) (its : Reading Q) (words : List R) (others : List Q)
-    (place other_place : ℕ) → Copies reading words words its others other_place place (64 * 0)
-copied_none reading its words others place other_place =
-    write_none reading words place (64 * 0) (λ k. entry its others (other_place + k)) (omega arith)
 
 -- one more, of a memory whose bits there are still as they were
 pub copied_more : {R Q : Type 0} (reading : Reading R) (its : Reading Q) (before mid after : List R)

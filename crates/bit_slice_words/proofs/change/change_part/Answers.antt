@@ -1,4 +1,4 @@
-use Rattle.std.proofs.Common.{◌≡◌, ◌+◌, ◌-◌, ◌*◌, ◌≤◌, ap, ap₂, refl, arith}
+use Rattle.std.proofs.Common.{◌≡◌, ◌+◌, ◌-◌, ◌*◌, ◌≤◌, Bool, ap, ap₂, refl, arith}
 use Rattle.bit_addressing_memory.specs.Memory.{read_by}
 use Rattle.bit_slice_paths.specs.Combined.{combined_bit}
 use Rattle.bit_slice_words.proofs.ChangeLemmas.{changes_as, changes_part}
@@ -13,7 +13,7 @@ returns g c =
     let tail = c.new_unchecked-tail.result in
     let is_head : head ≡ c.args.from = c.new_unchecked-head.ensures in
     let is_tail : tail ≡ c.args.upto = c.new_unchecked-tail.ensures in
-    let on = (λ b. combined_bit g.H.Combining.HOW b c.args.bit) in
+    let on : Bool → Bool = (λ b. combined_bit g.H.Combining.HOW b c.args.bit) in
     let inside : head + (tail - head) ≤ reading.bits = omega (arith, c.requires.order, c.requires.within) in
     changes_as reading before after (c.args.at * reading.bits + head) (tail - head) _ _ on
     (ap (λ h. c.args.at * reading.bits + h) is_head) (ap₂ (λ t h. t - h) is_tail is_head)

@@ -70,13 +70,13 @@ fn combine_whole<H: Combining, R: BitRegister, O: BitOrder<R>, Q: BitRegister, P
 
 // Combines up to 64 bits.
 #[inline(never)]
-pub(crate) fn combine_rest<
-    H: Combining,
-    R: BitRegister,
-    O: BitOrder<R>,
-    Q: BitRegister,
-    P: BitOrder<Q>,
->(words: &mut [R], place: usize, others: &[Q], other_place: usize, count: usize)
+fn combine_rest<H: Combining, R: BitRegister, O: BitOrder<R>, Q: BitRegister, P: BitOrder<Q>>(
+    words: &mut [R],
+    place: usize,
+    others: &[Q],
+    other_place: usize,
+    count: usize,
+)
     requires some { 0 < count }
     requires few { count ≤ 64 }
     requires lies { Lies R.BITS words.old place count }
@@ -87,6 +87,26 @@ pub(crate) fn combine_rest<
     let direction = direction_for::<R, O>();
     let other = read_bits::<Q, P>(direction, others, other_place, count);
     combine_bits::<R, O>(direction, H::HOW, words, place, count, other);
+}
+
+// Combines up to 64 bits, or none.
+#[inline(always)]
+pub(crate) fn combine_part<
+    H: Combining,
+    R: BitRegister,
+    O: BitOrder<R>,
+    Q: BitRegister,
+    P: BitOrder<Q>,
+>(words: &mut [R], place: usize, others: &[Q], other_place: usize, count: usize)
+    requires few { count ≤ 64 }
+    requires lies { Lies R.BITS words.old place count }
+    requires other_lies { Lies Q.BITS others.now other_place count }
+    ensures { Combines (read_by R.BitRegister O.position) words.old words.new place count
+        (combined_bit H.HOW) (read_by Q.BitRegister P.position) others.now other_place }
+{
+    if count > 0 {
+        combine_rest::<H, R, O, Q, P>(words, place, others, other_place, count);
+    }
 }
 
 // From how many bits on a walk begins with those before the next word.
@@ -106,7 +126,7 @@ fn before_chunks<R: BitRegister>(place: usize, len: usize) -> usize
     (bits - place % bits) % bits
 }
 
-/// Combines each of `len` bits with one of another memory; by `Taken` it is a copy.
+/// Combines each of `len` bits with one of another memory, and returns how many; by `Taken` it is a copy.
 #[inline(always)]
 pub fn combine<H: Combining, R: BitRegister, O: BitOrder<R>, Q: BitRegister, P: BitOrder<Q>>(
     words: &mut [R],
@@ -114,70 +134,26 @@ pub fn combine<H: Combining, R: BitRegister, O: BitOrder<R>, Q: BitRegister, P: 
     others: &[Q],
     other_place: usize,
     len: usize,
-)
+) -> usize
     requires lies { Lies R.BITS words.old place len }
     requires other_lies { Lies Q.BITS others.now other_place len }
-    ensures { Combines (read_by R.BitRegister O.position) words.old words.new place len
+    ensures combined { Combines (read_by R.BitRegister O.position) words.old words.new place len
         (combined_bit H.HOW) (read_by Q.BitRegister P.position) others.now other_place }
+    ensures all { result ≡ len }
 {
     if let Some(fit) = fit_of::<R, O, Q, P>(place, other_place, len) {
-        two_memories::combine::<H, R, O, Q, P>(fit, words, place, others, other_place, len);
-        return;
+        return two_memories::combine::<H, R, O, Q, P>(fit, words, place, others, other_place, len);
     }
-    combine_by_blocks::<H, R, O, Q, P>(words, place, others, other_place, len);
-}
-
-// `combine`, block by block.
-#[inline(always)]
-fn combine_by_blocks<H: Combining, R: BitRegister, O: BitOrder<R>, Q: BitRegister, P: BitOrder<Q>>(
-    words: &mut [R],
-    place: usize,
-    others: &[Q],
-    other_place: usize,
-    len: usize,
-)
-    requires lies { Lies R.BITS words.old place len }
-    requires other_lies { Lies Q.BITS others.now other_place len }
-    ensures { Combines (read_by R.BitRegister O.position) words.old words.new place len
-        (combined_bit H.HOW) (read_by Q.BitRegister P.position) others.now other_place }
-{
-    let first = before_chunks::<R>(place, len);
-    if first > 0 {
-        combine_rest::<H, R, O, Q, P>(words, place, others, other_place, first);
-    }
-    combine_chunks::<H, R, O, Q, P>(
-        words,
-        place + first,
-        others,
-        other_place + first,
-        len - first,
-    );
-}
-
-// The same, whole chunks and the rest.
-#[inline(always)]
-fn combine_chunks<H: Combining, R: BitRegister, O: BitOrder<R>, Q: BitRegister, P: BitOrder<Q>>(
-    words: &mut [R],
-    place: usize,
-    others: &[Q],
-    other_place: usize,
-    len: usize,
-)
-    requires lies { Lies R.BITS words.old place len }
-    requires other_lies { Lies Q.BITS others.now other_place len }
-    ensures { Combines (read_by R.BitRegister O.position) words.old words.new place len
-        (combined_bit H.HOW) (read_by Q.BitRegister P.position) others.now other_place }
-{
-    let whole = len / 64;
-    let rest = len % 64;
-    for k in 0..whole {
-        let done = 64 * k;
+    let before = before_chunks::<R>(place, len);
+    combine_part::<H, R, O, Q, P>(words, place, others, other_place, before);
+    let mut done = before;
+    for _k in 0..(len - before) / 64 {
         combine_whole::<H, R, O, Q, P>(words, place + done, others, other_place + done);
+        done += 64;
     }
-    if rest > 0 {
-        let done = 64 * whole;
-        combine_rest::<H, R, O, Q, P>(words, place + done, others, other_place + done, rest);
-    }
+    let rest = len - done;
+    combine_part::<H, R, O, Q, P>(words, place + done, others, other_place + done, rest);
+    done + rest
 }
 
 // The first of the 64 bits behind `64 * k` others that differs: 64 if none does.

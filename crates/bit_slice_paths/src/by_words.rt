@@ -16,60 +16,13 @@ ghost use Rattle.bit_slice_paths.specs.Steps.{groups, Takes};
 use crate::across;
 use crate::combining::Combining;
 use crate::steps::Steps;
-use crate::two_memories::{self, fit_of};
 use bit_addressing_memory::{BitOrder, BitRegister, Direction};
-use bit_slice_chunks::{
-    Combination, combine_bits, combine_chunk, read_bits, read_chunk, write_bits, write_chunk,
-};
+use bit_slice_chunks::{read_bits, read_chunk, write_bits, write_chunk};
 use std::mem;
-
-// Combines 64 bits.
-#[inline(always)]
-fn combine_whole<R: BitRegister, O: BitOrder<R>>(
-    direction: Direction,
-    how: Combination,
-    words: &mut [R],
-    place: usize,
-    others: &[R],
-    other_place: usize,
-)
-    requires goes { Goes R.BITS O.position direction }
-    requires lies { Lies R.BITS words.old place 64 }
-    requires other_lies { Lies R.BITS others.now other_place 64 }
-    ensures { Combines (read_by R.BitRegister O.position) words.old words.new place 64
-        (combined_bit how) (read_by R.BitRegister O.position) others.now other_place }
-{
-    let other = read_chunk::<R, O>(direction, others, other_place);
-    combine_chunk::<R, O>(direction, how, words, place, other);
-}
-
-// Combines up to 64 bits.
-#[inline(never)]
-fn combine_rest<R: BitRegister, O: BitOrder<R>>(
-    direction: Direction,
-    how: Combination,
-    words: &mut [R],
-    place: usize,
-    others: &[R],
-    other_place: usize,
-    count: usize,
-)
-    requires goes { Goes R.BITS O.position direction }
-    requires some { 0 < count }
-    requires few { count ≤ 64 }
-    requires lies { Lies R.BITS words.old place count }
-    requires other_lies { Lies R.BITS others.now other_place count }
-    ensures { Combines (read_by R.BitRegister O.position) words.old words.new place count
-        (combined_bit how) (read_by R.BitRegister O.position) others.now other_place }
-{
-    let other = read_bits::<R, O>(direction, others, other_place, count);
-    combine_bits::<R, O>(direction, how, words, place, count, other);
-}
 
 /// Combines each of `len` bits with one of another memory, a step for each 64.
 #[inline(always)]
 pub fn combine<H: Combining, R: BitRegister, O: BitOrder<R>>(
-    direction: Direction,
     words: &mut [R],
     place: usize,
     others: &[R],
@@ -77,86 +30,14 @@ pub fn combine<H: Combining, R: BitRegister, O: BitOrder<R>>(
     len: usize,
     steps: &mut Steps,
 )
-    requires goes { Goes R.BITS O.position direction }
     requires lies { Lies R.BITS words.old place len }
     requires other_lies { Lies R.BITS others.now other_place len }
     ensures combined { Combines (read_by R.BitRegister O.position) words.old words.new place len
         (combined_bit H.HOW) (read_by R.BitRegister O.position) others.now other_place }
     ensures steps { Takes steps.old steps.new (groups len 64) (groups len 64) }
 {
-    if let Some(fit) = fit_of::<R, O, R, O>(place, other_place, len) {
-        let bits = two_memories::combine::<H, R, O, R, O>(
-            fit,
-            words,
-            place,
-            others,
-            other_place,
-            len,
-        );
-        steps.bits(bits);
-        return;
-    }
-    let counted = mem::replace(steps, Steps::new());
-    *steps = combine_counted::<R, O>(
-        direction,
-        H::HOW,
-        words,
-        place,
-        others,
-        other_place,
-        len,
-        counted,
-    );
-}
-
-// `combine`, with a count that is handed in and back, so that the loop keeps it in a register.
-#[inline(always)]
-fn combine_counted<R: BitRegister, O: BitOrder<R>>(
-    direction: Direction,
-    how: Combination,
-    words: &mut [R],
-    place: usize,
-    others: &[R],
-    other_place: usize,
-    len: usize,
-    counted: Steps,
-) -> Steps
-    requires goes { Goes R.BITS O.position direction }
-    requires lies { Lies R.BITS words.old place len }
-    requires other_lies { Lies R.BITS others.now other_place len }
-    ensures combined { Combines (read_by R.BitRegister O.position) words.old words.new place len
-        (combined_bit how) (read_by R.BitRegister O.position) others.now other_place }
-    ensures steps { Takes counted result (groups len 64) (groups len 64) }
-{
-    let mut steps = counted;
-    let whole = len / 64;
-    let rest = len % 64;
-    for k in 0..whole {
-        let done = 64 * k;
-        combine_whole::<R, O>(
-            direction,
-            how,
-            words,
-            place + done,
-            others,
-            other_place + done,
-        );
-        steps.step();
-    }
-    if rest > 0 {
-        let done = 64 * whole;
-        combine_rest::<R, O>(
-            direction,
-            how,
-            words,
-            place + done,
-            others,
-            other_place + done,
-            rest,
-        );
-        steps.step();
-    }
-    steps
+    let done = across::combine::<H, R, O, R, O>(words, place, others, other_place, len);
+    steps.bits(done);
 }
 
 // Copies up to 64 bits to another place of the same memory.

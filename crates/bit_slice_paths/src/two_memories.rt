@@ -9,7 +9,7 @@ ghost use Rattle.bit_slice_paths.specs.Fits.{IsFit};
 ghost use Rattle.bit_slice_paths.specs.declared.two_memories.Fit.{Fit};
 ghost use Rattle.bit_slice_paths.specs.declared.two_memories.Fit.TheVariants.{Level};
 
-use crate::across::{combine_rest, difference_of_part};
+use crate::across::{combine_part, difference_of_part};
 use crate::combining::Combining;
 use crate::match_words::{match_joined, match_words};
 use crate::merge::{merge_joined, merge_words};
@@ -142,15 +142,13 @@ impl<'a, 'b, H: Combining, R: BitRegister, O: BitOrder<R>, Q: BitRegister, P: Bi
 
     #[inline(always)]
     fn part(&mut self, done: usize, count: usize) -> bool {
-        if count > 0 {
-            combine_rest::<H, R, O, Q, P>(
-                self.words,
-                self.place + done,
-                self.others,
-                self.other_place + done,
-                count,
-            );
-        }
+        combine_part::<H, R, O, Q, P>(
+            self.words,
+            self.place + done,
+            self.others,
+            self.other_place + done,
+            count,
+        );
         true
     }
 

@@ -163,14 +163,7 @@ impl<R: BitRegister> WordPaths<R> for Lsb0 {
         len: usize,
         steps: &mut Steps,
     ) -> bool {
-        by_words::equal::<R, Lsb0>(
-            words,
-            place,
-            others,
-            other_place,
-            len,
-            steps,
-        )
+        by_words::equal::<R, Lsb0>(words, place, others, other_place, len, steps)
     }
 
     fn copy(
@@ -181,15 +174,7 @@ impl<R: BitRegister> WordPaths<R> for Lsb0 {
         len: usize,
         steps: &mut Steps,
     ) {
-        by_words::combine::<Taken, R, Lsb0>(
-            Direction::Ascending,
-            words,
-            place,
-            others,
-            other_place,
-            len,
-            steps,
-        );
+        by_words::combine::<Taken, R, Lsb0>(words, place, others, other_place, len, steps);
     }
 
     fn swap(
@@ -223,15 +208,7 @@ impl<R: BitRegister> WordPaths<R> for Lsb0 {
         len: usize,
         steps: &mut Steps,
     ) {
-        by_words::combine::<Both, R, Lsb0>(
-            Direction::Ascending,
-            words,
-            place,
-            others,
-            other_place,
-            len,
-            steps,
-        );
+        by_words::combine::<Both, R, Lsb0>(words, place, others, other_place, len, steps);
     }
 
     fn or(
@@ -242,15 +219,7 @@ impl<R: BitRegister> WordPaths<R> for Lsb0 {
         len: usize,
         steps: &mut Steps,
     ) {
-        by_words::combine::<Either, R, Lsb0>(
-            Direction::Ascending,
-            words,
-            place,
-            others,
-            other_place,
-            len,
-            steps,
-        );
+        by_words::combine::<Either, R, Lsb0>(words, place, others, other_place, len, steps);
     }
 
     fn xor(
@@ -261,15 +230,7 @@ impl<R: BitRegister> WordPaths<R> for Lsb0 {
         len: usize,
         steps: &mut Steps,
     ) {
-        by_words::combine::<Differing, R, Lsb0>(
-            Direction::Ascending,
-            words,
-            place,
-            others,
-            other_place,
-            len,
-            steps,
-        );
+        by_words::combine::<Differing, R, Lsb0>(words, place, others, other_place, len, steps);
     }
 
     ghost least_span = { span_of_64 };
@@ -292,14 +253,7 @@ impl<R: BitRegister> WordPaths<R> for Msb0 {
         len: usize,
         steps: &mut Steps,
     ) -> bool {
-        by_words::equal::<R, Msb0>(
-            words,
-            place,
-            others,
-            other_place,
-            len,
-            steps,
-        )
+        by_words::equal::<R, Msb0>(words, place, others, other_place, len, steps)
     }
 
     fn copy(
@@ -310,15 +264,7 @@ impl<R: BitRegister> WordPaths<R> for Msb0 {
         len: usize,
         steps: &mut Steps,
     ) {
-        by_words::combine::<Taken, R, Msb0>(
-            Direction::Descending,
-            words,
-            place,
-            others,
-            other_place,
-            len,
-            steps,
-        );
+        by_words::combine::<Taken, R, Msb0>(words, place, others, other_place, len, steps);
     }
 
     fn swap(
@@ -352,15 +298,7 @@ impl<R: BitRegister> WordPaths<R> for Msb0 {
         len: usize,
         steps: &mut Steps,
     ) {
-        by_words::combine::<Both, R, Msb0>(
-            Direction::Descending,
-            words,
-            place,
-            others,
-            other_place,
-            len,
-            steps,
-        );
+        by_words::combine::<Both, R, Msb0>(words, place, others, other_place, len, steps);
     }
 
     fn or(
@@ -371,15 +309,7 @@ impl<R: BitRegister> WordPaths<R> for Msb0 {
         len: usize,
         steps: &mut Steps,
     ) {
-        by_words::combine::<Either, R, Msb0>(
-            Direction::Descending,
-            words,
-            place,
-            others,
-            other_place,
-            len,
-            steps,
-        );
+        by_words::combine::<Either, R, Msb0>(words, place, others, other_place, len, steps);
     }
 
     fn xor(
@@ -390,15 +320,7 @@ impl<R: BitRegister> WordPaths<R> for Msb0 {
         len: usize,
         steps: &mut Steps,
     ) {
-        by_words::combine::<Differing, R, Msb0>(
-            Direction::Descending,
-            words,
-            place,
-            others,
-            other_place,
-            len,
-            steps,
-        );
+        by_words::combine::<Differing, R, Msb0>(words, place, others, other_place, len, steps);
     }
 
     ghost least_span = { span_of_64 };

@@ -18,6 +18,6 @@ loop-k-preserved g c =
       combined =
           combines_more reading reading c.args.words.now c.loop-k.words c.combine.new.words c.args.others.now c.args.place
           c.args.other_place done count (min (64 * (c.loop-k.k + 1)) all) (combined_bit g.H.Combining.HOW) sum
-          (rw low at c.loop-k.invariant.combined) c.combine.ensures;
+          (rw low at c.loop-k.invariant.combined) c.combine.ensures.combined;
       steps = takes_more _ _ _ c.loop-k.k c.step.ensures c.loop-k.invariant.steps;
     }

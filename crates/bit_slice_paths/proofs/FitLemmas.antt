@@ -73,6 +73,8 @@ pub next_lies : (b bits place n words : ℕ) → bits ≡ b → 0 < place % bits
 next_lies b bits place n words is some within =
     more_words (place / bits + n) words b (place % bits) some (omega (arith, first_word b bits place is))
 
+pub ruleset words_behind = (words_lie, next_lies)
+
 -- ---- one part more
 
 pub merged_more : {R Q : Type 0} (reading : Reading R) (how : Bool → Bool → Bool) (before mid after : List R)

@@ -60,6 +60,7 @@ pub fn fit_of<R: BitRegister, O: BitOrder<R>, Q: BitRegister, P: BitOrder<Q>>(
 
 // Whole words combined, from a place on at which a word begins.
 #[inline(always)]
+#[tactic(auto, using(crate::proofs::FitLemmas::words_behind))]
 fn merge_middle<H: Combining, R: BitRegister, O: BitOrder<R>, Q: BitRegister, P: BitOrder<Q>>(
     fit: Fit,
     words: &mut [R],
@@ -197,6 +198,7 @@ pub fn combine<H: Combining, R: BitRegister, O: BitOrder<R>, Q: BitRegister, P: 
 // Up to which whole words two memories are the same, from a place on at which a word begins: `n`, or the first word of a
 // round with a difference.
 #[inline(always)]
+#[tactic(auto, using(crate::proofs::FitLemmas::words_behind))]
 fn match_middle<R: BitRegister, O: BitOrder<R>, Q: BitRegister, P: BitOrder<Q>>(
     fit: Fit,
     words: &[R],

@@ -63,16 +63,43 @@ pub fn keep_rows<T: BitRegister, O: BitOrder<T>>(
     ensures way { way_of sweep.new ≡ way_of sweep.old }
     ensures lender { sweep_lender sweep.new ≡ sweep_lender sweep.old }
 {
-    let first = head.into_inner() as usize;
     let left = off.count_zeros();
-    if !keep_zeros::<T, O>(sweep, first, n, w, off, left) {
-        keep_runs::<T, O>(sweep, first, n, w, off);
-    }
+    keep_counted::<T, O>(sweep, head, n, w, off, left);
     left
 }
 
-// Keeps rows none of whose bits is 1, by zeros alone, where one knows that `left` of them stay. It returns false if a bit
-// is 1, and then it has written nothing.
+// The same, where one knows how many rows stay.
+#[inline(always)]
+fn keep_counted<T: BitRegister, O: BitOrder<T>>(
+    sweep: &mut Sweep<'_, T>,
+    head: BitIdx<T>,
+    n: usize,
+    w: usize,
+    off: BitSlice<'_, T, O>,
+    left: usize,
+)
+    requires fresh { IsFresh sweep.old Up }
+    requires flags { length (view_bits (read_by T.BitRegister O.position) off) ≡ n }
+    requires left { left ≡ count_by not (view_bits (read_by T.BitRegister O.position) off) }
+    requires within { head + n * w ≤ length (sweep_words sweep.old) * T.BITS }
+    requires ends { head + n * w < 2 ^ 64 }
+    ensures rows { KeepsRows (read_by T.BitRegister O.position) (sweep_words sweep.old) (sweep_words sweep.new)
+        head w (view_bits (read_by T.BitRegister O.position) off.entry) }
+    ensures writes { writes_of sweep.new ≡ touched T.BITS head (left * w) }
+    ensures changed { changed T.number (sweep_words sweep.old) (sweep_words sweep.new) ≤ writes_of sweep.new }
+    ensures way { way_of sweep.new ≡ way_of sweep.old }
+    ensures lender { sweep_lender sweep.new ≡ sweep_lender sweep.old }
+{
+    let first = head.into_inner() as usize;
+    let count = words_before::<T>(first + n * w);
+    if holds_no_one::<T, O>(sweep, count) {
+        keep_zeros::<T, O>(sweep, first, n, w, off, left, count);
+    } else {
+        keep_runs::<T, O>(sweep, first, n, w, off);
+    }
+}
+
+// Keeps rows none of whose bits is 1, by zeros alone, where one knows how many stay. The rows lie in the first `count` words.
 #[inline(always)]
 pub(crate) fn keep_zeros<T: BitRegister, O: BitOrder<T>>(
     sweep: &mut Sweep<'_, T>,
@@ -81,31 +108,31 @@ pub(crate) fn keep_zeros<T: BitRegister, O: BitOrder<T>>(
     w: usize,
     off: BitSlice<'_, T, O>,
     left: usize,
-) -> bool
-    requires fresh { IsFresh sweep.old Up }
+    count: usize,
+)
+    requires way { way_of sweep.old ≡ Up }
+    requires edge { edge_of sweep.old ≡ 0 }
+    requires writes { writes_of sweep.old ≡ 0 }
     requires flags { length (view_bits (read_by T.BitRegister O.position) off) ≡ n }
     requires left { left ≡ count_by not (view_bits (read_by T.BitRegister O.position) off) }
     requires within { first + n * w ≤ length (sweep_words sweep.old) * T.BITS }
     requires ends { first + n * w < 2 ^ 64 }
-    ensures rows { result ≡ true → KeepsRows (read_by T.BitRegister O.position) (sweep_words sweep.old)
-        (sweep_words sweep.new) first w (view_bits (read_by T.BitRegister O.position) off.entry) }
-    ensures writes { result ≡ true → writes_of sweep.new ≡ touched T.BITS first (left * w) }
-    ensures changed { result ≡ true
-        → changed T.number (sweep_words sweep.old) (sweep_words sweep.new) ≤ writes_of sweep.new }
-    ensures same { result ≡ false → SameButReads sweep.old sweep.new }
+    requires holds { first + n * w ≤ count * T.BITS }
+    requires zeros { Nowhere (bit_found (read_by T.BitRegister O.position) (sweep_words sweep.old) true) 0
+        (count * T.BITS) }
+    ensures rows { KeepsRows (read_by T.BitRegister O.position) (sweep_words sweep.old) (sweep_words sweep.new)
+        first w (view_bits (read_by T.BitRegister O.position) off.entry) }
+    ensures writes { writes_of sweep.new ≡ touched T.BITS first (left * w) }
+    ensures changed { changed T.number (sweep_words sweep.old) (sweep_words sweep.new) ≤ writes_of sweep.new }
     ensures way { way_of sweep.new ≡ way_of sweep.old }
     ensures lender { sweep_lender sweep.new ≡ sweep_lender sweep.old }
 {
-    if !holds_no_one::<T, O>(sweep, words_before::<T>(first + n * w)) {
-        return false;
-    }
     put_zeros::<T, O>(sweep, first, left * w);
-    true
 }
 
 // How many words have the bits before a place.
 #[inline(always)]
-fn words_before<T: BitRegister>(end: usize) -> usize
+pub(crate) fn words_before<T: BitRegister>(end: usize) -> usize
     ensures holds { end ≤ result * T.BITS }
     ensures fits { (n : ℕ) → end ≤ n * T.BITS → result ≤ n }
 {
@@ -119,7 +146,10 @@ fn words_before<T: BitRegister>(end: usize) -> usize
 
 // Whether no bit of the first `count` words is 1, by one comparison a word.
 #[inline(always)]
-fn holds_no_one<T: BitRegister, O: BitOrder<T>>(sweep: &mut Sweep<'_, T>, count: usize) -> bool
+pub(crate) fn holds_no_one<T: BitRegister, O: BitOrder<T>>(
+    sweep: &mut Sweep<'_, T>,
+    count: usize,
+) -> bool
     requires { count ≤ length (sweep_words sweep.old) }
     ensures zeros { result ≡ true
         → Nowhere (bit_found (read_by T.BitRegister O.position) (sweep_words sweep.old) true) 0 (count * T.BITS) }

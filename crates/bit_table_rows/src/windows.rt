@@ -1,16 +1,17 @@
 //! Moves of rows by one sweep over the words of a window, whose writes are counted: by its list, and by what stays beside
 //! it.
 
-ghost use Rattle.std.specs.Prelude.{◌≡◌, ℕ, ◌+◌, ◌-◌, ◌*◌, ◌^◌, ◌<◌, ◌≤◌, None, Some, count_by, length, not};
+ghost use Rattle.std.specs.Prelude.{◌≡◌, ◌+◌, ◌-◌, ◌*◌, ◌^◌, ◌<◌, ◌≤◌, true, count_by, length, not};
 ghost use Rattle.bit_addressing_memory.specs.Memory.{memory, piece, read_by, touched};
 ghost use Rattle.bit_addressing_memory.specs.Moves.{changed};
 ghost use Rattle.bit_slice_views.specs.SpanLimits.{MAX_BITS};
 ghost use Rattle.bit_slice_views.specs.View.{view_bits};
 ghost use Rattle.bit_slice_views_mut.specs.Frame.{KeepsBeside};
+ghost use Rattle.bit_slice_words.specs.Stretch.{bit_found, Nowhere};
 ghost use Rattle.bit_table_rows.specs.RowMoves.{rows_moved};
 ghost use Rattle.bit_table_rows.specs.RowsKept.{KeepsRows, rows_kept};
 
-use crate::keep::{keep_runs, keep_zeros};
+use crate::keep::{holds_no_one, keep_runs, keep_zeros, words_before};
 use crate::rows::move_rows;
 use bit_addressing_memory::{BitIdx, BitOrder, BitRegister, Sweep, Way, way_for};
 use bit_slice_views::BitSlice;
@@ -44,9 +45,21 @@ pub(crate) fn move_window_rows<R: BitRegister, O: BitOrder<R>>(
     sweep.writes()
 }
 
-// Keeps rows none of whose bits is 1, where one knows that `left` of them stay, and returns how many words it wrote; `None`
-// if a bit is 1, and then it has written nothing. The sweep is handed to no call out of line, so that all that it counts
-// stays in registers.
+// Whether no bit of the first `count` words is 1. The sweep is handed to no call out of line, so what it counts stays in
+// registers.
+#[inline(always)]
+fn holds_no_one_in<R: BitRegister, O: BitOrder<R>>(words: &mut [R], count: usize) -> bool
+    requires { count ≤ length words.old }
+    ensures zeros { result ≡ true
+        → Nowhere (bit_found (read_by R.BitRegister O.position) words.old true) 0 (count * R.BITS) }
+    ensures same { words.new ≡ words.old }
+{
+    let mut sweep = Sweep::new(words, Way::Up);
+    holds_no_one::<R, O>(&mut sweep, count)
+}
+
+// Keeps rows none of whose bits is 1, where one knows how many stay, and returns how many words it wrote. The rows lie in
+// the first `count` words.
 #[inline(always)]
 fn keep_zeros_in<R: BitRegister, O: BitOrder<R>>(
     words: &mut [R],
@@ -55,23 +68,22 @@ fn keep_zeros_in<R: BitRegister, O: BitOrder<R>>(
     w: usize,
     off: BitSlice<'_, R, O>,
     left: usize,
-) -> Option<usize>
+    count: usize,
+) -> usize
     requires flags { length (view_bits (read_by R.BitRegister O.position) off) ≡ n }
     requires left { left ≡ count_by not (view_bits (read_by R.BitRegister O.position) off) }
     requires within { place + n * w ≤ length words.old * R.BITS }
     requires ends { place + n * w < 2 ^ 64 }
-    ensures rows { (k : ℕ) → result ≡ Some k → KeepsRows (read_by R.BitRegister O.position) words.old words.new
+    requires holds { place + n * w ≤ count * R.BITS }
+    requires zeros { Nowhere (bit_found (read_by R.BitRegister O.position) words.old true) 0 (count * R.BITS) }
+    ensures rows { KeepsRows (read_by R.BitRegister O.position) words.old words.new
         place w (view_bits (read_by R.BitRegister O.position) off.entry) }
-    ensures writes { (k : ℕ) → result ≡ Some k → k ≡ touched R.BITS place (left * w) }
-    ensures changed { (k : ℕ) → result ≡ Some k → changed R.number words.old words.new ≤ k }
-    ensures same { result ≡ None → words.new ≡ words.old }
+    ensures writes { result ≡ touched R.BITS place (left * w) }
+    ensures changed { changed R.number words.old words.new ≤ result }
 {
     let mut sweep = Sweep::new(words, Way::Up);
-    if keep_zeros::<R, O>(&mut sweep, place, n, w, off, left) {
-        Some(sweep.writes())
-    } else {
-        None
-    }
+    keep_zeros::<R, O>(&mut sweep, place, n, w, off, left, count);
+    sweep.writes()
 }
 
 // Keeps rows run by run, and returns how many words it wrote. Out of line, so that lists without a one are passed by a
@@ -117,9 +129,11 @@ fn keep_in<R: BitRegister, O: BitOrder<R>>(
     ensures writes { result ≡ touched R.BITS place (left * w) }
     ensures changed { changed R.number words.old words.new ≤ result }
 {
-    match keep_zeros_in::<R, O>(words, place, n, w, off, left) {
-        Some(writes) => writes,
-        None => keep_runs_in::<R, O>(words, place, n, w, off),
+    let count = words_before::<R>(place + n * w);
+    if holds_no_one_in::<R, O>(words, count) {
+        keep_zeros_in::<R, O>(words, place, n, w, off, left, count)
+    } else {
+        keep_runs_in::<R, O>(words, place, n, w, off)
     }
 }
 

@@ -1,4 +1,4 @@
-use Rattle.std.proofs.Common.{arith, ◌≡◌, ℕ, ◌+◌, ◌*◌, ◌/◌, ◌^◌, ◌<◌, ◌≤◌, ◌∙◌, ap, sym, subst, List, true, not, length}
+use Rattle.std.proofs.Common.{arith, ◌≡◌, ℕ, ◌+◌, ◌*◌, ◌/◌, ◌<◌, ◌≤◌, ap, List, true, not, length}
 use Rattle.std.proofs.Common.{mul-le-mul_right}
 use Rattle.std.proofs.lemmas.List.Sums.{count_by-le-length}
 use Rattle.std.proofs.lemmas.Nat.{div-add-mod', mod_below}
@@ -8,7 +8,6 @@ use Rattle.bit_addressing_memory.specs.Memory.{Reading, read_by}
 use Rattle.bit_addressing_memory.specs.Sweep.{sweep_words}
 use Rattle.bit_slice_views.specs.View.{view_bits}
 use Rattle.bit_slice_words.specs.Stretch.{bit_found, Nowhere}
-use Rattle.bit_table_rows.specs.RowsKept.{KeepsRows}
 use Rattle.bit_table_rows.proofs.KeepRowLemmas.{kept_zeros}
 use Rattle.bit_table_rows.proofs.PlaceLemmas.{place_order}
 use Rattle.bit_table_rows.proofs.keep.keep_zeros.Goals as goal
@@ -32,51 +31,34 @@ put_zeros-requires g c =
     let few = count_by-le-length not off in
     let left : c.args.left ≤ c.args.n = omega (arith, few, c.requires.flags, c.requires.left) in
     let rows = place_order c.args.left c.args.n c.args.w left in
-    let same = c.holds_no_one.ensures.same.words in
-    let first = c.into_inner-first.ensures.value in
-    let within : end ≤ length (sweep_words c.args.sweep.now) * reading.bits = rw first c.requires.within in
-    let ends : end < 2 ^ 64 = rw first c.requires.ends in
     record {
-      way = c.holds_no_one.ensures.same.way ∙ c.requires.fresh.way_is;
-      edge = c.holds_no_one.ensures.same.edge ∙ c.requires.fresh.edge;
-      within = rw same (omega (arith, rows, within));
-      ends = omega (arith, rows, ends);
-      zeros = λ upto low. subst (λ ws. Nowhere (bit_found reading ws true) 0 (upto * reading.bits)) (sym same)
-          (looked_at reading (sweep_words c.args.sweep.now) end c.words_before.result c.words_before.ensures.holds
-          (c.holds_no_one.ensures.zeros c.if-holds_no_one.true) upto (omega (arith, rows, low)));
+      way = c.requires.way;
+      edge = c.requires.edge;
+      within = omega (arith, rows, c.requires.within);
+      ends = omega (arith, rows, c.requires.ends);
+      zeros = λ upto low. looked_at reading (sweep_words c.args.sweep.now) end c.args.count c.requires.holds
+          c.requires.zeros upto (omega (arith, rows, low));
     }
 
-pub returns-else-not-holds_no_one-clause-rows : goal.returns-else-not-holds_no_one-clause-rows
-returns-else-not-holds_no_one-clause-rows g c =
+pub returns-clause-rows : goal.returns-clause-rows
+returns-clause-rows g c =
     let reading = read_by g.T.BitRegister g.O.Positions.position in
     let b = reading.bits in
     let off = view_bits reading c.args.off in
     let end : ℕ = c.args.first + c.args.n * c.args.w in
     let some : 0 < b = omega (arith, g.met.T.BitRegister.least_bits) in
     let rows : length off * c.args.w ≡ c.args.n * c.args.w = ap (λ m. m * c.args.w) c.requires.flags in
-    let same = c.holds_no_one.ensures.same.words in
-    let first = c.into_inner-first.ensures.value in
     let before = sweep_words c.args.sweep.now in
     let after = sweep_words c.put_zeros.new.sweep in
-    let within : end ≤ length before * b = rw first c.requires.within in
-    let kept : KeepsRows reading before after c.args.first c.args.w off =
-    kept_zeros reading before after c.args.first c.args.w off some (omega (arith, rows, within))
+    kept_zeros reading before after c.args.first c.args.w off some (omega (arith, rows, c.requires.within))
     (λ p low.
     let rest = mod_below p b some in
     let whole = div-add-mod' p b in
-    looked_at reading before end c.words_before.result c.words_before.ensures.holds (c.holds_no_one.ensures.zeros c.if-holds_no_one.true)
+    looked_at reading before end c.args.count c.requires.holds c.requires.zeros
     (p / b + 1) (omega (arith, rows, whole, low)) p (omega arith) (omega (arith, rest, whole)))
-    (rw same at c.put_zeros.ensures.same) (rw same at c.put_zeros.ensures.words) in
-    rw first at kept
+    c.put_zeros.ensures.same c.put_zeros.ensures.words
 
-pub returns-else-not-holds_no_one-clause-changed : goal.returns-else-not-holds_no_one-clause-changed
-returns-else-not-holds_no_one-clause-changed g c =
+pub returns-clause-changed : goal.returns-clause-changed
+returns-clause-changed g c =
     let words = sweep_words c.args.sweep.now in
-    let some = rw c.holds_no_one.ensures.same.words at c.put_zeros.ensures.changed words in
-    omega (
-      arith,
-      some,
-      unchanged g.T.BitRegister.number words,
-      c.requires.fresh.writes,
-      c.holds_no_one.ensures.same.writes,
-    )
+    omega (arith, c.put_zeros.ensures.changed words, unchanged g.T.BitRegister.number words, c.requires.writes)

@@ -1,0 +1,13 @@
+use Rattle.std.proofs.Common.{rules}
+use Rattle.bit_addressing_memory.specs.Memory.{read_by}
+use Rattle.bit_addressing_memory.specs.Sweep.{sweep_words}
+use Rattle.bit_slice_views.specs.View.{view_bits}
+use Rattle.bit_table_rows.specs.RowsKept.{KeepsRows}
+use Rattle.bit_table_rows.proofs.windows.keep_runs_in.Goals as goal
+
+pub returns-clause-rows : goal.returns-clause-rows
+returns-clause-rows g c =
+    let reading = read_by g.R.BitRegister g.O.Positions.position in
+    let rows : KeepsRows reading c.args.words.now (sweep_words c.keep_runs.new.sweep) c.args.place c.args.w
+    (view_bits reading c.args.off) = rw c.new-sweep.ensures.words at c.keep_runs.ensures.rows in
+    search (rules, rows)

@@ -1,5 +1,6 @@
 //! Walks between two memories by chunks of 64 bits, each in any lawful order. Chunks of both are read in one direction,
-//! that of the first: those of the other one are turned to it where their own is another.
+//! that of the first: those of the other one are turned to it where their own is another. The loops count the bits that
+//! they combine or read.
 
 ghost use Rattle.std.specs.Prelude.{◌≡◌, ℕ, ◌+◌, ◌*◌, ◌<◌, ◌≤◌};
 ghost use Rattle.bit_addressing_memory.specs.Lies.{Lies};

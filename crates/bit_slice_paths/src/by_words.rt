@@ -1,9 +1,7 @@
-//! Word paths by chunks of 64 bits, a step a chunk: what an order calls whose positions go straight with the
-//! indices.
+//! Word paths, a step for each 64 bits: what an order calls whose positions go straight with the indices.
 //!
-//! A step is counted in the loop that moves, once for each chunk. The count goes through the loop as a value, so that
-//! it stays in a register. Many bits are combined and compared by whole words (`two_memories`), which count a step for
-//! each 64 bits that were read.
+//! `combine` and `equal` count the bits that the loops of `across` report. `copy_over` and `swap` count a step in the loop
+//! that moves, once for each chunk, and the count goes through the loop as a value, so that it stays in a register.
 
 ghost use Rattle.std.specs.Prelude.{◌≡◌, ℕ, ◌+◌, ◌-◌, ◌*◌, ◌/◌, ◌<◌, ◌≤◌, ◌↔◌};
 ghost use Rattle.std.specs.Prelude.{IsTrue, true, false};

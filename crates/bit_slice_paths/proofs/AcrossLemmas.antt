@@ -5,7 +5,7 @@ use Rattle.std.proofs.lemmas.Bool.{cases_lt, eqb-true, eq-eqb}
 use Rattle.bit_addressing_memory.specs.Memory.{Reading, entry}
 use Rattle.bit_addressing_memory.specs.declared.direction.Direction.{Direction}
 use Rattle.bit_slice_chunks.specs.Chunk.{IsChunk, AgreeTo}
-use Rattle.bit_slice_paths.specs.Agrees.{Agrees}
+use Rattle.bit_slice_paths.specs.Agrees.{Agrees, Matches}
 use Rattle.bit_slice_paths.proofs.WalkLemmas.{equal_more}
 
 -- the first bit in which the chunks of two memories differ, among the first n
@@ -61,5 +61,42 @@ agrees_test reading its words others place other_place n at agree = (
   λ same. eq-eqb at n (elim (cases_lt at n) [
     | inl low ↦ absurd (agree.differ low (same at low))
     | inr high ↦ omega (arith, agree.most)
+  ]),
+)
+
+-- stretches that differ among the first n bits
+pub matches_near : {R Q : Type 0} (reading : Reading R) (its : Reading Q) (words : List R) (others : List Q)
+    (place other_place n all at : ℕ) → n ≤ all → (at < all → at < n)
+    → Agrees reading words place its others other_place n at → Matches reading words place its others other_place all at
+matches_near reading its words others place other_place n all at inside near agree = record {
+  most = omega (arith, agree.most);
+  same = agree.same;
+  differ = λ low same. agree.differ (near low) (same at low);
+}
+
+-- stretches that are the same for n bits, and how many of the m bits behind them are
+pub matches_more : {R Q : Type 0} (reading : Reading R) (its : Reading Q) (words : List R) (others : List Q)
+    (place other_place n m all done : ℕ) → n + m ≡ all
+    → ((k : ℕ) → k < n → entry reading words (place + k) ≡ entry its others (other_place + k))
+    → Matches reading words (place + n) its others (other_place + n) m done
+    → Matches reading words place its others other_place all (n + done)
+matches_more reading its words others place other_place n m all done sum had more = record {
+  most = omega (arith, more.most);
+  same = λ k low. equal_more reading its words others place other_place n done (n + done) refl had more.same k low;
+  differ = λ low same. more.differ (omega arith) (λ k small.
+      let here : place + n + k ≡ place + (n + k) = omega arith in
+      let there : other_place + n + k ≡ other_place + (n + k) = omega arith in
+      rw (here, there) (same (n + k) (omega arith)));
+}
+
+-- all bits match exactly if they are the same
+pub matches_test : {R Q : Type 0} (reading : Reading R) (its : Reading Q) (words : List R) (others : List Q)
+    (place other_place n done : ℕ) → Matches reading words place its others other_place n done
+    → IsTrue (done == n) ↔ ((k : ℕ) → k < n → entry reading words (place + k) ≡ entry its others (other_place + k))
+matches_test reading its words others place other_place n done matches = (
+  λ yes k low. matches.same k (omega (arith, eqb-true done n yes)),
+  λ same. eq-eqb done n (elim (cases_lt done n) [
+    | inl low ↦ absurd (matches.differ low same)
+    | inr high ↦ omega (arith, matches.most)
   ]),
 )

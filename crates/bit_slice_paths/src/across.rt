@@ -7,7 +7,7 @@ ghost use Rattle.bit_addressing_memory.specs.Lies.{Lies};
 ghost use Rattle.bit_addressing_memory.specs.Memory.{entry, read_by};
 ghost use Rattle.bit_slice_chunks.specs.Chunk.{IsChunk};
 ghost use Rattle.bit_slice_chunks.specs.Combined.{combined_bit, Combines};
-ghost use Rattle.bit_slice_paths.specs.Agrees.{Agrees};
+ghost use Rattle.bit_slice_paths.specs.Agrees.{Agrees, Matches};
 
 use crate::combining::Combining;
 use crate::two_memories::{self, fit_of, matched};
@@ -198,7 +198,7 @@ pub(crate) fn difference_of_part<R: BitRegister, O: BitOrder<R>, Q: BitRegister,
     first_difference(direction, chunk, other).min(count)
 }
 
-/// The first of `len` bits that is not as that of another memory: `len` where none is.
+/// The first of `len` bits that is not as that of another memory: `len` if none is.
 #[inline(always)]
 pub fn difference<R: BitRegister, O: BitOrder<R>, Q: BitRegister, P: BitOrder<Q>>(
     words: &[R],
@@ -212,12 +212,43 @@ pub fn difference<R: BitRegister, O: BitOrder<R>, Q: BitRegister, P: BitOrder<Q>
     ensures { Agrees (read_by R.BitRegister O.position) words.now place
         (read_by Q.BitRegister P.position) others.now other_place len result }
 {
-    mismatch::<R, O, Q, P>(words, place, others, other_place, len).done
+    if len < 2 * NEAR_BITS {
+        return mismatch_by_blocks::<R, O, Q, P>(words, place, others, other_place, len).done;
+    }
+    difference_of_many::<R, O, Q, P>(words, place, others, other_place, len)
 }
 
-/// The first of `len` bits that is not as that of another memory, `len` where none is, and how many were read for it.
+// `difference` of many bits: by blocks from the round of whole words on in which one differs. Out of line, so that few are
+// compared by a short function.
+#[inline(never)]
+fn difference_of_many<R: BitRegister, O: BitOrder<R>, Q: BitRegister, P: BitOrder<Q>>(
+    words: &[R],
+    place: usize,
+    others: &[Q],
+    other_place: usize,
+    len: usize,
+) -> usize
+    requires many { 2 * 8192 ≤ len }
+    requires lies { Lies R.BITS words.now place len }
+    requires other_lies { Lies Q.BITS others.now other_place len }
+    ensures { Agrees (read_by R.BitRegister O.position) words.now place
+        (read_by Q.BitRegister P.position) others.now other_place len result }
+{
+    let same = match_many::<R, O, Q, P>(words, place, others, other_place, len).done;
+    let rest = mismatch_by_blocks::<R, O, Q, P>(
+        words,
+        place + same,
+        others,
+        other_place + same,
+        len - same,
+    );
+    same + rest.done
+}
+
+/// How many of the first of `len` bits are found to be those of another memory: all, or those before the block or the round
+/// of words in which one differs; and how many were read for it, none of them twice.
 #[inline(always)]
-pub fn mismatch<R: BitRegister, O: BitOrder<R>, Q: BitRegister, P: BitOrder<Q>>(
+pub fn match_bits<R: BitRegister, O: BitOrder<R>, Q: BitRegister, P: BitOrder<Q>>(
     words: &[R],
     place: usize,
     others: &[Q],
@@ -226,7 +257,7 @@ pub fn mismatch<R: BitRegister, O: BitOrder<R>, Q: BitRegister, P: BitOrder<Q>>(
 ) -> Reached
     requires lies { Lies R.BITS words.now place len }
     requires other_lies { Lies Q.BITS others.now other_place len }
-    ensures agrees { Agrees (read_by R.BitRegister O.position) words.now place
+    ensures matches { Matches (read_by R.BitRegister O.position) words.now place
         (read_by Q.BitRegister P.position) others.now other_place len result.done }
     ensures order { result.done ≤ result.seen }
     ensures most { result.seen ≤ len }
@@ -235,13 +266,13 @@ pub fn mismatch<R: BitRegister, O: BitOrder<R>, Q: BitRegister, P: BitOrder<Q>>(
     if len < 2 * NEAR_BITS {
         return mismatch_by_blocks::<R, O, Q, P>(words, place, others, other_place, len);
     }
-    mismatch_of_many::<R, O, Q, P>(words, place, others, other_place, len)
+    match_many::<R, O, Q, P>(words, place, others, other_place, len)
 }
 
-// `mismatch` of many bits: by blocks near the start, then by rounds of whole words up to the one in which a bit differs, and
-// by blocks behind them. Out of line, so that few are compared by a short function.
+// `match_bits` of many bits: by blocks near the start, then by rounds of whole words. Out of line, so that few are compared by
+// a short function.
 #[inline(never)]
-fn mismatch_of_many<R: BitRegister, O: BitOrder<R>, Q: BitRegister, P: BitOrder<Q>>(
+fn match_many<R: BitRegister, O: BitOrder<R>, Q: BitRegister, P: BitOrder<Q>>(
     words: &[R],
     place: usize,
     others: &[Q],
@@ -251,7 +282,7 @@ fn mismatch_of_many<R: BitRegister, O: BitOrder<R>, Q: BitRegister, P: BitOrder<
     requires many { 2 * 8192 ≤ len }
     requires lies { Lies R.BITS words.now place len }
     requires other_lies { Lies Q.BITS others.now other_place len }
-    ensures agrees { Agrees (read_by R.BitRegister O.position) words.now place
+    ensures matches { Matches (read_by R.BitRegister O.position) words.now place
         (read_by Q.BitRegister P.position) others.now other_place len result.done }
     ensures order { result.done ≤ result.seen }
     ensures most { result.seen ≤ len }
@@ -261,25 +292,22 @@ fn mismatch_of_many<R: BitRegister, O: BitOrder<R>, Q: BitRegister, P: BitOrder<
     if near.done < NEAR_BITS {
         return near;
     }
-    let (at, other_at, left) = (place + NEAR_BITS, other_place + NEAR_BITS, len - NEAR_BITS);
-    let known = known_same::<R, O, Q, P>(words, at, others, other_at, left);
-    let same = known.done;
-    let rest = mismatch_by_blocks::<R, O, Q, P>(
+    let behind = match_behind::<R, O, Q, P>(
         words,
-        at + same,
+        place + NEAR_BITS,
         others,
-        other_at + same,
-        left - same,
+        other_place + NEAR_BITS,
+        len - NEAR_BITS,
     );
     Reached {
-        done: NEAR_BITS + (same + rest.done),
-        seen: NEAR_BITS + known.seen.max(same + rest.seen),
+        done: NEAR_BITS + behind.done,
+        seen: NEAR_BITS + behind.seen,
     }
 }
 
-// How many of many first bits are found to be the same by rounds of whole words, and how many were read for it.
+// `match_bits` by rounds of whole words, or by blocks if words of both memories are not alike.
 #[inline(always)]
-fn known_same<R: BitRegister, O: BitOrder<R>, Q: BitRegister, P: BitOrder<Q>>(
+fn match_behind<R: BitRegister, O: BitOrder<R>, Q: BitRegister, P: BitOrder<Q>>(
     words: &[R],
     place: usize,
     others: &[Q],
@@ -288,18 +316,19 @@ fn known_same<R: BitRegister, O: BitOrder<R>, Q: BitRegister, P: BitOrder<Q>>(
 ) -> Reached
     requires lies { Lies R.BITS words.now place len }
     requires other_lies { Lies Q.BITS others.now other_place len }
+    ensures matches { Matches (read_by R.BitRegister O.position) words.now place
+        (read_by Q.BitRegister P.position) others.now other_place len result.done }
     ensures order { result.done ≤ result.seen }
     ensures most { result.seen ≤ len }
-    ensures same { (k : ℕ) → k < result.done → entry (read_by R.BitRegister O.position) words.now (place + k)
-        ≡ entry (read_by Q.BitRegister P.position) others.now (other_place + k) }
+    ensures some { result.done < len → 0 < result.seen }
 {
     match fit_of::<R, O, Q, P>(place, other_place, len) {
         Some(fit) => matched::<R, O, Q, P>(fit, words, place, others, other_place, len),
-        None => Reached { done: 0, seen: 0 },
+        None => mismatch_by_blocks::<R, O, Q, P>(words, place, others, other_place, len),
     }
 }
 
-// `mismatch`, block by block.
+// The first of `len` bits that differs, `len` if none does, and how many were read for it, block by block.
 #[inline(always)]
 fn mismatch_by_blocks<R: BitRegister, O: BitOrder<R>, Q: BitRegister, P: BitOrder<Q>>(
     words: &[R],

@@ -326,7 +326,7 @@ pub fn equal<R: BitRegister, O: BitOrder<R>>(
     ensures same { result ≡ true → Takes steps.old steps.new (groups len 64) (groups len 64) }
     ensures other { result ≡ false → Takes steps.old steps.new 1 (groups len 64) }
 {
-    let reached = across::mismatch::<R, O, R, O>(words, place, others, other_place, len);
+    let reached = across::match_bits::<R, O, R, O>(words, place, others, other_place, len);
     steps.bits(reached.seen);
     reached.done == len
 }

@@ -5,7 +5,7 @@ ghost use Rattle.bit_addressing_memory.specs.Memory.{memory, piece, read_by, wit
 
 use crate::edits::BitsEdits;
 use crate::parts::BitsParts;
-use bit_addressing_memory::{BitOrder, BitRegister, Lsb0, BulkOp, bit_loop_limit_of_two};
+use bit_addressing_memory::{BitOrder, BitRegister, BulkOp, Lsb0, bit_loop_limit_of_two};
 use bit_slice_views_mut::{BitRange, BitSlice, Bits, BitsMut, copy_in};
 
 /// The copies of a window that no single lower call makes: of every `BitsMut`.

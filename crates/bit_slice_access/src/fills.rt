@@ -7,7 +7,7 @@ ghost use Rattle.bit_slice_access.specs.Fills.{Filled};
 use crate::copies::hold;
 use crate::edits::BitsEdits;
 use bit_addressing_memory::{
-    BitIdx, BitOrder, BitRegister, Lsb0, BulkOp, bit_loop_limit, read_bit, write_bit,
+    BitIdx, BitOrder, BitRegister, BulkOp, Lsb0, bit_loop_limit, read_bit, write_bit,
 };
 use bit_slice_views_mut::{BitSlice, Bits, BitsMut};
 

@@ -17,7 +17,7 @@ ghost use Rattle.bit_slice_views_mut.specs.Frame.{KeepsBeside};
 
 use crate::integral::Integral;
 use bit_addressing_memory::{
-    BitOrder, BitRegister, Direction, BulkOp, mem, bit_loop_limit, write_entry,
+    BitOrder, BitRegister, BulkOp, Direction, bit_loop_limit, mem, write_entry,
 };
 use bit_slice_chunks::{read_bits, read_counted, read_part, write_bits, write_counted};
 use bit_slice_views::{BitSlice, Bits};

@@ -13,7 +13,7 @@ ghost use Rattle.bit_slice_views.specs.Found.{is_bit, last_position};
 ghost use Rattle.bit_slice_views.specs.View.{view_bits};
 ghost use Rattle.bit_slice_iterators.specs.Indices.{indices, AreDigits};
 
-use bit_addressing_memory::{BitOrder, BitRegister, Direction, BulkOp, bit_loop_limit};
+use bit_addressing_memory::{BitOrder, BitRegister, BulkOp, Direction, bit_loop_limit};
 use bit_slice_chunks::any_order::{direction_for, read_bits, read_chunk};
 use bit_slice_chunks::{faced, first_bits};
 use bit_slice_views::{BitSlice, Bits};

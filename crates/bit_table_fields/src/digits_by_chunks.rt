@@ -14,7 +14,7 @@ ghost use Rattle.bit_table_layout.specs.Rows.{field_bits};
 
 use crate::digits_by_bits;
 use crate::digits_by_bits::number_of;
-use bit_addressing_memory::{BitOrder, BitRegister, Direction, BulkOp, bit_loop_limit};
+use bit_addressing_memory::{BitOrder, BitRegister, BulkOp, Direction, bit_loop_limit};
 use bit_slice_chunks::any_order::{read_bits, write_bits};
 use bit_slice_views::BitSlice;
 use bit_slice_views_mut::BitsMut;

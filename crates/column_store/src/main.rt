@@ -3,6 +3,9 @@
 //! again at each run.
 #![tactic(auto)]
 
+ghost use Rattle.std.specs.Prelude.{◌*◌, ◌≤◌};
+ghost use Rattle.bit_table.specs.LayoutLimits.{MAX_ROW_BITS};
+
 mod answer;
 mod command_line;
 mod condition;
@@ -15,7 +18,7 @@ mod store;
 mod tests;
 mod width;
 
-use bit_table::Lsb0;
+use bit_table::{BitViewSized, Digits, Lsb0, WordPaths};
 use command_line::{Asked, Request, read_words};
 use condition::conditions;
 use csv_table::{CsvError, read_csv};
@@ -39,7 +42,7 @@ fn main(rt: HostRuntime) -> ExitCode {
         }
     };
     match read_words(rt.alloc(), words.as_slice()) {
-        Asked::Answer(request) => ended(&rt, answered(&rt, &request)),
+        Asked::Answer(request) => ended(&rt, answered::<[u64; 16], Lsb0>(&rt, &request)),
         Asked::Help(text) => ended(&rt, written(&rt, text.as_bytes())),
         Asked::Bad(text) => refused(&rt, text.as_str()),
         Asked::NoMemory => ended(&rt, Err(StoreError::Memory(AllocError))),
@@ -56,9 +59,14 @@ fn words<R: Env + AllocGlobal>(rt: &R) -> io::Result<Vec<String>> {
 }
 
 // Reads the table on standard input, and writes what is asked for to standard output.
-fn answered(rt: &HostRuntime, request: &Request) -> Result<(), StoreError> {
+fn answered<A: BitViewSized, O: WordPaths<A::Store> + Digits<A::Store>>(
+    rt: &HostRuntime,
+    request: &Request,
+) -> Result<(), StoreError>
+    requires { MAX_ROW_BITS ≤ A.COUNT * A.Store.BITS }
+{
     let table = read_csv(rt.alloc(), text_of(rt)?.as_slice())?;
-    let mut store = store::pack::<[u64; 16], Lsb0>(rt.alloc(), table)?;
+    let mut store = store::pack::<A, O>(rt.alloc(), table)?;
     let conditions = conditions(rt.alloc(), store.table.layout(), request.conditions())?;
     select::select(&mut store.table, conditions.as_slice());
     let text = answer::answer(rt.alloc(), &mut store, request.question())?;

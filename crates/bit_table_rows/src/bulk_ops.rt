@@ -17,7 +17,7 @@ pub enum RowOp {
 /// Up to how many bits, or rows, an operation goes one by one: all, if neither the positions go straight with the indices
 /// nor the order says that the bits of a word are reordered quickly.
 // In instructions, of n rows of `u64` under `Lsb0`: rows marked 75 n and 500 + 40 n, in any order, since the results of many
-// rows are stored at once. Rows kept are as bits copied; rows listed 15 n and 250.
+// rows are stored at once. The limits of rows that are kept and listed have no count here.
 #[inline(always)]
 pub fn row_loop_limit<R: BitRegister, O: BitOrder<R>>(op: RowOp) -> usize {
     match op {

@@ -1,10 +1,12 @@
 //! Whether the positions of a word go straight with its indices: up or down, over the whole word.
 
-ghost use Rattle.std.specs.Prelude.{◌≡◌, ◌<◌, ◌↔◌, IsTrue};
+ghost use Rattle.std.specs.Prelude.{◌≡◌, ◌<◌, ◌↔◌, IsTrue, MatchOption};
 ghost use Rattle.bit_addressing_memory.specs.declared.direction.Direction.{Direction};
 ghost use Rattle.bit_addressing_memory.specs.Straight.{Goes, straight};
 
 use bit_addressing_order::{BitRegister, Positions};
+use std::alloc::AllocError;
+use std::marker::PhantomData;
 
 /// How positions go straight with the indices of a word.
 #[derive(Clone, Copy, PartialEq, Eq, Debug)]
@@ -13,6 +15,54 @@ pub enum Direction {
     Ascending,
     /// Index 0 has the highest position, and each next index the position below.
     Descending,
+}
+
+/// That the positions go straight with the indices of a word, and in which direction.
+#[derive(Copy)]
+pub struct Straight<R: BitRegister, P: Positions<R>> {
+    pub direction: Direction,
+    register: PhantomData<R>,
+    order: PhantomData<P>,
+    ghost goes: { Goes R.BITS P.position direction },
+}
+
+impl<R: BitRegister, P: Positions<R>> Clone for Straight<R, P> {
+    ghost use Rattle.std.specs.Prelude.{⊤};
+
+    ghost is_clone = { λ straight copy. copy ≡ straight };
+
+    ghost is_infallible = { λ _. ⊤ };
+
+    fn clone(&self) -> Result<Self, AllocError> {
+        Ok(*self)
+    }
+}
+
+impl<R: BitRegister, P: Positions<R>> Straight<R, P> {
+    /// The positions go in this direction.
+    #[inline(always)]
+    pub fn new(direction: Direction) -> Self
+        requires { Goes R.BITS P.position direction }
+        ensures { result.direction ≡ direction }
+    {
+        Self {
+            direction,
+            register: PhantomData,
+            order: PhantomData,
+        }
+    }
+
+    /// In which direction the positions go, by `direction_of`.
+    #[inline(always)]
+    pub fn find() -> Option<Self>
+        ensures { (direction : Direction) → Goes R.BITS P.position direction
+            → MatchOption result ⊥ (λ straight. straight.direction ≡ direction) }
+    {
+        match direction_of::<R, P>() {
+            Some(direction) => Some(Self::new(direction)),
+            None => None,
+        }
+    }
 }
 
 /// The direction in which the positions go with the indices: none where they go neither way over the

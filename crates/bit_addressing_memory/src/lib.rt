@@ -28,7 +28,7 @@ pub use bulk_ops::{
     limit_by_order,
 };
 pub use copies::{copy_between, copy_within, swap_between, swap_entries, swap_within};
-pub use direction::{Direction, direction_of, goes};
+pub use direction::{Direction, Straight, direction_of, goes};
 pub use edges::{Edges, between, bits_to_next_word, edges_of};
 pub use entry::{read_bit, read_entry, replace_entry, write_bit, write_entry};
 pub use limbs::{bits_in, put_bits_in};

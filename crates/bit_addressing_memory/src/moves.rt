@@ -1,11 +1,10 @@
 //! Bits that move inside one memory: each word of the target is gathered and then written once.
 
-ghost use Rattle.std.specs.Prelude.{◌≡◌, ◌+◌, ◌-◌, ◌*◌, ◌/◌, ◌^◌, ◌<◌, ◌≤◌, Some, length, min};
+ghost use Rattle.std.specs.Prelude.{◌≡◌, ◌+◌, ◌-◌, ◌*◌, ◌/◌, ◌^◌, ◌<◌, ◌≤◌, IfSome, length, min};
 ghost use Rattle.bit_addressing_memory.specs.Lies.{Lies};
 ghost use Rattle.bit_addressing_memory.specs.Memory.{read_by, entry, touched};
 ghost use Rattle.bit_addressing_memory.specs.Partial.{IsStored};
-ghost use Rattle.bit_addressing_memory.specs.Straight.{Goes, IsStraight};
-ghost use Rattle.bit_addressing_memory.specs.declared.direction.Direction.{Direction};
+ghost use Rattle.bit_addressing_memory.specs.Straight.{IsStraight};
 ghost use Rattle.bit_addressing_memory.specs.Moves.{Moves, changed};
 ghost use Rattle.bit_addressing_memory.specs.MoveSteps.{IsGathered, PutsWords};
 ghost use Rattle.bit_addressing_memory.specs.Sweep.{IsFresh, SameButReads, sweep_lender, way_of, sweep_words, writes_of};
@@ -13,7 +12,7 @@ ghost use Rattle.bit_addressing_memory.specs.Sweep.{reads_of};
 ghost use Rattle.bit_addressing_memory.specs.Ways.{way_for};
 
 use crate::bulk_ops::{BulkOp, bit_loop_limit};
-use crate::direction::{Direction, direction_of};
+use crate::direction::Straight;
 use crate::entry::{read_bit, write_bit};
 use crate::limbs::with_bits;
 use crate::one_place::put_straight;
@@ -61,8 +60,8 @@ pub fn move_in<R: BitRegister, O: BitOrder<R>>(
     if len == 0 {
         return;
     }
-    match direction_of::<R, O>() {
-        Some(direction) => put_straight::<R, O>(sweep, direction, source, target, len),
+    match Straight::<R, O>::find() {
+        Some(straight) => put_straight::<R, O>(sweep, straight, source, target, len),
         None => put_gathered::<R, O>(sweep, source, target, len),
     }
 }
@@ -134,13 +133,12 @@ fn gathered<R: BitRegister, O: BitOrder<R>>(
 #[inline(always)]
 pub fn taken<R: BitRegister, O: BitOrder<R>>(
     sweep: &mut Sweep<'_, R>,
-    direction: Option<Direction>,
+    straight: Option<Straight<R, O>>,
     place: usize,
     own: R,
     from: u8,
     upto: u8,
 ) -> R
-    requires goes { (d : Direction) → direction ≡ Some d → Goes R.BITS O.position d }
     requires order { from < upto }
     requires index { upto ≤ R.BITS }
     requires lies { Lies R.BITS (sweep_words sweep.old) place (upto - from) }
@@ -148,13 +146,13 @@ pub fn taken<R: BitRegister, O: BitOrder<R>>(
         (λ i. entry (read_by R.BitRegister O.position) (sweep_words sweep.old) (place + (i - from))) }
     ensures reads { reads_of sweep.new ≤ reads_of sweep.old + (upto - from) }
     ensures some { min (reads_of sweep.old + 1) (2 ^ 64 - 1) ≤ reads_of sweep.new }
-    ensures straight { (d : Direction) → direction ≡ Some d → reads_of sweep.new
-        ≡ min (reads_of sweep.old + touched R.BITS place (upto - from)) (2 ^ 64 - 1) }
+    ensures straight { IfSome straight (λ _. reads_of sweep.new
+        ≡ min (reads_of sweep.old + touched R.BITS place (upto - from)) (2 ^ 64 - 1)) }
     ensures same { SameButReads sweep.old sweep.new }
     ensures lender { sweep_lender sweep.new ≡ sweep_lender sweep.old }
 {
-    match direction {
-        Some(direction) => with_shifted::<R, O>(sweep, direction, place, own, from, upto),
+    match straight {
+        Some(straight) => with_shifted::<R, O>(sweep, straight, place, own, from, upto),
         None => taken_turned::<R, O>(sweep, place, own, from, upto),
     }
 }

@@ -4,12 +4,11 @@
 ghost use Rattle.std.specs.Prelude.{◌≡◌, ℕ, ◌+◌, ◌-◌, ◌*◌, ◌/◌, ◌^◌, ◌<◌, ◌≤◌, length, slice_index_or};
 ghost use Rattle.bit_addressing_memory.specs.Lies.{Lies};
 ghost use Rattle.bit_addressing_memory.specs.Memory.{entry, indexed, read_by};
-ghost use Rattle.bit_addressing_memory.specs.Straight.{Goes};
 ghost use Rattle.bit_addressing_memory.specs.MoveSteps.{PutsWords};
 ghost use Rattle.bit_addressing_memory.specs.Sweep.{IsFresh, SameButReads, edge_of, reads_of, sweep_lender, sweep_words, way_of};
 ghost use Rattle.bit_addressing_memory.specs.Ways.{IsPast, edge_after, way_for};
 
-use crate::direction::Direction;
+use crate::direction::Straight;
 use crate::masking::stored;
 use crate::shift::{joined, raised};
 use crate::shifted::{put_joined_down, put_joined_up, put_shifted};
@@ -21,12 +20,11 @@ use bit_addressing_order::{BitEnd, BitIdx, BitOrder, BitRegister};
 #[inline(always)]
 pub(crate) fn put_straight<R: BitRegister, O: BitOrder<R>>(
     sweep: &mut Sweep<'_, R>,
-    direction: Direction,
+    straight: Straight<R, O>,
     source: usize,
     target: usize,
     len: usize,
 )
-    requires goes { Goes R.BITS O.position direction }
     requires fresh { IsFresh sweep.old (way_for source target) }
     requires some { 0 < len }
     requires source_lies { Lies R.BITS (sweep_words sweep.old) source len }
@@ -36,26 +34,25 @@ pub(crate) fn put_straight<R: BitRegister, O: BitOrder<R>>(
     ensures reads { reads_of sweep.new + 3 * (target / R.BITS) ≤ 3 * ((target + len - 1) / R.BITS + 1) }
 {
     if source + 1 == target {
-        move_up_by_one::<R, O>(sweep, direction, source, target, len);
+        move_up_by_one::<R, O>(sweep, straight, source, target, len);
         return;
     }
     if target + 1 == source {
-        move_down_by_one::<R, O>(sweep, direction, source, target, len);
+        move_down_by_one::<R, O>(sweep, straight, source, target, len);
         return;
     }
-    put_shifted::<R, O>(sweep, direction, source, target, len);
+    put_shifted::<R, O>(sweep, straight, source, target, len);
 }
 
 // Moves bits one place up, towards the last word: the sweep goes down.
 #[inline(always)]
 fn move_up_by_one<R: BitRegister, O: BitOrder<R>>(
     sweep: &mut Sweep<'_, R>,
-    direction: Direction,
+    straight: Straight<R, O>,
     source: usize,
     target: usize,
     len: usize,
 )
-    requires goes { Goes R.BITS O.position direction }
     requires fresh { IsFresh sweep.old (way_for source target) }
     requires some { 0 < len }
     requires near { source + 1 ≡ target }
@@ -68,11 +65,11 @@ fn move_up_by_one<R: BitRegister, O: BitOrder<R>>(
     let bits = bits_of::<R>();
     let first = target / bits;
     let last = (target + len - 1) / bits;
-    put_one_before::<R, O>(sweep, direction, last, source, target, len);
+    put_one_before::<R, O>(sweep, straight, last, source, target, len);
     if first < last {
         put_joined_down::<R, O>(
             sweep,
-            direction,
+            straight,
             first + 1,
             last,
             first,
@@ -81,7 +78,7 @@ fn move_up_by_one<R: BitRegister, O: BitOrder<R>>(
             target,
             len,
         );
-        put_one_before::<R, O>(sweep, direction, first, source, target, len);
+        put_one_before::<R, O>(sweep, straight, first, source, target, len);
     }
 }
 
@@ -89,12 +86,11 @@ fn move_up_by_one<R: BitRegister, O: BitOrder<R>>(
 #[inline(always)]
 fn move_down_by_one<R: BitRegister, O: BitOrder<R>>(
     sweep: &mut Sweep<'_, R>,
-    direction: Direction,
+    straight: Straight<R, O>,
     source: usize,
     target: usize,
     len: usize,
 )
-    requires goes { Goes R.BITS O.position direction }
     requires fresh { IsFresh sweep.old (way_for source target) }
     requires some { 0 < len }
     requires near { target + 1 ≡ source }
@@ -107,11 +103,11 @@ fn move_down_by_one<R: BitRegister, O: BitOrder<R>>(
     let bits = bits_of::<R>();
     let first = target / bits;
     let last = (target + len - 1) / bits;
-    put_one_behind::<R, O>(sweep, direction, first, source, target, len);
+    put_one_behind::<R, O>(sweep, straight, first, source, target, len);
     if first < last {
         put_joined_up::<R, O>(
             sweep,
-            direction,
+            straight,
             first + 1,
             last,
             first + 1,
@@ -120,7 +116,7 @@ fn move_down_by_one<R: BitRegister, O: BitOrder<R>>(
             target,
             len,
         );
-        put_one_behind::<R, O>(sweep, direction, last, source, target, len);
+        put_one_behind::<R, O>(sweep, straight, last, source, target, len);
     }
 }
 
@@ -128,13 +124,12 @@ fn move_down_by_one<R: BitRegister, O: BitOrder<R>>(
 #[inline(always)]
 fn put_one_before<R: BitRegister, O: BitOrder<R>>(
     sweep: &mut Sweep<'_, R>,
-    direction: Direction,
+    straight: Straight<R, O>,
     k: usize,
     source: usize,
     target: usize,
     len: usize,
 )
-    requires goes { Goes R.BITS O.position direction }
     requires near { source + 1 ≡ target }
     requires past { IsPast (way_of sweep.old) (edge_of sweep.old) k }
     requires within { k < length (sweep_words sweep.old) }
@@ -150,7 +145,7 @@ fn put_one_before<R: BitRegister, O: BitOrder<R>>(
     let from = target.saturating_sub(start);
     let upto = bits.min(target + len - start);
     let own = sweep.read(k);
-    let before = bits_before::<R, O>(sweep, direction, k, own, from);
+    let before = bits_before::<R, O>(sweep, straight, k, own, from);
     let head = BitIdx::new_unchecked(from as u8);
     let tail = BitEnd::new_unchecked(upto as u8);
     sweep.put(k, stored::<R, O>(own, before, head, tail));
@@ -160,12 +155,11 @@ fn put_one_before<R: BitRegister, O: BitOrder<R>>(
 #[inline(always)]
 fn bits_before<R: BitRegister, O: BitOrder<R>>(
     sweep: &mut Sweep<'_, R>,
-    direction: Direction,
+    straight: Straight<R, O>,
     k: usize,
     own: R,
     from: usize,
 ) -> R
-    requires goes { Goes R.BITS O.position direction }
     requires within { k < length (sweep_words sweep.old) }
     requires own { own ≡ slice_index_or (sweep_words sweep.old) k own }
     requires some { 0 < k * R.BITS + from }
@@ -176,23 +170,22 @@ fn bits_before<R: BitRegister, O: BitOrder<R>>(
     ensures lender { sweep_lender sweep.new ≡ sweep_lender sweep.old }
 {
     if from > 0 {
-        return raised::<R, O>(direction, own, 1);
+        return raised::<R, O>(straight.direction, own, 1);
     }
     let before = sweep.read(k - 1);
-    joined::<R, O>(direction, before, own, R::BITS - 1)
+    joined::<R, O>(straight.direction, before, own, R::BITS - 1)
 }
 
 // Puts the word `k` of a move by one place down: the bits one place behind inside the target, its own beside it.
 #[inline(always)]
 fn put_one_behind<R: BitRegister, O: BitOrder<R>>(
     sweep: &mut Sweep<'_, R>,
-    direction: Direction,
+    straight: Straight<R, O>,
     k: usize,
     source: usize,
     target: usize,
     len: usize,
 )
-    requires goes { Goes R.BITS O.position direction }
     requires near { target + 1 ≡ source }
     requires past { IsPast (way_of sweep.old) (edge_of sweep.old) k }
     requires source_within { source + len ≤ length (sweep_words sweep.old) * R.BITS }
@@ -208,7 +201,7 @@ fn put_one_behind<R: BitRegister, O: BitOrder<R>>(
     let from = target.saturating_sub(start);
     let upto = bits.min(target + len - start);
     let own = sweep.read(k);
-    let behind = bits_behind::<R, O>(sweep, direction, k, own, upto);
+    let behind = bits_behind::<R, O>(sweep, straight, k, own, upto);
     let head = BitIdx::new_unchecked(from as u8);
     let tail = BitEnd::new_unchecked(upto as u8);
     sweep.put(k, stored::<R, O>(own, behind, head, tail));
@@ -218,12 +211,11 @@ fn put_one_behind<R: BitRegister, O: BitOrder<R>>(
 #[inline(always)]
 fn bits_behind<R: BitRegister, O: BitOrder<R>>(
     sweep: &mut Sweep<'_, R>,
-    direction: Direction,
+    straight: Straight<R, O>,
     k: usize,
     own: R,
     upto: usize,
 ) -> R
-    requires goes { Goes R.BITS O.position direction }
     requires own { own ≡ slice_index_or (sweep_words sweep.old) k own }
     requires index { upto ≤ R.BITS }
     requires within { k * R.BITS + upto < length (sweep_words sweep.old) * R.BITS }
@@ -234,8 +226,8 @@ fn bits_behind<R: BitRegister, O: BitOrder<R>>(
     ensures lender { sweep_lender sweep.new ≡ sweep_lender sweep.old }
 {
     if upto < bits_of::<R>() {
-        return joined::<R, O>(direction, own, own, 1);
+        return joined::<R, O>(straight.direction, own, own, 1);
     }
     let behind = sweep.read(k + 1);
-    joined::<R, O>(direction, own, behind, 1)
+    joined::<R, O>(straight.direction, own, behind, 1)
 }

@@ -8,13 +8,12 @@ ghost use Rattle.std.specs.Prelude.{◌≡◌, ◌+◌, ◌-◌, ◌*◌, ◌/�
 ghost use Rattle.bit_addressing_memory.specs.Lies.{Lies};
 ghost use Rattle.bit_addressing_memory.specs.Memory.{entry, read_by, touched};
 ghost use Rattle.bit_addressing_memory.specs.Partial.{IsStored};
-ghost use Rattle.bit_addressing_memory.specs.Straight.{Goes};
 ghost use Rattle.bit_addressing_memory.specs.declared.sweep.Way.TheVariants.{Up, Down};
 ghost use Rattle.bit_addressing_memory.specs.MoveSteps.{BeginsWith, IsGathered, PutsWords};
 ghost use Rattle.bit_addressing_memory.specs.Sweep.{IsFresh, SameButReads, edge_of, reads_of, sweep_lender, sweep_words, way_of};
 ghost use Rattle.bit_addressing_memory.specs.Ways.{IsPast, edge_after, way_for};
 
-use crate::direction::Direction;
+use crate::direction::Straight;
 use crate::masking::stored;
 use crate::shift::{joined, raised};
 use crate::sweep::{Sweep, Way};
@@ -25,12 +24,11 @@ use bit_addressing_order::{BitEnd, BitIdx, BitOrder, BitRegister};
 #[inline(always)]
 pub(crate) fn put_shifted<R: BitRegister, O: BitOrder<R>>(
     sweep: &mut Sweep<'_, R>,
-    direction: Direction,
+    straight: Straight<R, O>,
     source: usize,
     target: usize,
     len: usize,
 )
-    requires goes { Goes R.BITS O.position direction }
     requires fresh { IsFresh sweep.old (way_for source target) }
     requires some { 0 < len }
     requires source_lies { Lies R.BITS (sweep_words sweep.old) source len }
@@ -44,17 +42,17 @@ pub(crate) fn put_shifted<R: BitRegister, O: BitOrder<R>>(
     let last = (target + len - 1) / bits;
     match sweep.way() {
         Way::Up => {
-            put_edge::<R, O>(sweep, direction, first, source, target, len);
+            put_edge::<R, O>(sweep, straight, first, source, target, len);
             if first < last {
-                put_up::<R, O>(sweep, direction, first + 1, last, source, target, len);
-                put_edge::<R, O>(sweep, direction, last, source, target, len);
+                put_up::<R, O>(sweep, straight, first + 1, last, source, target, len);
+                put_edge::<R, O>(sweep, straight, last, source, target, len);
             }
         }
         Way::Down => {
-            put_edge::<R, O>(sweep, direction, last, source, target, len);
+            put_edge::<R, O>(sweep, straight, last, source, target, len);
             if first < last {
-                put_down::<R, O>(sweep, direction, first + 1, last, source, target, len);
-                put_edge::<R, O>(sweep, direction, first, source, target, len);
+                put_down::<R, O>(sweep, straight, first + 1, last, source, target, len);
+                put_edge::<R, O>(sweep, straight, first, source, target, len);
             }
         }
     }
@@ -64,14 +62,13 @@ pub(crate) fn put_shifted<R: BitRegister, O: BitOrder<R>>(
 #[inline(always)]
 fn put_up<R: BitRegister, O: BitOrder<R>>(
     sweep: &mut Sweep<'_, R>,
-    direction: Direction,
+    straight: Straight<R, O>,
     low: usize,
     high: usize,
     source: usize,
     target: usize,
     len: usize,
 )
-    requires goes { Goes R.BITS O.position direction }
     requires way { way_of sweep.old ≡ Up }
     requires edge { edge_of sweep.old ≤ low }
     requires order { low ≤ high }
@@ -88,7 +85,7 @@ fn put_up<R: BitRegister, O: BitOrder<R>>(
     let place = source + (low * bits - target);
     put_joined_up::<R, O>(
         sweep,
-        direction,
+        straight,
         low,
         high,
         place / bits,
@@ -103,14 +100,13 @@ fn put_up<R: BitRegister, O: BitOrder<R>>(
 #[inline(always)]
 fn put_down<R: BitRegister, O: BitOrder<R>>(
     sweep: &mut Sweep<'_, R>,
-    direction: Direction,
+    straight: Straight<R, O>,
     low: usize,
     high: usize,
     source: usize,
     target: usize,
     len: usize,
 )
-    requires goes { Goes R.BITS O.position direction }
     requires way { way_of sweep.old ≡ Down }
     requires edge { high ≤ edge_of sweep.old }
     requires order { low ≤ high }
@@ -127,7 +123,7 @@ fn put_down<R: BitRegister, O: BitOrder<R>>(
     let place = source + (low * bits - target);
     put_joined_down::<R, O>(
         sweep,
-        direction,
+        straight,
         low,
         high,
         place / bits,
@@ -142,7 +138,7 @@ fn put_down<R: BitRegister, O: BitOrder<R>>(
 #[inline(always)]
 pub(crate) fn put_joined_up<R: BitRegister, O: BitOrder<R>>(
     sweep: &mut Sweep<'_, R>,
-    direction: Direction,
+    straight: Straight<R, O>,
     low: usize,
     high: usize,
     word: usize,
@@ -151,7 +147,6 @@ pub(crate) fn put_joined_up<R: BitRegister, O: BitOrder<R>>(
     target: usize,
     len: usize,
 )
-    requires goes { Goes R.BITS O.position direction }
     requires way { way_of sweep.old ≡ Up }
     requires edge { edge_of sweep.old ≤ low }
     requires order { low ≤ high }
@@ -167,7 +162,7 @@ pub(crate) fn put_joined_up<R: BitRegister, O: BitOrder<R>>(
     ensures reads { reads_of sweep.new + 3 * low ≤ reads_of sweep.old + 3 * high }
 {
     'up: for k in low..high {
-        let whole = cut::<R, O>(sweep, direction, word + (k - low), by);
+        let whole = cut::<R, O>(sweep, straight, word + (k - low), by);
         sweep.put(k, whole);
     }
 }
@@ -176,7 +171,7 @@ pub(crate) fn put_joined_up<R: BitRegister, O: BitOrder<R>>(
 #[inline(always)]
 pub(crate) fn put_joined_down<R: BitRegister, O: BitOrder<R>>(
     sweep: &mut Sweep<'_, R>,
-    direction: Direction,
+    straight: Straight<R, O>,
     low: usize,
     high: usize,
     word: usize,
@@ -185,7 +180,6 @@ pub(crate) fn put_joined_down<R: BitRegister, O: BitOrder<R>>(
     target: usize,
     len: usize,
 )
-    requires goes { Goes R.BITS O.position direction }
     requires way { way_of sweep.old ≡ Down }
     requires edge { high ≤ edge_of sweep.old }
     requires order { low ≤ high }
@@ -201,7 +195,7 @@ pub(crate) fn put_joined_down<R: BitRegister, O: BitOrder<R>>(
     ensures reads { reads_of sweep.new + 3 * low ≤ reads_of sweep.old + 3 * high }
 {
     'down: for k in (low..high).rev() {
-        let whole = cut::<R, O>(sweep, direction, word + (k - low), by);
+        let whole = cut::<R, O>(sweep, straight, word + (k - low), by);
         sweep.put(k, whole);
     }
 }
@@ -210,13 +204,12 @@ pub(crate) fn put_joined_down<R: BitRegister, O: BitOrder<R>>(
 #[inline(never)]
 fn put_edge<R: BitRegister, O: BitOrder<R>>(
     sweep: &mut Sweep<'_, R>,
-    direction: Direction,
+    straight: Straight<R, O>,
     k: usize,
     source: usize,
     target: usize,
     len: usize,
 )
-    requires goes { Goes R.BITS O.position direction }
     requires some { 0 < len }
     requires past { IsPast (way_of sweep.old) (edge_of sweep.old) k }
     requires within { k < length (sweep_words sweep.old) }
@@ -228,20 +221,19 @@ fn put_edge<R: BitRegister, O: BitOrder<R>>(
     ensures edge { edge_of sweep.new ≡ edge_after (way_of sweep.old) k }
     ensures reads { reads_of sweep.new ≤ reads_of sweep.old + 3 }
 {
-    let word = shifted::<R, O>(sweep, direction, k, source, target, len);
+    let word = shifted::<R, O>(sweep, straight, k, source, target, len);
     sweep.put(k, word);
 }
 
 // The word `k` as the move leaves it: the source's bits inside the target, its own beside it.
 fn shifted<R: BitRegister, O: BitOrder<R>>(
     sweep: &mut Sweep<'_, R>,
-    direction: Direction,
+    straight: Straight<R, O>,
     k: usize,
     source: usize,
     target: usize,
     len: usize,
 ) -> R
-    requires goes { Goes R.BITS O.position direction }
     requires some { 0 < len }
     requires within { k < length (sweep_words sweep.old) }
     requires source_lies { Lies R.BITS (sweep_words sweep.old) source len }
@@ -260,8 +252,8 @@ fn shifted<R: BitRegister, O: BitOrder<R>>(
     let upto = bits.min(target + len - start);
     let own = sweep.read(k);
     let place = source + (start + from - target);
-    let moved = bits_from::<R, O>(sweep, direction, place, upto - from);
-    let there = raised::<R, O>(direction, moved, from as u8);
+    let moved = bits_from::<R, O>(sweep, straight, place, upto - from);
+    let there = raised::<R, O>(straight.direction, moved, from as u8);
     let head = BitIdx::new_unchecked(from as u8);
     let tail = BitEnd::new_unchecked(upto as u8);
     stored::<R, O>(own, there, head, tail)
@@ -272,11 +264,10 @@ fn shifted<R: BitRegister, O: BitOrder<R>>(
 #[inline(always)]
 fn bits_from<R: BitRegister, O: BitOrder<R>>(
     sweep: &mut Sweep<'_, R>,
-    direction: Direction,
+    straight: Straight<R, O>,
     place: usize,
     count: usize,
 ) -> R
-    requires goes { Goes R.BITS O.position direction }
     requires some { 0 < count }
     requires most { count ≤ R.BITS }
     requires within { place + count ≤ length (sweep_words sweep.old) * R.BITS }
@@ -295,20 +286,19 @@ fn bits_from<R: BitRegister, O: BitOrder<R>>(
         if index == 0 {
             return first;
         }
-        return joined::<R, O>(direction, first, first, index as u8);
+        return joined::<R, O>(straight.direction, first, first, index as u8);
     }
-    cut::<R, O>(sweep, direction, word, index)
+    cut::<R, O>(sweep, straight, word, index)
 }
 
 // The word that begins at the index `by` of the memory's word `word`, and goes on in the next one.
 #[inline(always)]
 fn cut<R: BitRegister, O: BitOrder<R>>(
     sweep: &mut Sweep<'_, R>,
-    direction: Direction,
+    straight: Straight<R, O>,
     word: usize,
     by: usize,
 ) -> R
-    requires goes { Goes R.BITS O.position direction }
     requires index { by < R.BITS }
     requires first { word < length (sweep_words sweep.old) }
     requires next { 0 < by → word + 1 < length (sweep_words sweep.old) }
@@ -325,7 +315,7 @@ fn cut<R: BitRegister, O: BitOrder<R>>(
         return first;
     }
     let next = sweep.read(word + 1);
-    joined::<R, O>(direction, first, next, by as u8)
+    joined::<R, O>(straight.direction, first, next, by as u8)
 }
 
 // A word with the bits of the sweep's words from a place on at its indices from one up to before another. Its other bits
@@ -333,13 +323,12 @@ fn cut<R: BitRegister, O: BitOrder<R>>(
 #[inline(always)]
 pub(crate) fn with_shifted<R: BitRegister, O: BitOrder<R>>(
     sweep: &mut Sweep<'_, R>,
-    direction: Direction,
+    straight: Straight<R, O>,
     place: usize,
     own: R,
     from: u8,
     upto: u8,
 ) -> R
-    requires goes { Goes R.BITS O.position direction }
     requires order { from < upto }
     requires index { upto ≤ R.BITS }
     requires within { place + (upto - from) ≤ length (sweep_words sweep.old) * R.BITS }
@@ -349,8 +338,8 @@ pub(crate) fn with_shifted<R: BitRegister, O: BitOrder<R>>(
     ensures same { SameButReads sweep.old sweep.new }
     ensures lender { sweep_lender sweep.new ≡ sweep_lender sweep.old }
 {
-    let moved = bits_from::<R, O>(sweep, direction, place, (upto - from) as usize);
-    let there = raised::<R, O>(direction, moved, from);
+    let moved = bits_from::<R, O>(sweep, straight, place, (upto - from) as usize);
+    let there = raised::<R, O>(straight.direction, moved, from);
     let head = BitIdx::new_unchecked(from);
     stored::<R, O>(own, there, head, BitEnd::new_unchecked(upto))
 }

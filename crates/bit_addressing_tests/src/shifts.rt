@@ -1,7 +1,7 @@
 //! Rows of directions and of words cut by shifts.
 
-use bit_addressing::shifts::{Direction, direction_of, goes, joined, raised};
-use bit_addressing::{BitRegister, Lsb0, Msb0};
+use bit_addressing::shifts::{Direction, Straight, direction_of, goes, joined, raised};
+use bit_addressing::{BitRegister, Lsb0, Msb0, Positions};
 use bit_addressing_sample_orders::FifthStep;
 
 // The directions of the orders of the crate, and of another one.
@@ -27,6 +27,23 @@ fn directions_of_orders(rt: HostRuntime) {
     assert!(rt; directions::<usize>() == wanted);
     assert!(rt; directions::<u128>() == wanted);
     assert!(rt; goes::<u8, Msb0>(Direction::Descending) && !goes::<u8, Msb0>(Direction::Ascending));
+}
+
+// The direction that a `Straight` of the order has, where one is found.
+fn found<R: BitRegister, P: Positions<R>>() -> Option<Direction> {
+    match Straight::<R, P>::find() {
+        Some(straight) => Some(straight.direction),
+        None => None,
+    }
+}
+
+#[test]
+fn straight_orders_are_found(rt: HostRuntime) {
+    assert!(rt; found::<u8, Lsb0>() == Some(Direction::Ascending));
+    assert!(rt; found::<u8, Msb0>() == Some(Direction::Descending));
+    assert!(rt; found::<u128, Lsb0>() == Some(Direction::Ascending));
+    assert!(rt; found::<u128, Msb0>() == Some(Direction::Descending));
+    assert!(rt; found::<u8, FifthStep>() == None && found::<u128, FifthStep>() == None);
 }
 
 #[test]

@@ -13,19 +13,19 @@ abbrev pub first_bits : {R : Type 0} → Reading R → List R → List Bool
 first_bits reading words = piece (memory reading words) 0 (min (length words * reading.bits) MAX_BITS)
 
 -- the words of an array, as its value gives them
-abbrev pub array_words : {A O S R : Type 0} → (A → List R) → BitArray A O S → List R
+abbrev pub array_words : {A O S C R : Type 0} → (A → List R) → BitArray A O S C → List R
 array_words words array = words array.words
 
 -- its bits, at words that are read so
-abbrev pub array_bits : {A O S R : Type 0} → Reading R → (A → List R) → BitArray A O S → List Bool
+abbrev pub array_bits : {A O S C R : Type 0} → Reading R → (A → List R) → BitArray A O S C → List Bool
 array_bits reading words array = first_bits reading (array_words words array)
 
 -- what no write of bits of the list changes: how many words there are, and the bits behind the list, where the words
 -- have more than `MAX_BITS`
-abbrev pub array_frame : {A O S R : Type 0} → Reading R → (A → List R) → BitArray A O S → Frame (Unit {0})
+abbrev pub array_frame : {A O S C R : Type 0} → Reading R → (A → List R) → BitArray A O S C → Frame (Unit {0})
 array_frame reading words array =
     frame_of reading tt (array_words words array) 0 (length (array_bits reading words array))
 
 -- the array with another value
-abbrev pub array_with : {A O S : Type 0} → BitArray A O S → A → BitArray A O S
+abbrev pub array_with : {A O S C : Type 0} → BitArray A O S C → A → BitArray A O S C
 array_with array words = record array { words = words }

@@ -21,7 +21,7 @@ impl<A: BitViewSized, O: BitOrder<A::Store>> BitArray<A, O> {
         ensures same_reference { IfSome result (λ bit. bit_loan bit ≡ self.entry.ghost_name) }
         ensures value { IfSome result (λ bit. bit_view bit ≡ self.old) }
         ensures index { IfSome result (λ bit. bit_index bit ≡ i) }
-        ensures* rests { sem 𝓛 (RestsIfNone (the_row A.row O.row A.Store.row) self.entry bit_loan result (λ n. n ≡ self.old)) }
+        ensures* rests { sem 𝓛 (RestsIfNone (the_row A.row O.row A.Store.row A.Access.row) self.entry bit_loan result (λ n. n ≡ self.old)) }
     {
         if i < self.len() {
             Some(BitMut::new(self, i))
@@ -36,7 +36,7 @@ impl<A: BitViewSized, O: BitOrder<A::Store>> BitArray<A, O> {
         ensures same_reference { IfSome result (λ bit. bit_loan bit ≡ self.entry.ghost_name) }
         ensures value { IfSome result (λ bit. bit_view bit ≡ self.old) }
         ensures index { IfSome result (λ bit. bit_index bit ≡ 0) }
-        ensures* rests { sem 𝓛 (RestsIfNone (the_row A.row O.row A.Store.row) self.entry bit_loan result (λ n. n ≡ self.old)) }
+        ensures* rests { sem 𝓛 (RestsIfNone (the_row A.row O.row A.Store.row A.Access.row) self.entry bit_loan result (λ n. n ≡ self.old)) }
     {
         if self.len() == 0 {
             return None;
@@ -50,7 +50,7 @@ impl<A: BitViewSized, O: BitOrder<A::Store>> BitArray<A, O> {
         ensures same_reference { IfSome result (λ bit. bit_loan bit ≡ self.entry.ghost_name) }
         ensures value { IfSome result (λ bit. bit_view bit ≡ self.old) }
         ensures index { IfSome result (λ bit. bit_index bit + 1 ≡ length (array_bits (read_by A.Store.BitRegister O.position) A.words self.old)) }
-        ensures* rests { sem 𝓛 (RestsIfNone (the_row A.row O.row A.Store.row) self.entry bit_loan result (λ n. n ≡ self.old)) }
+        ensures* rests { sem 𝓛 (RestsIfNone (the_row A.row O.row A.Store.row A.Access.row) self.entry bit_loan result (λ n. n ≡ self.old)) }
     {
         let len = self.len();
         if len == 0 {

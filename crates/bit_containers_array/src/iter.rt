@@ -66,7 +66,7 @@ impl<A: BitViewSized, O: BitOrder<A::Store>> IntoIter<A, O> {
             ≡ left_bits (read_by A.Store.BitRegister O.position) A.words self.old }
         ensures words { lent_words result ≡ left_words A.words self.old }
         ensures place { lent_place result ≡ left_place (read_by A.Store.BitRegister O.position) A.words self.old }
-        ensures* lends { sem 𝓛 (follows (the_row A.row O.row A.Store.row) (Array A.Store.row 0)
+        ensures* lends { sem 𝓛 (follows (the_row A.row O.row A.Store.row A.Access.row) (Array A.Store.row 0)
             self.entry.ghost_name (lent_lender result) (left_with A.with_words self.old)) }
     {
         let all = self.array.len();
@@ -92,7 +92,7 @@ impl<A: BitViewSized, O: BitOrder<A::Store>> IntoIter<A, O> {
             ≡ left_bits (read_by A.Store.BitRegister O.position) A.words self.old }
         ensures words { lent_words result ≡ left_words A.words self.old }
         ensures place { lent_place result ≡ left_place (read_by A.Store.BitRegister O.position) A.words self.old }
-        ensures* lends { sem 𝓛 (follows (the_row A.row O.row A.Store.row) (Array A.Store.row 0)
+        ensures* lends { sem 𝓛 (follows (the_row A.row O.row A.Store.row A.Access.row) (Array A.Store.row 0)
             self.entry.ghost_name (lent_lender result) (left_with A.with_words self.old)) }
     {
         self.as_mut_bitslice()

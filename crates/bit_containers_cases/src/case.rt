@@ -33,7 +33,7 @@ pub fn answer(alloc: Global, line: &str) -> Result<String, AllocError> {
 // The arrays of none to three words are types of their own here: of an array of a type parameter a call would owe that it
 // fits the memory.
 fn in_words<
-    T: BitStore,
+    T: BitStore + BitViewSized<Store = T>,
     Zero: BitViewSized<Store = T>,
     One: BitViewSized<Store = T>,
     Two: BitViewSized<Store = T>,
@@ -49,7 +49,7 @@ fn in_words<
 
 // A case of an operator has two windows.
 fn in_paths<
-    T: BitStore,
+    T: BitStore + BitViewSized<Store = T>,
     Zero: BitViewSized<Store = T>,
     One: BitViewSized<Store = T>,
     Two: BitViewSized<Store = T>,
@@ -76,7 +76,7 @@ fn in_paths<
 }
 
 fn in_order<
-    T: BitStore,
+    T: BitStore + BitViewSized<Store = T>,
     Zero: BitViewSized<Store = T>,
     One: BitViewSized<Store = T>,
     Two: BitViewSized<Store = T>,

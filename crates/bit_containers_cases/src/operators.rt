@@ -44,7 +44,7 @@ fn value<L: BitAnd<R, Output = L> + BitOr<R, Output = L> + BitXor<R, Output = L>
 
 /// The results of an operator on vectors, boxes, windows that are lent and arrays; or a vector that takes over a list.
 pub fn combine<
-    T: BitStore,
+    T: BitStore + BitViewSized<Store = T>,
     Two: BitViewSized<Store = T>,
     Three: BitViewSized<Store = T>,
     O: WordPaths<T>,
@@ -128,7 +128,7 @@ fn boxes<T: BitStore, O: WordPaths<T>>(
 
 // The list is lent by a vector or a box, and stands on the left of a vector, of a box and, where the right list is one, of
 // an array of a word.
-fn windows<T: BitStore, O: WordPaths<T>>(
+fn windows<T: BitStore + BitViewSized<Store = T>, O: WordPaths<T>>(
     alloc: Global,
     text: &mut String,
     how: &str,

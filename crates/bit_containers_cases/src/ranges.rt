@@ -2,7 +2,7 @@
 
 ghost use Rattle.std.specs.Prelude.{◌≤◌, length};
 ghost use Rattle.bit_containers.specs.Memory.{read_by};
-ghost use Rattle.bit_containers_vector.specs.Vector.{vec_bits};
+ghost use Rattle.bit_containers.specs.Vector.{vec_bits};
 
 use crate::call::Call;
 use crate::shown::{push_bit, push_list, push_turns};

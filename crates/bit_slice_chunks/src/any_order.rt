@@ -13,7 +13,7 @@ ghost use Rattle.bit_slice_chunks.specs.Combined.{combined_bit};
 use crate::chunk::faced;
 use crate::combination::{Combination, combined};
 use crate::{combine, transfer, whole};
-use bit_addressing_memory::{BitOrder, BitRegister, Direction, bits_in, direction_of, put_bits_in};
+use bit_addressing_memory::{BitOrder, BitRegister, Direction, Straight, bits_in, put_bits_in};
 
 /// The direction in which chunks of an order are had without a turn: that of its positions where they go straight.
 #[inline(always)]
@@ -21,8 +21,8 @@ pub fn direction_for<R: BitRegister, O: BitOrder<R>>() -> Direction
     ensures goes { (way : Direction) → Goes R.BITS O.position way → result ≡ way }
     ensures other { (IsStraight R.BITS O.position → ⊥) → result ≡ Ascending }
 {
-    match direction_of::<R, O>() {
-        Some(way) => way,
+    match Straight::<R, O>::find() {
+        Some(straight) => straight.direction,
         None => Direction::Ascending,
     }
 }
@@ -41,10 +41,10 @@ pub fn read_bits<R: BitRegister, O: BitOrder<R>>(
     requires lies { Lies R.BITS words.now place count }
     ensures { IsChunk (read_by R.BitRegister O.position) words.now place count direction result }
 {
-    match direction_of::<R, O>() {
-        Some(way) => {
-            let chunk = transfer::read_bits::<R, O>(way, words, place, count);
-            faced(way, direction, chunk)
+    match Straight::<R, O>::find() {
+        Some(straight) => {
+            let chunk = transfer::read_bits::<R, O>(straight, words, place, count);
+            faced(straight.direction, direction, chunk)
         }
         None => {
             let chunk = bits_in::<R, O>(words, place, count);
@@ -66,10 +66,10 @@ pub fn read_touched<R: BitRegister, O: BitOrder<R>>(
     requires lies { Lies R.BITS words.now place count }
     ensures { IsChunk (read_by R.BitRegister O.position) words.now place count direction result }
 {
-    match direction_of::<R, O>() {
-        Some(way) => {
-            let chunk = transfer::read_counted::<R, O>(way, words, place, count).0;
-            faced(way, direction, chunk)
+    match Straight::<R, O>::find() {
+        Some(straight) => {
+            let chunk = transfer::read_counted::<R, O>(straight, words, place, count).0;
+            faced(straight.direction, direction, chunk)
         }
         None => {
             let chunk = bits_in::<R, O>(words, place, count);
@@ -102,10 +102,10 @@ pub fn read_nth_chunk<R: BitRegister, O: BitOrder<R>>(
     requires lies { Lies R.BITS words.now (place + 64 * k) 64 }
     ensures { IsChunk (read_by R.BitRegister O.position) words.now (place + 64 * k) 64 direction result }
 {
-    match direction_of::<R, O>() {
-        Some(way) => {
-            let chunk = whole::read_nth_chunk::<R, O>(way, words, place, k);
-            faced(way, direction, chunk)
+    match Straight::<R, O>::find() {
+        Some(straight) => {
+            let chunk = whole::read_nth_chunk::<R, O>(straight, words, place, k);
+            faced(straight.direction, direction, chunk)
         }
         None => {
             let chunk = bits_in::<R, O>(words, place + 64 * k, 64);
@@ -130,10 +130,10 @@ pub fn write_bits<R: BitRegister, O: BitOrder<R>>(
     ensures { Overwrites (read_by R.BitRegister O.position) words.old words.new place count
         (chunk_bit direction chunk) }
 {
-    match direction_of::<R, O>() {
-        Some(way) => {
-            let facing = faced(direction, way, chunk);
-            transfer::write_bits::<R, O>(way, words, place, count, facing);
+    match Straight::<R, O>::find() {
+        Some(straight) => {
+            let facing = faced(direction, straight.direction, chunk);
+            transfer::write_bits::<R, O>(straight, words, place, count, facing);
         }
         None => {
             let facing = faced(direction, Direction::Ascending, chunk);
@@ -154,10 +154,10 @@ pub fn write_chunk<R: BitRegister, O: BitOrder<R>>(
     ensures { Overwrites (read_by R.BitRegister O.position) words.old words.new place 64
         (chunk_bit direction chunk) }
 {
-    match direction_of::<R, O>() {
-        Some(way) => {
-            let facing = faced(direction, way, chunk);
-            combine::write_chunk::<R, O>(way, words, place, facing);
+    match Straight::<R, O>::find() {
+        Some(straight) => {
+            let facing = faced(direction, straight.direction, chunk);
+            combine::write_chunk::<R, O>(straight, words, place, facing);
         }
         None => {
             let facing = faced(direction, Direction::Ascending, chunk);
@@ -206,10 +206,10 @@ pub fn combine_chunk<R: BitRegister, O: BitOrder<R>>(
         (λ k. combined_bit how (entry (read_by R.BitRegister O.position) words.old (place + k))
         (chunk_bit direction other k)) }
 {
-    match direction_of::<R, O>() {
-        Some(way) => {
-            let facing = faced(direction, way, other);
-            combine::combine_chunk::<R, O>(way, how, words, place, facing);
+    match Straight::<R, O>::find() {
+        Some(straight) => {
+            let facing = faced(direction, straight.direction, other);
+            combine::combine_chunk::<R, O>(straight, how, words, place, facing);
         }
         None => combine_bits::<R, O>(direction, how, words, place, 64, other),
     }

@@ -5,7 +5,6 @@ ghost use Rattle.std.specs.Prelude.{◌≡◌, ◌+◌, ◌<◌, ◌≤◌, leng
 ghost use Rattle.std.specs.Prelude.{slice_index_or};
 ghost use Rattle.bit_addressing_memory.specs.Lies.{Lies};
 ghost use Rattle.bit_addressing_memory.specs.Memory.{entry, read_by, Overwrites};
-ghost use Rattle.bit_addressing_memory.specs.Straight.{Goes};
 ghost use Rattle.bit_slice_chunks.specs.Chunk.{chunk_bit};
 ghost use Rattle.bit_slice_chunks.specs.Combined.{combined_bit};
 
@@ -14,64 +13,62 @@ use crate::combination::{Combination, combined};
 use crate::transfer::{put, read_bits, write_bits};
 use crate::whole::{gathered, scattered};
 use bit_addressing_memory::mem::bits_of;
-use bit_addressing_memory::{BitOrder, BitRegister, Direction};
+use bit_addressing_memory::{BitOrder, BitRegister, Straight};
 
 /// Makes each of the `count` bits of a memory from a place on, 1 to 64, what `how` makes of it and of a chunk's: entry
-/// `place + k` by bit k. Every other bit of the memory stays. The positions go in `direction`.
+/// `place + k` by bit k. Every other bit of the memory stays.
 pub fn combine_bits<R: BitRegister, O: BitOrder<R>>(
-    direction: Direction,
+    straight: Straight<R, O>,
     how: Combination,
     words: &mut [R],
     place: usize,
     count: usize,
     other: u64,
 )
-    requires goes { Goes R.BITS O.position direction }
     requires some { 0 < count }
     requires few { count ≤ 64 }
     requires lies { Lies R.BITS words.old place count }
     ensures { Overwrites (read_by R.BitRegister O.position) words.old words.new place count
         (λ k. combined_bit how (entry (read_by R.BitRegister O.position) words.old (place + k))
-        (chunk_bit direction other k)) }
+        (chunk_bit straight.direction other k)) }
 {
-    let chunk = read_bits::<R, O>(direction, words, place, count);
-    write_bits::<R, O>(direction, words, place, count, combined(how, chunk, other));
+    let chunk = read_bits::<R, O>(straight, words, place, count);
+    write_bits::<R, O>(straight, words, place, count, combined(how, chunk, other));
 }
 
 /// Makes each of the 64 bits of a memory from a place on what `how` makes of it and of a chunk's, as `combine_bits`.
 #[inline(always)]
 pub fn combine_chunk<R: BitRegister, O: BitOrder<R>>(
-    direction: Direction,
+    straight: Straight<R, O>,
     how: Combination,
     words: &mut [R],
     place: usize,
     other: u64,
 )
-    requires goes { Goes R.BITS O.position direction }
     requires lies { Lies R.BITS words.old place 64 }
     ensures { Overwrites (read_by R.BitRegister O.position) words.old words.new place 64
         (λ k. combined_bit how (entry (read_by R.BitRegister O.position) words.old (place + k))
-        (chunk_bit direction other k)) }
+        (chunk_bit straight.direction other k)) }
 {
     if R::BITS > 64 {
-        combine_bits::<R, O>(direction, how, words, place, 64, other);
+        combine_bits::<R, O>(straight, how, words, place, 64, other);
         return;
     }
     let bits = bits_of::<R>();
     let first = place / bits;
     let by = (place % bits) as u8;
-    let low = gathered::<R, O>(direction, words, first);
+    let low = gathered::<R, O>(straight, words, first);
     if by == 0 {
-        scattered::<R, O>(direction, words, first, combined(how, low, other));
+        scattered::<R, O>(straight, words, first, combined(how, low, other));
         return;
     }
     let behind = first + 64 / bits;
-    let last = part::<R>(direction, word_at(words, behind), 0);
-    let front = combined(how, low, raised(direction, other, by));
-    let back = combined(how, last, lowered(direction, other, 64 - by));
-    let kept = first_bits(direction, low, by) | last_bits(direction, front, by);
-    scattered::<R, O>(direction, words, first, kept);
-    put::<R, O>(direction, words, behind, 0, by, back);
+    let last = part::<R>(straight.direction, word_at(words, behind), 0);
+    let front = combined(how, low, raised(straight.direction, other, by));
+    let back = combined(how, last, lowered(straight.direction, other, 64 - by));
+    let kept = first_bits(straight.direction, low, by) | last_bits(straight.direction, front, by);
+    scattered::<R, O>(straight, words, first, kept);
+    put::<R, O>(straight, words, behind, 0, by, back);
 }
 
 // A word of a memory.
@@ -86,15 +83,14 @@ fn word_at<R: BitRegister>(words: &[R], at: usize) -> R
 /// Makes the 64 bits of a memory from a place on those of a chunk, as `write_bits` does.
 #[inline(always)]
 pub fn write_chunk<R: BitRegister, O: BitOrder<R>>(
-    direction: Direction,
+    straight: Straight<R, O>,
     words: &mut [R],
     place: usize,
     chunk: u64,
 )
-    requires goes { Goes R.BITS O.position direction }
     requires lies { Lies R.BITS words.old place 64 }
     ensures { Overwrites (read_by R.BitRegister O.position) words.old words.new place 64
-        (chunk_bit direction chunk) }
+        (chunk_bit straight.direction chunk) }
 {
-    combine_chunk::<R, O>(direction, Combination::Take, words, place, chunk);
+    combine_chunk::<R, O>(straight, Combination::Take, words, place, chunk);
 }

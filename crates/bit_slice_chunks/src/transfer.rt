@@ -4,13 +4,12 @@
 ghost use Rattle.std.specs.Prelude.{◌≡◌, ◌+◌, ◌-◌, ◌*◌, ◌^◌, ◌<◌, ◌≤◌, length, true};
 ghost use Rattle.bit_addressing_memory.specs.Lies.{Lies};
 ghost use Rattle.bit_addressing_memory.specs.Memory.{read_by, touched, Overwrites};
-ghost use Rattle.bit_addressing_memory.specs.Straight.{Goes};
 ghost use Rattle.bit_slice_chunks.specs.Chunk.{chunk_bit, IsChunk};
 
 use crate::chunk::{first_bits, lowered, part, placed, raised};
 use crate::whole::read_chunk;
 use bit_addressing_memory::mem::bits_of;
-use bit_addressing_memory::{BitEnd, BitIdx, BitOrder, BitRegister, Direction, store_in};
+use bit_addressing_memory::{BitEnd, BitIdx, BitOrder, BitRegister, Straight, store_in};
 
 // Whether 64 bits from a place on are read at once: words have up to 64 bits, and there is one behind those that they fill.
 #[inline(always)]
@@ -26,108 +25,107 @@ fn has_chunk<R: BitRegister>(words: &[R], place: usize) -> bool
 }
 
 /// The `count` bits of a memory from a place on, 1 to 64, as a chunk: bit k of it is entry `place + k`, and the
-/// bits behind them are zero. The positions go in `direction`.
+/// bits behind them are zero.
 pub fn read_bits<R: BitRegister, O: BitOrder<R>>(
-    direction: Direction,
+    straight: Straight<R, O>,
     words: &[R],
     place: usize,
     count: usize,
 ) -> u64
-    requires goes { Goes R.BITS O.position direction }
     requires some { 0 < count }
     requires few { count ≤ 64 }
     requires lies { Lies R.BITS words.now place count }
-    ensures { IsChunk (read_by R.BitRegister O.position) words.now place count direction result }
+    ensures { IsChunk (read_by R.BitRegister O.position) words.now place count straight.direction result }
 {
     if has_chunk::<R>(words, place) {
-        let chunk = read_chunk::<R, O>(direction, words, place);
-        return first_bits(direction, chunk, count as u8);
+        let chunk = read_chunk::<R, O>(straight, words, place);
+        return first_bits(straight.direction, chunk, count as u8);
     }
-    read_counted::<R, O>(direction, words, place, count).0
+    read_counted::<R, O>(straight, words, place, count).0
 }
 
 /// The same by the words that the bits touch, each read once, with how many these are.
 #[inline(always)]
 pub fn read_counted<R: BitRegister, O: BitOrder<R>>(
-    direction: Direction,
+    straight: Straight<R, O>,
     words: &[R],
     place: usize,
     count: usize,
 ) -> (u64, usize)
-    requires goes { Goes R.BITS O.position direction }
     requires some { 0 < count }
     requires few { count ≤ 64 }
     requires lies { Lies R.BITS words.now place count }
-    ensures chunk { IsChunk (read_by R.BitRegister O.position) words.now place count direction result.0 }
+    ensures chunk { IsChunk (read_by R.BitRegister O.position) words.now place count straight.direction result.0 }
     ensures reads { result.1 ≡ touched R.BITS place count }
 {
     let bits = bits_of::<R>();
     let first = place / bits;
     let last = (place + count - 1) / bits;
-    let mut chunk = part::<R>(direction, words[first], (place % bits) as u8);
+    let mut chunk = part::<R>(straight.direction, words[first], (place % bits) as u8);
     let mut reads = 1;
     for k in first + 1..last + 1 {
-        let next = part::<R>(direction, words[k], 0);
+        let next = part::<R>(straight.direction, words[k], 0);
         let by = k * bits - place;
-        chunk |= raised(direction, next, by as u8);
+        chunk |= raised(straight.direction, next, by as u8);
         reads += 1;
     }
-    (first_bits(direction, chunk, count as u8), reads)
+    (first_bits(straight.direction, chunk, count as u8), reads)
 }
 
 /// The `count` bits of one word of a memory from an index on, 1 to 64, as a chunk, as `read_bits` has them.
 #[inline(always)]
 pub fn read_part<R: BitRegister, O: BitOrder<R>>(
-    direction: Direction,
+    straight: Straight<R, O>,
     words: &[R],
     word: usize,
     from: u8,
     count: u8,
 ) -> u64
-    requires goes { Goes R.BITS O.position direction }
     requires some { 0 < count }
     requires few { count ≤ 64 }
     requires inside { word < length words.now }
     requires within { from + count ≤ R.BITS }
-    ensures { IsChunk (read_by R.BitRegister O.position) words.now (word * R.BITS + from) count direction result }
+    ensures { IsChunk (read_by R.BitRegister O.position) words.now (word * R.BITS + from) count straight.direction result }
 {
-    first_bits(direction, part::<R>(direction, words[word], from), count)
+    first_bits(
+        straight.direction,
+        part::<R>(straight.direction, words[word], from),
+        count,
+    )
 }
 
 /// Makes the `count` bits of a memory from a place on, 1 to 64, those of a chunk: entry `place + k` is bit k of
-/// it. Every other bit of the memory stays. The positions go in `direction`.
+/// it. Every other bit of the memory stays.
 pub fn write_bits<R: BitRegister, O: BitOrder<R>>(
-    direction: Direction,
+    straight: Straight<R, O>,
     words: &mut [R],
     place: usize,
     count: usize,
     chunk: u64,
 )
-    requires goes { Goes R.BITS O.position direction }
     requires some { 0 < count }
     requires few { count ≤ 64 }
     requires lies { Lies R.BITS words.old place count }
     ensures { Overwrites (read_by R.BitRegister O.position) words.old words.new place count
-        (chunk_bit direction chunk) }
+        (chunk_bit straight.direction chunk) }
 {
-    write_counted::<R, O>(direction, words, place, count, chunk);
+    write_counted::<R, O>(straight, words, place, count, chunk);
 }
 
 /// The same, with how many words were put: each that the bits touch, once.
 #[inline(always)]
 pub fn write_counted<R: BitRegister, O: BitOrder<R>>(
-    direction: Direction,
+    straight: Straight<R, O>,
     words: &mut [R],
     place: usize,
     count: usize,
     chunk: u64,
 ) -> usize
-    requires goes { Goes R.BITS O.position direction }
     requires some { 0 < count }
     requires few { count ≤ 64 }
     requires lies { Lies R.BITS words.old place count }
     ensures bits { Overwrites (read_by R.BitRegister O.position) words.old words.new place count
-        (chunk_bit direction chunk) }
+        (chunk_bit straight.direction chunk) }
     ensures writes { result ≡ touched R.BITS place count }
 {
     let bits = bits_of::<R>();
@@ -135,13 +133,13 @@ pub fn write_counted<R: BitRegister, O: BitOrder<R>>(
     let last = (place + count - 1) / bits;
     let head = place % bits;
     let inner = bits.min(head + count);
-    put::<R, O>(direction, words, first, head as u8, inner as u8, chunk);
+    put::<R, O>(straight, words, first, head as u8, inner as u8, chunk);
     let mut writes = 1;
     for k in first + 1..last + 1 {
         let start = k * bits;
         let upto = bits.min(place + count - start);
-        let rest = lowered(direction, chunk, (start - place) as u8);
-        put::<R, O>(direction, words, k, 0, upto as u8, rest);
+        let rest = lowered(straight.direction, chunk, (start - place) as u8);
+        put::<R, O>(straight, words, k, 0, upto as u8, rest);
         writes += 1;
     }
     writes
@@ -150,23 +148,22 @@ pub fn write_counted<R: BitRegister, O: BitOrder<R>>(
 // Writes the first bits of a chunk into a part of one word.
 #[inline(always)]
 pub(crate) fn put<R: BitRegister, O: BitOrder<R>>(
-    direction: Direction,
+    straight: Straight<R, O>,
     words: &mut [R],
     at: usize,
     from: u8,
     upto: u8,
     chunk: u64,
 )
-    requires goes { Goes R.BITS O.position direction }
     requires inside { at < length words.old }
     requires index { from < R.BITS }
     requires order { from ≤ upto }
     requires within { upto ≤ R.BITS }
     requires few { upto - from ≤ 64 }
     ensures { Overwrites (read_by R.BitRegister O.position) words.old words.new (at * R.BITS + from)
-        (upto - from) (chunk_bit direction chunk) }
+        (upto - from) (chunk_bit straight.direction chunk) }
 {
-    let value = placed::<R>(direction, chunk, from);
+    let value = placed::<R>(straight.direction, chunk, from);
     store_in::<R, O>(
         words,
         at,

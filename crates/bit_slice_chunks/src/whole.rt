@@ -4,88 +4,83 @@
 ghost use Rattle.std.specs.Prelude.{◌≡◌, ◌+◌, ◌*◌, ◌<◌, ◌≤◌, length, slice_set};
 ghost use Rattle.bit_addressing_memory.specs.Lies.{Lies};
 ghost use Rattle.bit_addressing_memory.specs.Memory.{read_by, Overwrites};
-ghost use Rattle.bit_addressing_memory.specs.Straight.{Goes};
 ghost use Rattle.bit_slice_chunks.specs.Chunk.{chunk_bit, IsChunk};
 
 use crate::chunk::{lowered, part, placed, raised};
 use crate::transfer::read_counted;
 use bit_addressing_memory::mem::bits_of;
-use bit_addressing_memory::{BitOrder, BitRegister, Direction};
+use bit_addressing_memory::{BitOrder, BitRegister, Straight};
 
 /// The 64 bits of a memory from a place on, as `read_bits` has them.
 #[inline(always)]
 pub fn read_chunk<R: BitRegister, O: BitOrder<R>>(
-    direction: Direction,
+    straight: Straight<R, O>,
     words: &[R],
     place: usize,
 ) -> u64
-    requires goes { Goes R.BITS O.position direction }
     requires lies { Lies R.BITS words.now place 64 }
-    ensures { IsChunk (read_by R.BitRegister O.position) words.now place 64 direction result }
+    ensures { IsChunk (read_by R.BitRegister O.position) words.now place 64 straight.direction result }
 {
-    read_nth_chunk::<R, O>(direction, words, place, 0)
+    read_nth_chunk::<R, O>(straight, words, place, 0)
 }
 
 /// The 64 bits `64 * k` behind a place. A loop over `k` finds the word and the index of the place once.
 #[inline(always)]
 pub fn read_nth_chunk<R: BitRegister, O: BitOrder<R>>(
-    direction: Direction,
+    straight: Straight<R, O>,
     words: &[R],
     place: usize,
     k: usize,
 ) -> u64
-    requires goes { Goes R.BITS O.position direction }
     requires lies { Lies R.BITS words.now (place + 64 * k) 64 }
-    ensures { IsChunk (read_by R.BitRegister O.position) words.now (place + 64 * k) 64 direction result }
+    ensures { IsChunk (read_by R.BitRegister O.position) words.now (place + 64 * k) 64 straight.direction result }
 {
     if R::BITS > 64 {
-        return read_counted::<R, O>(direction, words, place + 64 * k, 64).0;
+        return read_counted::<R, O>(straight, words, place + 64 * k, 64).0;
     }
     let bits = bits_of::<R>();
     let first = place / bits + k * (64 / bits);
-    read_from::<R, O>(direction, words, first, (place % bits) as u8)
+    read_from::<R, O>(straight, words, first, (place % bits) as u8)
 }
 
 // The 64 bits from an index of a word on.
 #[inline(always)]
 fn read_from<R: BitRegister, O: BitOrder<R>>(
-    direction: Direction,
+    straight: Straight<R, O>,
     words: &[R],
     first: usize,
     by: u8,
 ) -> u64
-    requires goes { Goes R.BITS O.position direction }
     requires narrow { R.BITS ≤ 64 }
     requires index { by < R.BITS }
     requires lies { Lies R.BITS words.now (first * R.BITS + by) 64 }
-    ensures { IsChunk (read_by R.BitRegister O.position) words.now (first * R.BITS + by) 64 direction result }
+    ensures { IsChunk (read_by R.BitRegister O.position) words.now (first * R.BITS + by) 64 straight.direction result }
 {
-    let low = gathered::<R, O>(direction, words, first);
+    let low = gathered::<R, O>(straight, words, first);
     if by == 0 {
         return low;
     }
     let behind = first + 64 / bits_of::<R>();
-    let next = part::<R>(direction, words[behind], 0);
-    lowered(direction, low, by) | raised(direction, next, 64 - by)
+    let next = part::<R>(straight.direction, words[behind], 0);
+    lowered(straight.direction, low, by) | raised(straight.direction, next, 64 - by)
 }
 
 // The bits of the words from one on, as many as make a chunk.
 #[inline(always)]
 pub(crate) fn gathered<R: BitRegister, O: BitOrder<R>>(
-    direction: Direction,
+    straight: Straight<R, O>,
     words: &[R],
     first: usize,
 ) -> u64
-    requires goes { Goes R.BITS O.position direction }
     requires narrow { R.BITS ≤ 64 }
     requires lies { Lies R.BITS words.now (first * R.BITS) 64 }
-    ensures { IsChunk (read_by R.BitRegister O.position) words.now (first * R.BITS) 64 direction result }
+    ensures { IsChunk (read_by R.BitRegister O.position) words.now (first * R.BITS) 64 straight.direction result }
 {
     let bits = bits_of::<R>();
     let mut chunk = 0u64;
     for k in 0..64 / bits {
-        let next = part::<R>(direction, words[first + k], 0);
-        chunk |= raised(direction, next, (k * bits) as u8);
+        let next = part::<R>(straight.direction, words[first + k], 0);
+        chunk |= raised(straight.direction, next, (k * bits) as u8);
     }
     chunk
 }
@@ -93,21 +88,20 @@ pub(crate) fn gathered<R: BitRegister, O: BitOrder<R>>(
 // Makes the bits of the words from one on, as many as make a chunk, those of a chunk.
 #[inline(always)]
 pub(crate) fn scattered<R: BitRegister, O: BitOrder<R>>(
-    direction: Direction,
+    straight: Straight<R, O>,
     words: &mut [R],
     first: usize,
     chunk: u64,
 )
-    requires goes { Goes R.BITS O.position direction }
     requires narrow { R.BITS ≤ 64 }
     requires lies { Lies R.BITS words.old (first * R.BITS) 64 }
     ensures { Overwrites (read_by R.BitRegister O.position) words.old words.new (first * R.BITS) 64
-        (chunk_bit direction chunk) }
+        (chunk_bit straight.direction chunk) }
 {
     let bits = bits_of::<R>();
     for k in 0..64 / bits {
-        let rest = lowered(direction, chunk, (k * bits) as u8);
-        let word = placed::<R>(direction, rest, 0);
+        let rest = lowered(straight.direction, chunk, (k * bits) as u8);
+        let word = placed::<R>(straight.direction, rest, 0);
         replace(words, first + k, word);
     }
 }

@@ -5,7 +5,6 @@ ghost use Rattle.std.specs.Prelude.{◌≡◌, ℕ, ◌+◌, ◌-◌, ◌*◌, �
 ghost use Rattle.std.specs.Prelude.{if◌then◌else◌};
 ghost use Rattle.bit_addressing_memory.specs.Bits.{bits_in_order, digit_at};
 ghost use Rattle.bit_addressing_memory.specs.Memory.{memory, piece, read_by, Overwrites};
-ghost use Rattle.bit_addressing_memory.specs.Straight.{Goes};
 ghost use Rattle.bit_slice_chunks.specs.Chunk.{IsChunk};
 ghost use Rattle.bit_slice_fields.specs.Digits.{cut_weight, Gathered, HasDigits};
 ghost use Rattle.bit_slice_fields.specs.Number.{field_bits, segment_end, CountsFrom};
@@ -17,7 +16,7 @@ ghost use Rattle.bit_slice_views_mut.specs.Frame.{KeepsBeside};
 
 use crate::integral::Integral;
 use bit_addressing_memory::{
-    BitOrder, BitRegister, BulkOp, Direction, bit_loop_limit, mem, write_entry,
+    BitOrder, BitRegister, BulkOp, Direction, Straight, bit_loop_limit, mem, write_entry,
 };
 use bit_slice_chunks::{read_bits, read_counted, read_part, write_bits, write_counted};
 use bit_slice_views::{BitSlice, Bits};
@@ -167,6 +166,15 @@ fn way_of(low: bool) -> Direction
     }
 }
 
+// How the positions of a window's words go.
+#[inline(always)]
+fn straight_of<T: BitRegister, O: BitOrder<T>>(low: bool) -> Straight<T, O>
+    requires counts { CountsFrom low T.BITS O.position }
+    ensures { result.direction ≡ way_for low }
+{
+    Straight::new(way_of(low))
+}
+
 // The digits that the first bits of a chunk are, and zeros behind them.
 #[inline(always)]
 fn digits_of(chunk: u64, low: bool, len: usize) -> u64
@@ -210,29 +218,28 @@ fn with_few(digits: u64, piece: u64, weight: usize) -> u64
 // The bits of a piece as a chunk.
 #[inline(always)]
 fn piece_bits<T: BitRegister, O: BitOrder<T>>(
-    way: Direction,
+    straight: Straight<T, O>,
     words: &[T],
     place: usize,
     len: usize,
 ) -> u64
-    requires goes { Goes T.BITS O.position way }
     requires some { 0 < len }
     requires few { len ≤ 64 }
     requires within { place + len ≤ length words.now * T.BITS }
     requires ends { place + len < 2 ^ 64 }
-    ensures { IsChunk (read_by T.BitRegister O.position) words.now place len way result }
+    ensures { IsChunk (read_by T.BitRegister O.position) words.now place len straight.direction result }
 {
     let bits = mem::bits_of::<T>();
     let word = place / bits;
     let from = place % bits;
     if from + len <= bits {
-        return read_part::<T, O>(way, words, word, from as u8, len as u8);
+        return read_part::<T, O>(straight, words, word, from as u8, len as u8);
     }
     // Of narrow words the bits touch fewer than a whole chunk does.
     if bits < 64 {
-        return read_counted::<T, O>(way, words, place, len).0;
+        return read_counted::<T, O>(straight, words, place, len).0;
     }
-    read_bits::<T, O>(way, words, place, len)
+    read_bits::<T, O>(straight, words, place, len)
 }
 
 // Whether a window has 64 bits at most, in more than one word of no more, and they weigh in turn in each word alone.
@@ -288,7 +295,13 @@ fn with_segment<T: BitRegister, O: BitOrder<T>>(
         len,
     } = segment;
     let weight = weight_of_segment(cut.low, n, from, len);
-    let chunk = read_part::<T, O>(way_of(cut.low), words, word, index as u8, len as u8);
+    let chunk = read_part::<T, O>(
+        straight_of::<T, O>(cut.low),
+        words,
+        word,
+        index as u8,
+        len as u8,
+    );
     with_few(digits, digits_of(chunk, cut.low, len), weight)
 }
 
@@ -349,10 +362,10 @@ pub(crate) fn gathered<T: BitRegister, O: BitOrder<T>>(view: BitSlice<'_, T, O>,
         (view_bits (read_by T.BitRegister O.position) view.entry) result }
 {
     let bits = mem::bits_of::<T>();
-    let way = way_of(cut.low);
+    let straight = straight_of::<T, O>(cut.low);
     let (words, head, len) = view.parts();
     if is_one_piece(cut, bits, len) {
-        let all = piece_bits::<T, O>(way, words, head as usize, len);
+        let all = piece_bits::<T, O>(straight, words, head as usize, len);
         return u128::from(digits_of(all, cut.low, len));
     }
     if goes_by_words(cut, bits, len) {
@@ -362,7 +375,7 @@ pub(crate) fn gathered<T: BitRegister, O: BitOrder<T>>(view: BitSlice<'_, T, O>,
     let mut from = 0;
     while from < len {
         let piece = piece_of(cut, bits, len, from);
-        let chunk = piece_bits::<T, O>(way, words, head as usize + from, piece.len);
+        let chunk = piece_bits::<T, O>(straight, words, head as usize + from, piece.len);
         let more = digits_of(chunk, cut.low, piece.len);
         digits = with_piece(digits, more, piece.weight);
         from += piece.len;
@@ -449,10 +462,10 @@ fn scatter_by_pieces<T: BitRegister, O: BitOrder<T>>(
     ensures beside { KeepsBeside (read_by T.BitRegister O.position) words.old words.new place len }
 {
     let bits = mem::bits_of::<T>();
-    let way = way_of(cut.low);
+    let straight = straight_of::<T, O>(cut.low);
     if is_one_piece(cut, bits, len) {
         let all = chunk_of(digits, cut.low, 0, len);
-        write_bits::<T, O>(way, words, place, len, all);
+        write_bits::<T, O>(straight, words, place, len, all);
         return;
     }
     if goes_by_words(cut, bits, len) {
@@ -463,7 +476,7 @@ fn scatter_by_pieces<T: BitRegister, O: BitOrder<T>>(
     while from < len {
         let piece = piece_of(cut, bits, len, from);
         let chunk = chunk_of(digits, cut.low, piece.weight, piece.len);
-        write_bits::<T, O>(way, words, place + from, piece.len, chunk);
+        write_bits::<T, O>(straight, words, place + from, piece.len, chunk);
         from += piece.len;
     }
 }
@@ -498,7 +511,7 @@ fn put_segment<T: BitRegister, O: BitOrder<T>>(
     let weight = weight_of_segment(cut.low, n, from, len);
     let chunk = chunk_of(digits, cut.low, weight, len);
     let at = word * mem::bits_of::<T>() + index;
-    write_counted::<T, O>(way_of(cut.low), words, at, len, chunk);
+    write_counted::<T, O>(straight_of::<T, O>(cut.low), words, at, len, chunk);
 }
 
 // The same as `scatter_by_pieces` of a window that goes by words, from the first word on.

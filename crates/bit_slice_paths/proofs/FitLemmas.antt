@@ -2,8 +2,8 @@
 --
 -- Words that a place has behind it: `few_words`, `more_words`, `words_lie`, `next_lies`. Stretches that fit: `level_on`, `fit_on`,
 -- `shifted_fit`. One part more: `merged_more`, `matched_more`, `matched_part`.
-use Rattle.std.proofs.Common.{◌≡◌, ℕ, ◌+◌, ◌-◌, ◌*◌, ◌/◌, ◌%◌, ◌<◌, ◌≤◌, Bool, List, Some}
-use Rattle.std.proofs.Common.{refl, sym, ap, subst, ◌∙◌, inl, inr, arith}
+use Rattle.std.proofs.Common.{◌≡◌, ℕ, ◌+◌, ◌-◌, ◌*◌, ◌/◌, ◌%◌, ◌<◌, ◌≤◌, Bool, List}
+use Rattle.std.proofs.Common.{refl, sym, ap, ◌∙◌, inl, inr, arith}
 use Rattle.std.proofs.Math.Nat.{mod-add-mod, mul-le-mul_right}
 use Rattle.std.proofs.lemmas.Bool.{cases_lt}
 use Rattle.bit_addressing_memory.specs.Memory.{Reading, entry}
@@ -13,8 +13,6 @@ use Rattle.bit_slice_paths.specs.Fits.{AreSame, IsFit, Matched, Merged}
 use Rattle.bit_slice_paths.specs.WholeWords.{IsAlike}
 use Rattle.bit_slice_paths.specs.declared.two_memories.Fit.{Fit}
 use Rattle.bit_slice_paths.specs.declared.two_memories.Fit.TheVariants.{Shifted}
-use Rattle.bit_addressing_memory.specs.Straight.{Goes}
-use Rattle.bit_addressing_memory.specs.declared.direction.Direction.{Direction}
 use Rattle.bit_addressing_memory.proofs.PlaceLemmas.{first_word}
 
 less_words : (x y w : ℕ) → x * w < y * w → x < y
@@ -40,27 +38,22 @@ pub level_on : (b place other done : ℕ) → place % b ≡ other % b → (place
 level_on b place other done same =
     sym (mod-add-mod place b done) ∙ ap (λ i. (i + done) % b) same ∙ mod-add-mod other b done
 
-pub fit_on : (b : ℕ) (at : ℕ → ℕ) (c : ℕ) (its : ℕ → ℕ) (place other done : ℕ) (fit : Fit)
+pub fit_on : (b : ℕ) (at : ℕ → ℕ) (c : ℕ) (its : ℕ → ℕ) (place other done : ℕ) {S : Type 0} (fit : Fit S)
     → IsFit b at c its place other fit → IsFit b at c its (place + done) (other + done) fit
 fit_on b at c its place other done fit had = record {
   narrow = had.narrow;
   alike = had.alike;
   level = λ is. level_on b place other done (had.level is);
-  goes = had.goes;
 }
 
 -- stretches whose words are joined
-pub shifted_fit : (b : ℕ) (at : ℕ → ℕ) (c : ℕ) (its : ℕ → ℕ) (place other : ℕ) (direction : Direction) (fit : Fit)
-    → b ≤ 64 → IsAlike b at c its → Goes c its direction → Some (Shifted direction) ≡ Some fit
-    → IsFit b at c its place other fit
-shifted_fit b at c its place other direction fit narrow alike goes is =
-    let same : Shifted direction ≡ fit = cc is in
-    subst (λ f. IsFit b at c its place other f) same (record {
-      narrow = narrow;
-      alike = alike;
-      level = λ none. absurd (cc none);
-      goes = λ way other. let turned : direction ≡ way = cc other in subst (λ d. Goes c its d) turned goes;
-    })
+pub shifted_fit : (b : ℕ) (at : ℕ → ℕ) (c : ℕ) (its : ℕ → ℕ) (place other : ℕ) {S : Type 0} (straight : S)
+    → b ≤ 64 → IsAlike b at c its → IsFit b at c its place other (Shifted straight)
+shifted_fit b at c its place other straight narrow alike = record {
+  narrow = narrow;
+  alike = alike;
+  level = λ none. absurd (cc none);
+}
 
 -- whole words from a place on lie among the words
 pub words_lie : (b bits place n words : ℕ) → bits ≡ b → 0 < b → place + n * b ≤ words * b → place / bits + n ≤ words

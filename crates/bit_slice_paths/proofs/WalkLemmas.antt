@@ -1,5 +1,5 @@
 -- Stretches combined, copied and compared chunk by chunk.
-use Rattle.std.proofs.Common.{◌≡◌, ℕ, ◌+◌, ◌-◌, ◌*◌, ◌^◌, ◌<◌, ◌≤◌, ◌≢◌, ◌↔◌, Bool, List}
+use Rattle.std.proofs.Common.{◌≡◌, ℕ, ◌+◌, ◌-◌, ◌^◌, ◌<◌, ◌≤◌, ◌≢◌, ◌↔◌, Bool, List}
 use Rattle.std.proofs.Common.{refl, sym, ap, ap₂, ◌∙◌, inl, inr, arith}
 use Rattle.std.specs.Int.{bit_at}
 use Rattle.std.proofs.lemmas.Bool.{cases_lt, cases_eq, eqb-true, eqb-false, eq-eqb, ne_eqb}
@@ -12,7 +12,6 @@ use Rattle.bit_addressing_memory.specs.declared.direction.Direction.TheVariants.
 use Rattle.bit_addressing_memory.proofs.OverwriteLemmas.{overwrites_join}
 use Rattle.bit_slice_chunks.specs.Chunk.{chunk_bit, IsChunk}
 use Rattle.bit_slice_chunks.specs.Combined.{Combines}
-use Rattle.bit_slice_chunks.proofs.TransferLemmas.{write_none}
 
 -- ---- one chunk
 

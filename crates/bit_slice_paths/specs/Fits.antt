@@ -2,20 +2,17 @@
 use Rattle.std.specs.Prelude.{ℕ, ◌+◌, ◌%◌, ◌<◌, ◌≤◌, ◌≡◌, Bool, List}
 use Rattle.std.proofs.Common.{refl, arith}
 use Rattle.bit_addressing_memory.specs.Memory.{Reading, entry}
-use Rattle.bit_addressing_memory.specs.Straight.{Goes}
-use Rattle.bit_addressing_memory.specs.declared.direction.Direction.{Direction}
 use Rattle.bit_slice_chunks.specs.Combined.{Combines}
 use Rattle.bit_slice_paths.specs.WholeWords.{IsAlike}
 use Rattle.bit_slice_paths.specs.declared.two_memories.Fit.{Fit}
-use Rattle.bit_slice_paths.specs.declared.two_memories.Fit.TheVariants.{Level, Shifted}
+use Rattle.bit_slice_paths.specs.declared.two_memories.Fit.TheVariants.{Level}
 
 -- words of b and of c bits are alike and not wide, and stretches from two places on fit: both begin at the same index of
--- a word, or positions go in a direction
-pub record IsFit (b : ℕ) (at : ℕ → ℕ) (c : ℕ) (its : ℕ → ℕ) (place other_place : ℕ) (fit : Fit) : Type 0 where
+-- a word, or positions go straight
+pub record IsFit {S : Type 0} (b : ℕ) (at : ℕ → ℕ) (c : ℕ) (its : ℕ → ℕ) (place other_place : ℕ) (fit : Fit S) : Type 0 where
   pub narrow : b ≤ 64
   pub alike : IsAlike b at c its
   pub level : fit ≡ Level → place % b ≡ other_place % b
-  pub goes : (direction : Direction) → fit ≡ Shifted direction → Goes c its direction
 
 -- the first n bits of a stretch are combined with others, and what else a walk has is as before
 pub record Merged {R Q : Type 0} (reading : Reading R) (how : Bool → Bool → Bool) (before after : List R)

@@ -7,14 +7,13 @@ ghost use Rattle.std.specs.Prelude.{◌≡◌, ℕ, ◌+◌, ◌-◌, ◌*◌, �
 ghost use Rattle.std.specs.Prelude.{IsTrue, true, false};
 ghost use Rattle.bit_addressing_memory.specs.Lies.{Lies};
 ghost use Rattle.bit_addressing_memory.specs.Memory.{entry, read_by, Copies};
-ghost use Rattle.bit_addressing_memory.specs.Straight.{Goes};
 ghost use Rattle.bit_slice_chunks.specs.Combined.{combined_bit, Combines};
 ghost use Rattle.bit_slice_paths.specs.Steps.{groups, Takes};
 
 use crate::across;
 use crate::combining::Combining;
 use crate::steps::Steps;
-use bit_addressing_memory::{BitOrder, BitRegister, Direction};
+use bit_addressing_memory::{BitOrder, BitRegister, Straight};
 use bit_slice_chunks::{read_bits, read_chunk, write_bits, write_chunk};
 use std::mem;
 
@@ -41,13 +40,12 @@ pub fn combine<H: Combining, R: BitRegister, O: BitOrder<R>>(
 // Copies up to 64 bits to another place of the same memory.
 #[inline(never)]
 fn move_rest<R: BitRegister, O: BitOrder<R>>(
-    direction: Direction,
+    straight: Straight<R, O>,
     words: &mut [R],
     source: usize,
     target: usize,
     count: usize,
 )
-    requires goes { Goes R.BITS O.position direction }
     requires some { 0 < count }
     requires few { count ≤ 64 }
     requires source_lies { Lies R.BITS words.old source count }
@@ -55,39 +53,37 @@ fn move_rest<R: BitRegister, O: BitOrder<R>>(
     ensures { Copies (read_by R.BitRegister O.position) words.old words.new
         (read_by R.BitRegister O.position) words.old source target count }
 {
-    let chunk = read_bits::<R, O>(direction, words, source, count);
-    write_bits::<R, O>(direction, words, target, count, chunk);
+    let chunk = read_bits::<R, O>(straight, words, source, count);
+    write_bits::<R, O>(straight, words, target, count, chunk);
 }
 
 // Copies 64 bits to another place of the same memory.
 #[inline(always)]
 fn move_chunk<R: BitRegister, O: BitOrder<R>>(
-    direction: Direction,
+    straight: Straight<R, O>,
     words: &mut [R],
     source: usize,
     target: usize,
 )
-    requires goes { Goes R.BITS O.position direction }
     requires source_lies { Lies R.BITS words.old source 64 }
     requires target_lies { Lies R.BITS words.old target 64 }
     ensures { Copies (read_by R.BitRegister O.position) words.old words.new
         (read_by R.BitRegister O.position) words.old source target 64 }
 {
-    let chunk = read_chunk::<R, O>(direction, words, source);
-    write_chunk::<R, O>(direction, words, target, chunk);
+    let chunk = read_chunk::<R, O>(straight, words, source);
+    write_chunk::<R, O>(straight, words, target, chunk);
 }
 
 // Copies bits towards lower places, the lowest first.
 #[inline(always)]
 fn copy_up<R: BitRegister, O: BitOrder<R>>(
-    direction: Direction,
+    straight: Straight<R, O>,
     words: &mut [R],
     source: usize,
     target: usize,
     len: usize,
     counted: Steps,
 ) -> Steps
-    requires goes { Goes R.BITS O.position direction }
     requires order { target ≤ source }
     requires source_lies { Lies R.BITS words.old source len }
     requires target_lies { Lies R.BITS words.old target len }
@@ -100,12 +96,12 @@ fn copy_up<R: BitRegister, O: BitOrder<R>>(
     let rest = len % 64;
     for k in 0..whole {
         let done = 64 * k;
-        move_chunk::<R, O>(direction, words, source + done, target + done);
+        move_chunk::<R, O>(straight, words, source + done, target + done);
         steps.step();
     }
     if rest > 0 {
         let done = 64 * whole;
-        move_rest::<R, O>(direction, words, source + done, target + done, rest);
+        move_rest::<R, O>(straight, words, source + done, target + done, rest);
         steps.step();
     }
     steps
@@ -114,14 +110,13 @@ fn copy_up<R: BitRegister, O: BitOrder<R>>(
 // Copies bits towards higher places, the highest first.
 #[inline(always)]
 fn copy_down<R: BitRegister, O: BitOrder<R>>(
-    direction: Direction,
+    straight: Straight<R, O>,
     words: &mut [R],
     source: usize,
     target: usize,
     len: usize,
     counted: Steps,
 ) -> Steps
-    requires goes { Goes R.BITS O.position direction }
     requires order { source ≤ target }
     requires source_lies { Lies R.BITS words.old source len }
     requires target_lies { Lies R.BITS words.old target len }
@@ -130,10 +125,10 @@ fn copy_down<R: BitRegister, O: BitOrder<R>>(
     ensures steps { Takes counted result (groups len 64) (groups len 64) }
 {
     let whole = len / 64;
-    let mut steps = copy_last::<R, O>(direction, words, source, target, len, counted);
+    let mut steps = copy_last::<R, O>(straight, words, source, target, len, counted);
     for k in (0..whole).rev() {
         let before = 64 * k;
-        move_chunk::<R, O>(direction, words, source + before, target + before);
+        move_chunk::<R, O>(straight, words, source + before, target + before);
         steps.step();
     }
     steps
@@ -141,14 +136,13 @@ fn copy_down<R: BitRegister, O: BitOrder<R>>(
 
 // Copies the bits behind the whole chunks.
 fn copy_last<R: BitRegister, O: BitOrder<R>>(
-    direction: Direction,
+    straight: Straight<R, O>,
     words: &mut [R],
     source: usize,
     target: usize,
     len: usize,
     counted: Steps,
 ) -> Steps
-    requires goes { Goes R.BITS O.position direction }
     requires source_lies { Lies R.BITS words.old source len }
     requires target_lies { Lies R.BITS words.old target len }
     ensures copied { Copies (read_by R.BitRegister O.position) words.old words.new
@@ -161,7 +155,7 @@ fn copy_last<R: BitRegister, O: BitOrder<R>>(
     let done = 64 * (len / 64);
     let rest = len - done;
     if rest > 0 {
-        move_rest::<R, O>(direction, words, source + done, target + done, rest);
+        move_rest::<R, O>(straight, words, source + done, target + done, rest);
         steps.step();
     }
     steps
@@ -170,14 +164,13 @@ fn copy_last<R: BitRegister, O: BitOrder<R>>(
 /// Copies bits to another place of the same memory, a step for each 64. The two stretches may overlap.
 #[inline(always)]
 pub fn copy_over<R: BitRegister, O: BitOrder<R>>(
-    direction: Direction,
+    straight: Straight<R, O>,
     words: &mut [R],
     source: usize,
     target: usize,
     len: usize,
     steps: &mut Steps,
 )
-    requires goes { Goes R.BITS O.position direction }
     requires source_lies { Lies R.BITS words.old source len }
     requires target_lies { Lies R.BITS words.old target len }
     ensures copied { Copies (read_by R.BitRegister O.position) words.old words.new
@@ -186,23 +179,22 @@ pub fn copy_over<R: BitRegister, O: BitOrder<R>>(
 {
     let counted = mem::replace(steps, Steps::new());
     if target <= source {
-        *steps = copy_up::<R, O>(direction, words, source, target, len, counted);
+        *steps = copy_up::<R, O>(straight, words, source, target, len, counted);
     } else {
-        *steps = copy_down::<R, O>(direction, words, source, target, len, counted);
+        *steps = copy_down::<R, O>(straight, words, source, target, len, counted);
     }
 }
 
 // Exchanges up to 64 bits.
 #[inline(never)]
 fn swap_rest<R: BitRegister, O: BitOrder<R>>(
-    direction: Direction,
+    straight: Straight<R, O>,
     words: &mut [R],
     place: usize,
     others: &mut [R],
     other_place: usize,
     count: usize,
 )
-    requires goes { Goes R.BITS O.position direction }
     requires some { 0 < count }
     requires few { count ≤ 64 }
     requires lies { Lies R.BITS words.old place count }
@@ -212,22 +204,21 @@ fn swap_rest<R: BitRegister, O: BitOrder<R>>(
     ensures to_others { Copies (read_by R.BitRegister O.position) others.old others.new
         (read_by R.BitRegister O.position) words.old place other_place count }
 {
-    let chunk = read_bits::<R, O>(direction, words, place, count);
-    let other = read_bits::<R, O>(direction, others, other_place, count);
-    write_bits::<R, O>(direction, words, place, count, other);
-    write_bits::<R, O>(direction, others, other_place, count, chunk);
+    let chunk = read_bits::<R, O>(straight, words, place, count);
+    let other = read_bits::<R, O>(straight, others, other_place, count);
+    write_bits::<R, O>(straight, words, place, count, other);
+    write_bits::<R, O>(straight, others, other_place, count, chunk);
 }
 
 // Exchanges 64 bits.
 #[inline(always)]
 fn swap_chunk<R: BitRegister, O: BitOrder<R>>(
-    direction: Direction,
+    straight: Straight<R, O>,
     words: &mut [R],
     place: usize,
     others: &mut [R],
     other_place: usize,
 )
-    requires goes { Goes R.BITS O.position direction }
     requires lies { Lies R.BITS words.old place 64 }
     requires other_lies { Lies R.BITS others.old other_place 64 }
     ensures to_words { Copies (read_by R.BitRegister O.position) words.old words.new
@@ -235,16 +226,16 @@ fn swap_chunk<R: BitRegister, O: BitOrder<R>>(
     ensures to_others { Copies (read_by R.BitRegister O.position) others.old others.new
         (read_by R.BitRegister O.position) words.old place other_place 64 }
 {
-    let chunk = read_chunk::<R, O>(direction, words, place);
-    let other = read_chunk::<R, O>(direction, others, other_place);
-    write_chunk::<R, O>(direction, words, place, other);
-    write_chunk::<R, O>(direction, others, other_place, chunk);
+    let chunk = read_chunk::<R, O>(straight, words, place);
+    let other = read_chunk::<R, O>(straight, others, other_place);
+    write_chunk::<R, O>(straight, words, place, other);
+    write_chunk::<R, O>(straight, others, other_place, chunk);
 }
 
 /// Exchanges the bits of two stretches, a step for each 64.
 #[inline(always)]
 pub fn swap<R: BitRegister, O: BitOrder<R>>(
-    direction: Direction,
+    straight: Straight<R, O>,
     words: &mut [R],
     place: usize,
     others: &mut [R],
@@ -252,7 +243,6 @@ pub fn swap<R: BitRegister, O: BitOrder<R>>(
     len: usize,
     steps: &mut Steps,
 )
-    requires goes { Goes R.BITS O.position direction }
     requires lies { Lies R.BITS words.old place len }
     requires other_lies { Lies R.BITS others.old other_place len }
     ensures to_words { Copies (read_by R.BitRegister O.position) words.old words.new
@@ -262,13 +252,13 @@ pub fn swap<R: BitRegister, O: BitOrder<R>>(
     ensures steps { Takes steps.old steps.new (groups len 64) (groups len 64) }
 {
     let counted = mem::replace(steps, Steps::new());
-    *steps = swap_counted::<R, O>(direction, words, place, others, other_place, len, counted);
+    *steps = swap_counted::<R, O>(straight, words, place, others, other_place, len, counted);
 }
 
 // `swap`, with a count that is handed in and back.
 #[inline(always)]
 fn swap_counted<R: BitRegister, O: BitOrder<R>>(
-    direction: Direction,
+    straight: Straight<R, O>,
     words: &mut [R],
     place: usize,
     others: &mut [R],
@@ -276,7 +266,6 @@ fn swap_counted<R: BitRegister, O: BitOrder<R>>(
     len: usize,
     counted: Steps,
 ) -> Steps
-    requires goes { Goes R.BITS O.position direction }
     requires lies { Lies R.BITS words.old place len }
     requires other_lies { Lies R.BITS others.old other_place len }
     ensures to_words { Copies (read_by R.BitRegister O.position) words.old words.new
@@ -290,13 +279,13 @@ fn swap_counted<R: BitRegister, O: BitOrder<R>>(
     let rest = len % 64;
     for k in 0..whole {
         let done = 64 * k;
-        swap_chunk::<R, O>(direction, words, place + done, others, other_place + done);
+        swap_chunk::<R, O>(straight, words, place + done, others, other_place + done);
         steps.step();
     }
     if rest > 0 {
         let done = 64 * whole;
         swap_rest::<R, O>(
-            direction,
+            straight,
             words,
             place + done,
             others,

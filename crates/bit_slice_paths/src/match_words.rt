@@ -2,12 +2,11 @@
 
 ghost use Rattle.std.specs.Prelude.{◌≡◌, ℕ, ◌+◌, ◌-◌, ◌*◌, ◌^◌, ◌<◌, ◌≤◌, ◌↔◌, length, IsTrue};
 ghost use Rattle.bit_addressing_memory.specs.Memory.{entry, read_by};
-ghost use Rattle.bit_addressing_memory.specs.Straight.{Goes};
 ghost use Rattle.bit_slice_paths.specs.WholeWords.{IsAlike};
 
 use crate::kernel::{Kernel, drive};
 use crate::word_source::{Joined, WordSource};
-use bit_addressing_memory::{BitOrder, BitRegister, Direction};
+use bit_addressing_memory::{BitOrder, BitRegister, Straight};
 use std::marker::PhantomData;
 
 /// How many words are compared at once, before it is asked whether one differs.
@@ -100,7 +99,7 @@ pub fn match_words<R: BitRegister, O: BitOrder<R>, S: WordSource<R, O>>(
 /// `match_words` with words that begin at the index `by` of another memory's word. Out of line, as `merge_joined` is.
 #[inline(never)]
 pub fn match_joined<R: BitRegister, O: BitOrder<R>, Q: BitRegister, P: BitOrder<Q>>(
-    direction: Direction,
+    straight: Straight<Q, P>,
     words: &[R],
     first: usize,
     others: &[Q],
@@ -109,7 +108,6 @@ pub fn match_joined<R: BitRegister, O: BitOrder<R>, Q: BitRegister, P: BitOrder<
     n: usize,
 ) -> usize
     requires alike { IsAlike R.BITS O.position Q.BITS P.position }
-    requires goes { Goes Q.BITS P.position direction }
     requires some { 0 < by }
     requires index { by < Q.BITS }
     requires within { first + n ≤ length words.now }
@@ -124,13 +122,12 @@ pub fn match_joined<R: BitRegister, O: BitOrder<R>, Q: BitRegister, P: BitOrder<
         ≡ entry (read_by Q.BitRegister P.position) others.now (other * R.BITS + by + k)) → ⊥ }
 {
     let source = Joined::<R, O, Q, P> {
-        direction,
+        straight,
         words: others,
         first: other,
         by,
         register: PhantomData,
         order: PhantomData,
-        its_order: PhantomData,
     };
     match_words::<R, O, Joined<'_, R, O, Q, P>>(words, first, &source, n)
 }

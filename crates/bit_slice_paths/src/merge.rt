@@ -3,14 +3,13 @@
 ghost use Rattle.std.specs.Prelude.{◌≡◌, ℕ, ◌+◌, ◌-◌, ◌*◌, ◌^◌, ◌<◌, ◌≤◌, length};
 ghost use Rattle.bit_addressing_memory.specs.Bits.{digit_at};
 ghost use Rattle.bit_addressing_memory.specs.Memory.{entry, read_by, Overwrites};
-ghost use Rattle.bit_addressing_memory.specs.Straight.{Goes};
 ghost use Rattle.bit_slice_chunks.specs.Combined.{combined_bit};
 ghost use Rattle.bit_slice_paths.specs.WholeWords.{IsAlike};
 
 use crate::combining::Combining;
 use crate::kernel::{Kernel, drive};
 use crate::word_source::{Joined, WordSource};
-use bit_addressing_memory::{BitOrder, BitRegister, Direction};
+use bit_addressing_memory::{BitOrder, BitRegister, Straight};
 use bit_slice_chunks::Combination;
 use std::marker::PhantomData;
 
@@ -84,7 +83,7 @@ pub fn merge_words<H: Combining, R: BitRegister, O: BitOrder<R>, S: WordSource<R
 /// no vector form.
 #[inline(never)]
 pub fn merge_joined<H: Combining, R: BitRegister, O: BitOrder<R>, Q: BitRegister, P: BitOrder<Q>>(
-    direction: Direction,
+    straight: Straight<Q, P>,
     words: &mut [R],
     first: usize,
     others: &[Q],
@@ -93,7 +92,6 @@ pub fn merge_joined<H: Combining, R: BitRegister, O: BitOrder<R>, Q: BitRegister
     n: usize,
 )
     requires alike { IsAlike R.BITS O.position Q.BITS P.position }
-    requires goes { Goes Q.BITS P.position direction }
     requires some { 0 < by }
     requires index { by < Q.BITS }
     requires within { first + n ≤ length words.old }
@@ -104,13 +102,12 @@ pub fn merge_joined<H: Combining, R: BitRegister, O: BitOrder<R>, Q: BitRegister
         (entry (read_by Q.BitRegister P.position) others.now (other * R.BITS + by + k))) }
 {
     let source = Joined::<R, O, Q, P> {
-        direction,
+        straight,
         words: others,
         first: other,
         by,
         register: PhantomData,
         order: PhantomData,
-        its_order: PhantomData,
     };
     merge_words::<H, R, O, Joined<'_, R, O, Q, P>>(words, first, &source, n);
 }

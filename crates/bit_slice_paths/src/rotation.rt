@@ -11,7 +11,7 @@ use crate::by_words::copy_over;
 use crate::exchange::exchange;
 use crate::steps::Steps;
 use bit_addressing_memory::{
-    BitOrder, BitRegister, Direction, NARROW_WORD, ROTATED_BY_MOVES, Sweep, direction_of, move_in,
+    BitOrder, BitRegister, Direction, NARROW_WORD, ROTATED_BY_MOVES, Straight, Sweep, move_in,
     way_for,
 };
 use bit_slice_chunks::any_order::{read_bits, write_bits};
@@ -52,9 +52,9 @@ fn move_narrow<R: BitRegister, O: BitOrder<R>>(
         (read_by R.BitRegister O.position) words.old source target len }
 {
     if source.abs_diff(target) > 1 {
-        if let Some(direction) = direction_of::<R, O>() {
+        if let Some(straight) = Straight::<R, O>::find() {
             let mut steps = Steps::new();
-            copy_over::<R, O>(direction, words, source, target, len, &mut steps);
+            copy_over::<R, O>(straight, words, source, target, len, &mut steps);
             return;
         }
     }

@@ -1,12 +1,11 @@
 //! Bits of two memories combined and compared by whole words: those of the first memory, and as many of the other one,
 //! where words of both are alike.
 
-ghost use Rattle.std.specs.Prelude.{◌≡◌, ℕ, ◌+◌, ◌*◌, ◌/◌, ◌%◌, ◌<◌, ◌≤◌, ◌↔◌, Some, IsTrue, length};
+ghost use Rattle.std.specs.Prelude.{◌≡◌, ℕ, ◌+◌, ◌*◌, ◌/◌, ◌%◌, ◌<◌, ◌≤◌, ◌↔◌, IfSome, IsTrue, length};
 ghost use Rattle.bit_addressing_memory.specs.Lies.{Lies};
 ghost use Rattle.bit_addressing_memory.specs.Memory.{entry, read_by};
 ghost use Rattle.bit_slice_chunks.specs.Combined.{combined_bit, Combines};
 ghost use Rattle.bit_slice_paths.specs.Fits.{IsFit};
-ghost use Rattle.bit_slice_paths.specs.declared.two_memories.Fit.{Fit};
 ghost use Rattle.bit_slice_paths.specs.declared.two_memories.Fit.TheVariants.{Level};
 
 use crate::across::{combine_part, difference_of_part};
@@ -16,18 +15,16 @@ use crate::merge::{merge_joined, merge_words};
 use crate::walk::{Reached, Stretch, walk};
 use crate::word_source::{Aligned, are_alike};
 use bit_addressing_memory::mem::bits_of;
-use bit_addressing_memory::{
-    BitOrder, BitRegister, Direction, JOINED_WORDS, WHOLE_WORDS, direction_of,
-};
+use bit_addressing_memory::{BitOrder, BitRegister, JOINED_WORDS, Straight, WHOLE_WORDS};
 use std::marker::PhantomData;
 
 /// How the words of another memory are found for those of the first.
-#[derive(Clone, Copy, PartialEq, Eq, Debug)]
-pub enum Fit {
+#[derive(Clone, Copy)]
+pub enum Fit<S> {
     /// Both stretches begin at the same index of a word: word by word.
     Level,
-    /// They need not: each word is joined of two, whose positions go in this direction.
-    Shifted(Direction),
+    /// They need not: each word is joined of two, whose positions go straight.
+    Shifted(S),
 }
 
 /// How two stretches of `len` bits fit, if they are long enough for whole words, and words of both are alike and no wider
@@ -37,10 +34,9 @@ pub fn fit_of<R: BitRegister, O: BitOrder<R>, Q: BitRegister, P: BitOrder<Q>>(
     place: usize,
     other_place: usize,
     len: usize,
-) -> Option<Fit>
-    ensures fit { (fit : Fit) → result ≡ Some fit
-        → IsFit R.BITS O.position Q.BITS P.position place other_place fit }
-    ensures many { (fit : Fit) → result ≡ Some fit → 64 ≤ len }
+) -> Option<Fit<Straight<Q, P>>>
+    ensures fit { IfSome result (IsFit R.BITS O.position Q.BITS P.position place other_place) }
+    ensures many { IfSome result (λ _. 64 ≤ len) }
 {
     if len < WHOLE_WORDS || R::BITS > 64 || !are_alike::<R, O, Q, P>() {
         return None;
@@ -52,8 +48,8 @@ pub fn fit_of<R: BitRegister, O: BitOrder<R>, Q: BitRegister, P: BitOrder<Q>>(
     if len < JOINED_WORDS {
         return None;
     }
-    match direction_of::<Q, P>() {
-        Some(direction) => Some(Fit::Shifted(direction)),
+    match Straight::<Q, P>::find() {
+        Some(straight) => Some(Fit::Shifted(straight)),
         None => None,
     }
 }
@@ -62,7 +58,7 @@ pub fn fit_of<R: BitRegister, O: BitOrder<R>, Q: BitRegister, P: BitOrder<Q>>(
 #[inline(always)]
 #[tactic(auto, using(crate::proofs::FitLemmas::words_behind))]
 fn merge_middle<H: Combining, R: BitRegister, O: BitOrder<R>, Q: BitRegister, P: BitOrder<Q>>(
-    fit: Fit,
+    fit: Fit<Straight<Q, P>>,
     words: &mut [R],
     place: usize,
     others: &[Q],
@@ -80,10 +76,10 @@ fn merge_middle<H: Combining, R: BitRegister, O: BitOrder<R>, Q: BitRegister, P:
     let first = place / bits;
     let other = other_place / bits;
     let by = other_place % bits;
-    if let Fit::Shifted(direction) = fit
+    if let Fit::Shifted(straight) = fit
         && by > 0
     {
-        merge_joined::<H, R, O, Q, P>(direction, words, first, others, other, by as u8, n);
+        merge_joined::<H, R, O, Q, P>(straight, words, first, others, other, by as u8, n);
         return;
     }
     let source = Aligned::<R, O, Q, P> {
@@ -98,7 +94,7 @@ fn merge_middle<H: Combining, R: BitRegister, O: BitOrder<R>, Q: BitRegister, P:
 
 #[derive(Drop)]
 struct Merging<'a, 'b, H, R: BitRegister, O: BitOrder<R>, Q: BitRegister, P: BitOrder<Q>> {
-    fit: Fit,
+    fit: Fit<Straight<Q, P>>,
     words: &'a mut [R],
     place: usize,
     others: &'b [Q],
@@ -166,7 +162,7 @@ impl<'a, 'b, H: Combining, R: BitRegister, O: BitOrder<R>, Q: BitRegister, P: Bi
 /// Combines each of `len` bits, 64 or more, with one of another memory, and returns how many.
 #[inline(never)]
 pub fn combine<H: Combining, R: BitRegister, O: BitOrder<R>, Q: BitRegister, P: BitOrder<Q>>(
-    fit: Fit,
+    fit: Fit<Straight<Q, P>>,
     words: &mut [R],
     place: usize,
     others: &[Q],
@@ -200,7 +196,7 @@ pub fn combine<H: Combining, R: BitRegister, O: BitOrder<R>, Q: BitRegister, P: 
 #[inline(always)]
 #[tactic(auto, using(crate::proofs::FitLemmas::words_behind))]
 fn match_middle<R: BitRegister, O: BitOrder<R>, Q: BitRegister, P: BitOrder<Q>>(
-    fit: Fit,
+    fit: Fit<Straight<Q, P>>,
     words: &[R],
     place: usize,
     others: &[Q],
@@ -223,10 +219,10 @@ fn match_middle<R: BitRegister, O: BitOrder<R>, Q: BitRegister, P: BitOrder<Q>>(
     let first = place / bits;
     let other = other_place / bits;
     let by = other_place % bits;
-    if let Fit::Shifted(direction) = fit
+    if let Fit::Shifted(straight) = fit
         && by > 0
     {
-        return match_joined::<R, O, Q, P>(direction, words, first, others, other, by as u8, n);
+        return match_joined::<R, O, Q, P>(straight, words, first, others, other, by as u8, n);
     }
     let source = Aligned::<R, O, Q, P> {
         words: others,
@@ -240,7 +236,7 @@ fn match_middle<R: BitRegister, O: BitOrder<R>, Q: BitRegister, P: BitOrder<Q>>(
 
 #[derive(Drop)]
 struct Matching<'a, 'b, R: BitRegister, O: BitOrder<R>, Q: BitRegister, P: BitOrder<Q>> {
-    fit: Fit,
+    fit: Fit<Straight<Q, P>>,
     words: &'a [R],
     place: usize,
     others: &'b [Q],
@@ -305,7 +301,7 @@ impl<'a, 'b, R: BitRegister, O: BitOrder<R>, Q: BitRegister, P: BitOrder<Q>> Str
 /// round of words in which one differs; and how many were read for it.
 #[inline(never)]
 pub fn matched<R: BitRegister, O: BitOrder<R>, Q: BitRegister, P: BitOrder<Q>>(
-    fit: Fit,
+    fit: Fit<Straight<Q, P>>,
     words: &[R],
     place: usize,
     others: &[Q],

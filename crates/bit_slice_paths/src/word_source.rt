@@ -3,10 +3,9 @@
 
 ghost use Rattle.std.specs.Prelude.{◌≡◌, ℕ, Bool, ◌+◌, ◌-◌, ◌*◌, ◌<◌, true, length};
 ghost use Rattle.bit_addressing_memory.specs.Memory.{entry, indexed, read_by};
-ghost use Rattle.bit_addressing_memory.specs.Straight.{Goes};
 ghost use Rattle.bit_slice_paths.specs.WholeWords.{IsAlike};
 
-use bit_addressing_memory::{BitOrder, BitRegister, Direction, each_digit, joined, no_digits};
+use bit_addressing_memory::{BitOrder, BitRegister, Straight, each_digit, joined, no_digits};
 use std::marker::PhantomData;
 
 /// Words that have the bits of a list, one word after another.
@@ -74,15 +73,13 @@ impl<'a, R: BitRegister, O: BitOrder<R>, Q: BitRegister, P: BitOrder<Q>> WordSou
 /// Words that begin at the index `by` of the word `first`, which is not 0: each is joined of two.
 #[derive(Drop)]
 pub struct Joined<'a, R: BitRegister, O: BitOrder<R>, Q: BitRegister, P: BitOrder<Q>> {
-    pub direction: Direction,
+    pub straight: Straight<Q, P>,
     pub words: &'a [Q],
     pub first: usize,
     pub by: u8,
     pub register: PhantomData<R>,
     pub order: PhantomData<O>,
-    pub its_order: PhantomData<P>,
     ghost alike: { IsAlike R.BITS O.position Q.BITS P.position },
-    ghost goes: { Goes Q.BITS P.position direction },
     ghost some: { 0 < by },
     ghost index: { by < Q.BITS },
 }
@@ -96,7 +93,8 @@ impl<'a, R: BitRegister, O: BitOrder<R>, Q: BitRegister, P: BitOrder<Q>> WordSou
     #[inline(always)]
     fn word(&self, k: usize) -> R {
         let at = self.first + k;
-        let its = joined::<Q, P>(self.direction, self.words[at], self.words[at + 1], self.by);
+        let direction = self.straight.direction;
+        let its = joined::<Q, P>(direction, self.words[at], self.words[at + 1], self.by);
         converted::<R, Q>(its)
     }
 }

@@ -35,5 +35,5 @@ pub fn set_word_bit<T: BitStore, O: BitOrder<T>>(word: &mut T)
     ensures { digits (read_by T.BitRegister O.position) word.new
         ≡ slice_set (digits (read_by T.BitRegister O.position) word.old) 0 true }
 {
-    set_first_bit::<T, O>(word);
+    set_first::<T, O>(std::slice::from_mut(word));
 }

@@ -19,7 +19,7 @@ pub use bits::Bits;
 pub use index::{BitRef, BitSliceIndex};
 pub use make::{ViewLimits, from_ref};
 pub use range::BitRange;
-pub use sized::BitViewSized;
+pub use sized::{BitViewSized, OneWord, WordAccess, WordArray};
 pub use store::BitStore;
 pub use text::{write_bits, write_groups};
 pub use view::BitSlice;

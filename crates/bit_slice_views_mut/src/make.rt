@@ -8,7 +8,6 @@ ghost use Rattle.bit_slice_views.specs.SpanLimits.{MAX_BITS};
 ghost use Rattle.bit_slice_views.specs.SpanFaults.{TooLong};
 ghost use Rattle.bit_slice_views_mut.specs.ViewMut.{lent_words, lent_lender, lent_place, lent_bits};
 
-use crate::bit_view::BitView;
 use crate::view_mut::BitSliceMut;
 use bit_addressing_memory::{BitOrder, BitRegister};
 use bit_slice_views::{BitSpanError, BitStore};
@@ -22,7 +21,8 @@ impl<'a, T: BitStore, O: BitOrder<T>> BitSliceMut<'a, T, O> {
         ensures* lends { sem 𝓛 (follows T.row (Array T.row 0) word.entry.ghost_name (lent_lender result)
             (λ words. slice_index_or words 0 word.old)) }
     {
-        word.view_bits_mut::<O>()
+        let words = std::slice::from_mut(word);
+        BitSliceMut::from_slice_mut(words)
     }
 }
 

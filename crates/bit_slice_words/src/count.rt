@@ -3,12 +3,10 @@
 ghost use Rattle.std.specs.Prelude.{◌≡◌, ◌-◌, ◌*◌, ◌^◌, ◌<◌, ◌≤◌, count_by, count_ones, length, not};
 ghost use Rattle.bit_addressing_memory.specs.Lies.{Lies};
 ghost use Rattle.bit_addressing_memory.specs.Memory.{digits, memory, piece, read_by};
-ghost use Rattle.bit_addressing_memory.specs.Straight.{Goes};
 
 use bit_addressing_memory::mem::bits_of;
 use bit_addressing_memory::{
-    BitEnd, BitIdx, BitOrder, BitRegister, COUNTED_BY_BLOCKS, Direction, between, direction_of,
-    edges_of, masked,
+    BitEnd, BitIdx, BitOrder, BitRegister, COUNTED_BY_BLOCKS, Straight, between, edges_of, masked,
 };
 use bit_slice_paths::{read_bits, read_nth_chunk};
 
@@ -73,9 +71,9 @@ fn ones_of_words<R: BitRegister, O: BitOrder<R>>(body: &[R]) -> usize
     requires { length body.now * R.BITS < 2 ^ 64 }
     ensures { result ≡ count_by (λ b. b) (memory (read_by R.BitRegister O.position) body.now) }
 {
-    match direction_of::<R, O>() {
-        Some(direction) if R::BITS < 64 && body.len() >= COUNTED_BY_BLOCKS => {
-            ones_of_blocks::<R, O>(direction, body, body.len() * bits_of::<R>())
+    match Straight::<R, O>::find() {
+        Some(straight) if R::BITS < 64 && body.len() >= COUNTED_BY_BLOCKS => {
+            ones_of_blocks::<R, O>(straight, body, body.len() * bits_of::<R>())
         }
         _ => ones_word_by_word::<R, O>(body),
     }
@@ -83,11 +81,10 @@ fn ones_of_words<R: BitRegister, O: BitOrder<R>>(body: &[R]) -> usize
 
 // How many of the first `len` bits are 1, by blocks of 64.
 fn ones_of_blocks<R: BitRegister, O: BitOrder<R>>(
-    direction: Direction,
+    straight: Straight<R, O>,
     words: &[R],
     len: usize,
 ) -> usize
-    requires goes { Goes R.BITS O.position direction }
     requires lies { Lies R.BITS words.now 0 len }
     ensures { result ≡ count_by (λ b. b) (piece (memory (read_by R.BitRegister O.position) words.now) 0 len) }
 {
@@ -95,11 +92,11 @@ fn ones_of_blocks<R: BitRegister, O: BitOrder<R>>(
     let rest = len % 64;
     let mut ones = 0;
     for k in 0..whole {
-        let block = read_nth_chunk::<R, O>(direction, words, 0, k);
+        let block = read_nth_chunk::<R, O>(straight, words, 0, k);
         ones += block.count_ones() as usize;
     }
     if rest > 0 {
-        let block = read_bits::<R, O>(direction, words, 64 * whole, rest);
+        let block = read_bits::<R, O>(straight, words, 64 * whole, rest);
         ones += block.count_ones() as usize;
     }
     ones

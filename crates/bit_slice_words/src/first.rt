@@ -3,7 +3,6 @@
 ghost use Rattle.std.specs.Prelude.{◌≡◌, ◌+◌, ◌*◌, ◌^◌, ◌<◌, ◌≤◌, length, position};
 ghost use Rattle.bit_addressing_memory.specs.Lies.{Lies};
 ghost use Rattle.bit_addressing_memory.specs.Memory.{indexed, memory, piece, read_by};
-ghost use Rattle.bit_addressing_memory.specs.Straight.{Goes};
 ghost use Rattle.bit_slice_words.specs.Found.{is_bit};
 ghost use Rattle.bit_slice_words.specs.Stretch.{bit_found, IsFirst, Nowhere};
 
@@ -11,7 +10,7 @@ use crate::lacking::lacks;
 use crate::parts::first_in_part;
 use bit_addressing_memory::mem::bits_of;
 use bit_addressing_memory::{
-    BitIdx, BitOrder, BitRegister, Direction, NEAR_WORDS, direction_of, edges_of, read_bit,
+    BitIdx, BitOrder, BitRegister, NEAR_WORDS, Straight, edges_of, read_bit,
 };
 use bit_slice_paths::match_words::match_words;
 use bit_slice_paths::word_source::Constant;
@@ -131,8 +130,8 @@ fn first_at<R: BitRegister, O: BitOrder<R>>(
     ensures { IsFirst (bit_found (read_by R.BitRegister O.position) words.now bit)
         (word * R.BITS + from) (word * R.BITS + upto) result }
 {
-    match direction_of::<R, O>() {
-        Some(direction) => first_straight::<R, O>(direction, words, word, from, upto, bit),
+    match Straight::<R, O>::find() {
+        Some(straight) => first_straight::<R, O>(straight, words, word, from, upto, bit),
         None => first_singly::<R, O>(words, word, from, upto, bit),
     }
 }
@@ -140,14 +139,13 @@ fn first_at<R: BitRegister, O: BitOrder<R>>(
 // The same where the positions go straight: 64 bits at most are one number.
 #[inline(always)]
 fn first_straight<R: BitRegister, O: BitOrder<R>>(
-    direction: Direction,
+    straight: Straight<R, O>,
     words: &[R],
     word: usize,
     from: u8,
     upto: u8,
     bit: bool,
 ) -> Option<usize>
-    requires goes { Goes R.BITS O.position direction }
     requires inside { word < length words.now }
     requires order { from ≤ upto }
     requires within { upto ≤ R.BITS }
@@ -162,16 +160,16 @@ fn first_straight<R: BitRegister, O: BitOrder<R>>(
         return None;
     }
     if R::BITS <= 64 {
-        return first_in_part::<R, O>(direction, words, word, from, upto, bit);
+        return first_in_part::<R, O>(straight, words, word, from, upto, bit);
     }
     let middle = upto.min(from + 64);
-    if let Some(at) = first_in_part::<R, O>(direction, words, word, from, middle, bit) {
+    if let Some(at) = first_in_part::<R, O>(straight, words, word, from, middle, bit) {
         return Some(at);
     }
     if middle == upto {
         return None;
     }
-    first_in_part::<R, O>(direction, words, word, middle, upto, bit)
+    first_in_part::<R, O>(straight, words, word, middle, upto, bit)
 }
 
 // The same bit by bit.

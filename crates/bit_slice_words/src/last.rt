@@ -3,16 +3,13 @@
 ghost use Rattle.std.specs.Prelude.{◌≡◌, ◌+◌, ◌*◌, ◌^◌, ◌<◌, ◌≤◌, length};
 ghost use Rattle.bit_addressing_memory.specs.Lies.{Lies};
 ghost use Rattle.bit_addressing_memory.specs.Memory.{indexed, memory, piece, read_by};
-ghost use Rattle.bit_addressing_memory.specs.Straight.{Goes};
 ghost use Rattle.bit_slice_words.specs.Found.{is_bit, last_position};
 ghost use Rattle.bit_slice_words.specs.Stretch.{bit_found, IsLast, Nowhere};
 
 use crate::lacking::lacks;
 use crate::parts::last_in_part;
 use bit_addressing_memory::mem::bits_of;
-use bit_addressing_memory::{
-    BitIdx, BitOrder, BitRegister, Direction, direction_of, edges_of, read_bit,
-};
+use bit_addressing_memory::{BitIdx, BitOrder, BitRegister, Straight, edges_of, read_bit};
 
 /// The index of the last of the `len` bits from a place on that is `bit`, counted from that place; `None` where
 /// none is.
@@ -103,8 +100,8 @@ fn last_at<R: BitRegister, O: BitOrder<R>>(
     ensures { IsLast (bit_found (read_by R.BitRegister O.position) words.now bit)
         (word * R.BITS + from) (word * R.BITS + upto) result }
 {
-    match direction_of::<R, O>() {
-        Some(direction) => last_straight::<R, O>(direction, words, word, from, upto, bit),
+    match Straight::<R, O>::find() {
+        Some(straight) => last_straight::<R, O>(straight, words, word, from, upto, bit),
         None => last_singly::<R, O>(words, word, from, upto, bit),
     }
 }
@@ -112,14 +109,13 @@ fn last_at<R: BitRegister, O: BitOrder<R>>(
 // The same where the positions go straight: 64 bits at most are one number.
 #[inline(always)]
 fn last_straight<R: BitRegister, O: BitOrder<R>>(
-    direction: Direction,
+    straight: Straight<R, O>,
     words: &[R],
     word: usize,
     from: u8,
     upto: u8,
     bit: bool,
 ) -> Option<usize>
-    requires goes { Goes R.BITS O.position direction }
     requires inside { word < length words.now }
     requires order { from ≤ upto }
     requires within { upto ≤ R.BITS }
@@ -134,16 +130,16 @@ fn last_straight<R: BitRegister, O: BitOrder<R>>(
         return None;
     }
     if R::BITS <= 64 {
-        return last_in_part::<R, O>(direction, words, word, from, upto, bit);
+        return last_in_part::<R, O>(straight, words, word, from, upto, bit);
     }
     let middle = from.max(upto.saturating_sub(64));
-    if let Some(at) = last_in_part::<R, O>(direction, words, word, middle, upto, bit) {
+    if let Some(at) = last_in_part::<R, O>(straight, words, word, middle, upto, bit) {
         return Some(at);
     }
     if from == middle {
         return None;
     }
-    last_in_part::<R, O>(direction, words, word, from, middle, bit)
+    last_in_part::<R, O>(straight, words, word, from, middle, bit)
 }
 
 // The same bit by bit.

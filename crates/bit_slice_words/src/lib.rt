@@ -38,7 +38,7 @@ pub use invert::not_in;
 pub use lacking::lacks;
 pub use last::last_in;
 pub use moves::move_words;
-pub use paths::WordPaths;
+pub use paths::{AlwaysStraight, StraightOrder, WordPaths};
 pub use reverse::reverse_in;
 pub use rotate::{rotate_left_in, rotate_right_in};
 pub use shift::{shift_left_in, shift_right_in};

@@ -3,26 +3,25 @@
 ghost use Rattle.std.specs.Prelude.{◌≡◌, ℕ, ◌+◌, ◌-◌, ◌*◌, ◌^◌, ◌<◌, ◌≤◌, false, length};
 ghost use Rattle.bit_addressing_memory.specs.declared.direction.Direction.{Direction};
 ghost use Rattle.bit_addressing_memory.specs.Memory.{read_by};
-ghost use Rattle.bit_addressing_memory.specs.Straight.{Goes, straight};
+ghost use Rattle.bit_addressing_memory.specs.Straight.{straight};
 ghost use Rattle.bit_slice_paths.specs.Chunk.{chunk_bit};
 ghost use Rattle.bit_slice_words.specs.Found.{is_bit};
 ghost use Rattle.bit_slice_words.specs.Stretch.{bit_found, IsFirst, IsLast};
 
 use bit_addressing_memory::mem::bits_of;
-use bit_addressing_memory::{BitOrder, BitRegister, Direction};
+use bit_addressing_memory::{BitOrder, BitRegister, Direction, Straight};
 use bit_slice_paths::{first_difference, raised, read_part};
 
 // The place of the first bit that is `bit` in a part of a word, of up to 64 bits.
 #[inline(always)]
 pub(crate) fn first_in_part<R: BitRegister, O: BitOrder<R>>(
-    direction: Direction,
+    straight: Straight<R, O>,
     words: &[R],
     word: usize,
     from: u8,
     upto: u8,
     bit: bool,
 ) -> Option<usize>
-    requires goes { Goes R.BITS O.position direction }
     requires inside { word < length words.now }
     requires order { from < upto }
     requires few { upto ≤ from + 64 }
@@ -32,8 +31,8 @@ pub(crate) fn first_in_part<R: BitRegister, O: BitOrder<R>>(
         (word * R.BITS + from) (word * R.BITS + upto) result }
 {
     let count = upto - from;
-    let chunk = read_part::<R, O>(direction, words, word, from, count);
-    let before = first_difference(direction, chunk, chunk_without(bit));
+    let chunk = read_part::<R, O>(straight, words, word, from, count);
+    let before = first_difference(straight.direction, chunk, chunk_without(bit));
     if before < count as usize {
         Some(word * bits_of::<R>() + from as usize + before)
     } else {
@@ -44,14 +43,13 @@ pub(crate) fn first_in_part<R: BitRegister, O: BitOrder<R>>(
 // The place of the last bit that is `bit` in a part of a word, of up to 64 bits.
 #[inline(always)]
 pub(crate) fn last_in_part<R: BitRegister, O: BitOrder<R>>(
-    direction: Direction,
+    straight: Straight<R, O>,
     words: &[R],
     word: usize,
     from: u8,
     upto: u8,
     bit: bool,
 ) -> Option<usize>
-    requires goes { Goes R.BITS O.position direction }
     requires inside { word < length words.now }
     requires order { from < upto }
     requires few { upto ≤ from + 64 }
@@ -61,9 +59,9 @@ pub(crate) fn last_in_part<R: BitRegister, O: BitOrder<R>>(
         (word * R.BITS + from) (word * R.BITS + upto) result }
 {
     let count = upto - from;
-    let read = read_part::<R, O>(direction, words, word, from, count);
-    let chunk = raised(direction, read, 64 - count);
-    let behind = first_difference(opposite(direction), chunk, chunk_without(bit));
+    let read = read_part::<R, O>(straight, words, word, from, count);
+    let chunk = raised(straight.direction, read, 64 - count);
+    let behind = first_difference(opposite(straight.direction), chunk, chunk_without(bit));
     if behind < count as usize {
         Some(word * bits_of::<R>() + from as usize + (count as usize - 1 - behind))
     } else {

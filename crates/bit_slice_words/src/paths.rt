@@ -9,7 +9,7 @@ ghost use Rattle.std.specs.Bool.{xor};
 ghost use Rattle.bit_addressing_memory.specs.Memory.{entry, read_by, Copies, Overwrites};
 ghost use Rattle.bit_slice_paths.specs.Steps.{groups, Takes};
 
-use bit_addressing_memory::{BitOrder, BitRegister, Direction, Lsb0, Msb0};
+use bit_addressing_memory::{BitOrder, BitRegister, Direction, Lsb0, Msb0, Straight};
 use bit_slice_paths::combining::{AndOp, CopyOp, OrOp, XorOp};
 use bit_slice_paths::{Steps, by_words};
 
@@ -148,97 +148,35 @@ pub trait WordPaths<R: BitRegister>: BitOrder<R> {
     ghost most_span: { SPAN ≤ 64 };
 }
 
-impl<R: BitRegister> WordPaths<R> for Lsb0 {
-    ghost use Rattle.bit_slice_words.specs.PathLaws.{span_of_64, most_of_64};
-
-    ghost SPAN = { 64 };
-
-    const SPAN: u8 = 64;
-
-    fn equal(
-        words: &[R],
-        place: usize,
-        others: &[R],
-        other_place: usize,
-        len: usize,
-        steps: &mut Steps,
-    ) -> bool {
-        by_words::equal::<R, Lsb0>(words, place, others, other_place, len, steps)
-    }
-
-    fn copy(
-        words: &mut [R],
-        place: usize,
-        others: &[R],
-        other_place: usize,
-        len: usize,
-        steps: &mut Steps,
-    ) {
-        by_words::combine::<CopyOp, R, Lsb0>(words, place, others, other_place, len, steps);
-    }
-
-    fn swap(
-        words: &mut [R],
-        place: usize,
-        others: &mut [R],
-        other_place: usize,
-        len: usize,
-        steps: &mut Steps,
-    ) {
-        by_words::swap::<R, Lsb0>(
-            Direction::Ascending,
-            words,
-            place,
-            others,
-            other_place,
-            len,
-            steps,
-        );
-    }
-
-    fn copy_over(words: &mut [R], source: usize, target: usize, len: usize, steps: &mut Steps) {
-        by_words::copy_over::<R, Lsb0>(Direction::Ascending, words, source, target, len, steps);
-    }
-
-    fn and(
-        words: &mut [R],
-        place: usize,
-        others: &[R],
-        other_place: usize,
-        len: usize,
-        steps: &mut Steps,
-    ) {
-        by_words::combine::<AndOp, R, Lsb0>(words, place, others, other_place, len, steps);
-    }
-
-    fn or(
-        words: &mut [R],
-        place: usize,
-        others: &[R],
-        other_place: usize,
-        len: usize,
-        steps: &mut Steps,
-    ) {
-        by_words::combine::<OrOp, R, Lsb0>(words, place, others, other_place, len, steps);
-    }
-
-    fn xor(
-        words: &mut [R],
-        place: usize,
-        others: &[R],
-        other_place: usize,
-        len: usize,
-        steps: &mut Steps,
-    ) {
-        by_words::combine::<XorOp, R, Lsb0>(words, place, others, other_place, len, steps);
-    }
-
-    ghost least_span = { span_of_64 };
-
-    ghost most_span = { most_of_64 };
+/// An order whose positions go straight with the indices of a word.
+pub trait StraightOrder<R: BitRegister>: BitOrder<R> {
+    /// In which direction they go.
+    fn straight() -> Straight<R, Self>;
 }
 
-impl<R: BitRegister> WordPaths<R> for Msb0 {
+impl<R: BitRegister> StraightOrder<R> for Lsb0 {
+    #[inline(always)]
+    fn straight() -> Straight<R, Lsb0> {
+        Straight::new(Direction::Ascending)
+    }
+}
+
+impl<R: BitRegister> StraightOrder<R> for Msb0 {
+    #[inline(always)]
+    fn straight() -> Straight<R, Msb0> {
+        Straight::new(Direction::Descending)
+    }
+}
+
+/// Marks the orders that have the word paths of all straight ones. It names no register, so that an order of another
+/// crate, which is not marked, may have word paths of its own.
+pub trait AlwaysStraight {}
+
+impl AlwaysStraight for Lsb0 {}
+
+impl AlwaysStraight for Msb0 {}
+
+impl<R: BitRegister, O: AlwaysStraight + StraightOrder<R>> WordPaths<R> for O {
     ghost use Rattle.bit_slice_words.specs.PathLaws.{span_of_64, most_of_64};
 
     ghost SPAN = { 64 };
@@ -253,7 +191,7 @@ impl<R: BitRegister> WordPaths<R> for Msb0 {
         len: usize,
         steps: &mut Steps,
     ) -> bool {
-        by_words::equal::<R, Msb0>(words, place, others, other_place, len, steps)
+        by_words::equal::<R, O>(words, place, others, other_place, len, steps)
     }
 
     fn copy(
@@ -264,7 +202,7 @@ impl<R: BitRegister> WordPaths<R> for Msb0 {
         len: usize,
         steps: &mut Steps,
     ) {
-        by_words::combine::<CopyOp, R, Msb0>(words, place, others, other_place, len, steps);
+        by_words::combine::<CopyOp, R, O>(words, place, others, other_place, len, steps);
     }
 
     fn swap(
@@ -275,19 +213,11 @@ impl<R: BitRegister> WordPaths<R> for Msb0 {
         len: usize,
         steps: &mut Steps,
     ) {
-        by_words::swap::<R, Msb0>(
-            Direction::Descending,
-            words,
-            place,
-            others,
-            other_place,
-            len,
-            steps,
-        );
+        by_words::swap::<R, O>(O::straight(), words, place, others, other_place, len, steps);
     }
 
     fn copy_over(words: &mut [R], source: usize, target: usize, len: usize, steps: &mut Steps) {
-        by_words::copy_over::<R, Msb0>(Direction::Descending, words, source, target, len, steps);
+        by_words::copy_over::<R, O>(O::straight(), words, source, target, len, steps);
     }
 
     fn and(
@@ -298,7 +228,7 @@ impl<R: BitRegister> WordPaths<R> for Msb0 {
         len: usize,
         steps: &mut Steps,
     ) {
-        by_words::combine::<AndOp, R, Msb0>(words, place, others, other_place, len, steps);
+        by_words::combine::<AndOp, R, O>(words, place, others, other_place, len, steps);
     }
 
     fn or(
@@ -309,7 +239,7 @@ impl<R: BitRegister> WordPaths<R> for Msb0 {
         len: usize,
         steps: &mut Steps,
     ) {
-        by_words::combine::<OrOp, R, Msb0>(words, place, others, other_place, len, steps);
+        by_words::combine::<OrOp, R, O>(words, place, others, other_place, len, steps);
     }
 
     fn xor(
@@ -320,7 +250,7 @@ impl<R: BitRegister> WordPaths<R> for Msb0 {
         len: usize,
         steps: &mut Steps,
     ) {
-        by_words::combine::<XorOp, R, Msb0>(words, place, others, other_place, len, steps);
+        by_words::combine::<XorOp, R, O>(words, place, others, other_place, len, steps);
     }
 
     ghost least_span = { span_of_64 };

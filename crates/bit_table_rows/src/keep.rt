@@ -5,11 +5,9 @@
 //! hand; a few bits go one by one. Where no bit of the rows is 1, words of zeros are put.
 
 ghost use Rattle.std.specs.Prelude.{◌≡◌, ℕ, ◌+◌, ◌-◌, ◌*◌, ◌/◌, ◌%◌, ◌^◌, ◌<◌, ◌≤◌, Bool, true, false, List, length};
-ghost use Rattle.std.specs.Prelude.{Some, count_by, not, slice_index_or};
+ghost use Rattle.std.specs.Prelude.{count_by, not, slice_index_or};
 ghost use Rattle.bit_addressing_memory.specs.Memory.{Overwrites, entry, memory, piece, read_by, touched};
 ghost use Rattle.bit_addressing_memory.specs.Moves.{changed};
-ghost use Rattle.bit_addressing_memory.specs.Straight.{Goes};
-ghost use Rattle.bit_addressing_memory.specs.declared.direction.Direction.{Direction};
 ghost use Rattle.bit_addressing_memory.specs.Sweep.{IsFresh, SameButReads, edge_of, sweep_lender, sweep_words, way_of};
 ghost use Rattle.bit_addressing_memory.specs.Sweep.{writes_of};
 ghost use Rattle.bit_addressing_memory.specs.declared.sweep.Way.TheVariants.{Up};
@@ -20,9 +18,7 @@ ghost use Rattle.bit_table_rows.specs.RowsKept.{KeepsRows, rows_kept};
 
 use crate::bulk_ops::{RowOp, row_loop_limit};
 use bit_addressing_memory::mem::bits_of;
-use bit_addressing_memory::{
-    BitIdx, BitOrder, BitRegister, Direction, Sweep, direction_of, no_digits, taken,
-};
+use bit_addressing_memory::{BitIdx, BitOrder, BitRegister, Straight, Sweep, no_digits, taken};
 use bit_slice_views::{BitSlice, Bits};
 
 /// Keeps those of the `n` rows whose entry in `off` is false: they come to lie in their order from bit `head` of the
@@ -210,7 +206,7 @@ pub(crate) fn keep_runs<T: BitRegister, O: BitOrder<T>>(
     ensures lender { sweep_lender sweep.new ≡ sweep_lender sweep.old }
 {
     // Found once: at each row it would cost more than the row where the compiler does not know it.
-    let direction = direction_of::<T, O>();
+    let straight = Straight::<T, O>::find();
     let few = row_loop_limit::<T, O>(RowOp::Keep);
     let mut word = T::ZERO;
     let mut kept: usize = 0;
@@ -223,7 +219,7 @@ pub(crate) fn keep_runs<T: BitRegister, O: BitOrder<T>>(
             let upto = stay_upto::<T, O>(off, k + 1, n);
             let (to, from) = (first + kept * w, first + k * w);
             let len = (upto - k) * w;
-            word = keep_run::<T, O>(sweep, direction, few, word, first, to, from, len);
+            word = keep_run::<T, O>(sweep, straight, few, word, first, to, from, len);
             kept += upto - k;
             k = upto;
             if k < n {
@@ -256,12 +252,12 @@ fn stay_upto<T: BitRegister, O: BitOrder<T>>(off: BitSlice<'_, T, O>, k: usize, 
 }
 
 // Puts the bits of rows, which stand from the place `from` on, to the place `to` on. `word` is at hand for the word of
-// `to`, and the word for the place behind them is answered. The positions go in `direction`, where there is one; up to
+// `to`, and the word for the place behind them is answered. `straight` says whether the positions go straight; up to
 // `few` bits go one by one.
 #[inline(always)]
 fn keep_run<T: BitRegister, O: BitOrder<T>>(
     sweep: &mut Sweep<'_, T>,
-    direction: Option<Direction>,
+    straight: Option<Straight<T, O>>,
     few: usize,
     word: T,
     first: usize,
@@ -269,7 +265,6 @@ fn keep_run<T: BitRegister, O: BitOrder<T>>(
     from: usize,
     len: usize,
 ) -> T
-    requires goes { (d : Direction) → direction ≡ Some d → Goes T.BITS O.position d }
     requires way { way_of sweep.old ≡ Up }
     requires edge { edge_of sweep.old ≤ to / T.BITS }
     requires order { to ≤ from }
@@ -281,7 +276,7 @@ fn keep_run<T: BitRegister, O: BitOrder<T>>(
     if len <= few {
         return keep_bits::<T, O>(sweep, word, first, to, from, len);
     }
-    keep_many::<T, O>(sweep, direction, word, first, to, from, len)
+    keep_many::<T, O>(sweep, straight, word, first, to, from, len)
 }
 
 // The same, bit by bit.
@@ -312,14 +307,13 @@ fn keep_bits<T: BitRegister, O: BitOrder<T>>(
 #[inline(always)]
 fn keep_many<T: BitRegister, O: BitOrder<T>>(
     sweep: &mut Sweep<'_, T>,
-    direction: Option<Direction>,
+    straight: Option<Straight<T, O>>,
     word: T,
     first: usize,
     to: usize,
     from: usize,
     len: usize,
 ) -> T
-    requires goes { (d : Direction) → direction ≡ Some d → Goes T.BITS O.position d }
     requires way { way_of sweep.old ≡ Up }
     requires edge { edge_of sweep.old ≤ to / T.BITS }
     requires order { to ≤ from }
@@ -333,7 +327,7 @@ fn keep_many<T: BitRegister, O: BitOrder<T>>(
     let mut done: usize = 0;
     'parts: while done < len {
         let count = (bits - (to + done) % bits).min(len - done);
-        next = keep_part::<T, O>(sweep, direction, next, first, to + done, from + done, count);
+        next = keep_part::<T, O>(sweep, straight, next, first, to + done, from + done, count);
         done += count;
     }
     next
@@ -344,14 +338,13 @@ fn keep_many<T: BitRegister, O: BitOrder<T>>(
 #[inline(always)]
 fn keep_part<T: BitRegister, O: BitOrder<T>>(
     sweep: &mut Sweep<'_, T>,
-    direction: Option<Direction>,
+    straight: Option<Straight<T, O>>,
     word: T,
     first: usize,
     to: usize,
     from: usize,
     count: usize,
 ) -> T
-    requires goes { (d : Direction) → direction ≡ Some d → Goes T.BITS O.position d }
     requires way { way_of sweep.old ≡ Up }
     requires edge { edge_of sweep.old ≤ to / T.BITS }
     requires some { 0 < count }
@@ -367,7 +360,7 @@ fn keep_part<T: BitRegister, O: BitOrder<T>>(
     let own = begun::<T, O>(sweep, word, first, to);
     let next = taken::<T, O>(
         sweep,
-        direction,
+        straight,
         from,
         own,
         index as u8,

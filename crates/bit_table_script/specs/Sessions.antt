@@ -5,6 +5,6 @@ use Rattle.bit_table_script.specs.Scripts.{state_of}
 use Rattle.bit_table_script.specs.Shapes.{shape_in}
 
 -- the state of a script that a session has come to
-abbrev pub session_state : {A O S : Type 0} {a : _} {b : _} {c : _} {d : _} {e : _} {f : _}
-    → Session A O S a b c d e f → State
+abbrev pub session_state : {A O S C : Type 0} {a : _} {b : _} {c : _} {d : _} {e : _} {f : _} {g : _}
+    → Session A O S C a b c d e f g → State
 session_state s = state_of (shape_in s.table)

@@ -1,6 +1,6 @@
 //! Room for rows of a table.
 
-ghost use Rattle.std.specs.Prelude.{◌*◌, ◌≤◌, IfOk, IsTrue};
+ghost use Rattle.std.specs.Prelude.{◌≡◌, ◌*◌, ◌≤◌, IfOk, IsTrue, OnErr, length};
 ghost use Rattle.bit_table_layout.specs.declared.layout.TheConstants.{MAX_ROW_BITS};
 
 use bit_addressing_memory::Lsb0;
@@ -38,6 +38,16 @@ fn is_done<A: BitViewSized, O: WordPaths<A::Store> + Digits<A::Store>>(
     Ok(table.apply(&command)? == Reply::Done)
 }
 
+// Keeps a snapshot of a table whose storage is named, and returns how many rows it has.
+fn snapshot_rows(table: &mut Table<[u64; 16], Lsb0>) -> Result<usize, AllocError>
+    ensures rows { IfOk result (λ rows. rows ≡ length table.new.shape.rows) }
+    ensures err { OnErr result (table.new ≡ table.old) }
+    ensures room { table.new.room ≡ table.old.room }
+{
+    table.keep()?;
+    Ok(table.rows())
+}
+
 // The room of a table: of two rows, with room made for three more, when three have come, when two have gone, and when two
 // have come again. None where a line is not done.
 fn rooms<A: BitViewSized, O: WordPaths<A::Store> + Digits<A::Store>>(
@@ -69,6 +79,20 @@ fn rooms<A: BitViewSized, O: WordPaths<A::Store> + Digits<A::Store>>(
         return Ok(Some([two, made, come, gone, again]));
     }
     Ok(None)
+}
+
+#[test]
+fn a_function_names_the_storage_of_a_table(rt: HostRuntime) -> Result<(), Fail> {
+    let Ok(layout) = Layout::parse(rt.alloc(), b"low a:u3 b:i4") else {
+        return Ok(());
+    };
+    let mut table = Table::<[u64; 16], Lsb0>::new(rt.alloc(), layout);
+    assert!(rt; is_done(rt.alloc(), &mut table, b"insert 0 5 -3")?);
+    let kept = snapshot_rows(&mut table)?;
+    assert!(rt; is_done(rt.alloc(), &mut table, b"insert 0 2 7")?);
+    assert!(rt; kept == 1 && table.rows() == 2);
+    assert!(rt; table.back() && table.rows() == 1);
+    Ok(())
 }
 
 #[test]

@@ -1,8 +1,8 @@
 //! The command line, as clap reads it.
 
-use crate::answer::Question;
 use clap::error::ErrorKind;
 use clap::{Arg, ArgAction, ArgGroup, ArgMatches, Command, Error};
+use column_table::answer::Question;
 use std::alloc::{AllocError, Global};
 
 // The options of which exactly one is given.

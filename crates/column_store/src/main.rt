@@ -3,31 +3,18 @@
 //! again at each run.
 #![tactic(auto)]
 
-ghost use Rattle.std.specs.Prelude.{◌*◌, ◌≤◌};
-ghost use Rattle.bit_table.specs.LayoutLimits.{MAX_ROW_BITS};
-
-mod answer;
 mod command_line;
-mod condition;
-mod csv_table;
-mod number;
-mod read_back;
-mod select;
-mod store;
-#[cfg(test)]
-mod tests;
-mod width;
 
-use bit_table::{BitViewSized, Digits, Lsb0, WordPaths};
+use column_table::condition::conditions;
+use column_table::csv_table::{CsvError, read_csv};
+use column_table::store::StoreError;
+use column_table::{Lsb0, answer, select, store};
 use command_line::{Asked, Request, read_words};
-use condition::conditions;
-use csv_table::{CsvError, read_csv};
 use std::alloc::{AllocError, AllocGlobal};
 use std::env::Env;
 use std::io::{Read, Write};
 use std::process::ExitCode;
 use std::{env, io};
-use store::StoreError;
 
 // The exit status after a bad command line.
 const BAD_COMMAND_LINE: u8 = 2;
@@ -42,7 +29,7 @@ fn main(rt: HostRuntime) -> ExitCode {
         }
     };
     match read_words(rt.alloc(), words.as_slice()) {
-        Asked::Answer(request) => ended(&rt, answered::<[u64; 16], Lsb0>(&rt, &request)),
+        Asked::Answer(request) => ended(&rt, answered(&rt, &request)),
         Asked::Help(text) => ended(&rt, written(&rt, text.as_bytes())),
         Asked::Bad(text) => refused(&rt, text.as_str()),
         Asked::NoMemory => ended(&rt, Err(StoreError::Memory(AllocError))),
@@ -59,14 +46,9 @@ fn words<R: Env + AllocGlobal>(rt: &R) -> io::Result<Vec<String>> {
 }
 
 // Reads the table on standard input, and writes what is asked for to standard output.
-fn answered<A: BitViewSized, O: WordPaths<A::Store> + Digits<A::Store>>(
-    rt: &HostRuntime,
-    request: &Request,
-) -> Result<(), StoreError>
-    requires { MAX_ROW_BITS ≤ A.COUNT * A.Store.BITS }
-{
+fn answered(rt: &HostRuntime, request: &Request) -> Result<(), StoreError> {
     let table = read_csv(rt.alloc(), text_of(rt)?.as_slice())?;
-    let mut store = store::pack::<A, O>(rt.alloc(), table)?;
+    let mut store = store::pack::<[u64; 16], Lsb0>(rt.alloc(), table)?;
     let conditions = conditions(rt.alloc(), store.table.layout(), request.conditions())?;
     select::select(&mut store.table, conditions.as_slice());
     let text = answer::answer(rt.alloc(), &mut store, request.question())?;

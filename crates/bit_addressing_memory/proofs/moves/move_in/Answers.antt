@@ -5,9 +5,6 @@ use Rattle.bit_addressing_memory.proofs.Changes.{unchanged}
 use Rattle.bit_addressing_memory.proofs.Sweeps.{moved_all}
 use Rattle.bit_addressing_memory.proofs.moves.move_in.Goals as goal
 
-pub put_straight-requires-clause-goes : goal.put_straight-requires-clause-goes
-put_straight-requires-clause-goes g c = (c.direction_of.ensures c.in-Some.direction).0 c.in-Some.is
-
 pub returns-in-Some-clause-moved : goal.returns-in-Some-clause-moved
 returns-in-Some-clause-moved g c =
     let b = g.R.BitRegister.BITS in
@@ -40,9 +37,5 @@ returns-in-None-clause-changed g c =
 
 -- no direction was found, so there is none
 pub returns-in-None-clause-reads : goal.returns-in-None-clause-reads
-returns-in-None-clause-reads g c (inl up) =
-    let told = (c.direction_of.ensures Ascending).1 up in
-    absurd (cc)
-returns-in-None-clause-reads g c (inr down) =
-    let told = (c.direction_of.ensures Descending).1 down in
-    absurd (cc)
+returns-in-None-clause-reads g c (inl up) = absurd (rw c.in-None.is at c.find.ensures Ascending up)
+returns-in-None-clause-reads g c (inr down) = absurd (rw c.in-None.is at c.find.ensures Descending down)

@@ -4,9 +4,6 @@ use Rattle.bit_slice_chunks.specs.Combined.{combined_bit}
 use Rattle.bit_slice_chunks.proofs.AnyOrderLemmas.{overwrites_as}
 use Rattle.bit_slice_chunks.proofs.any_order.combine_chunk.Goals as goal
 
-pub combine_chunk-requires-clause-goes : goal.combine_chunk-requires-clause-goes
-combine_chunk-requires-clause-goes g c = (c.direction_of.ensures c.in-Some.way).0 c.in-Some.is
-
 pub returns-in-Some : goal.returns-in-Some
 returns-in-Some g c =
     let reading = read_by g.R.BitRegister g.O.Positions.position in

@@ -4,13 +4,10 @@ use Rattle.bit_slice_chunks.proofs.AnyOrderLemmas.{chunk_of_entries}
 use Rattle.bit_slice_chunks.proofs.TurnLemmas.{faced_chunk}
 use Rattle.bit_slice_chunks.proofs.any_order.read_bits.Goals as goal
 
-pub read_bits-chunk-requires-clause-goes : goal.read_bits-chunk-requires-clause-goes
-read_bits-chunk-requires-clause-goes g c = (c.direction_of.ensures c.in-Some.way).0 c.in-Some.is
-
 pub returns-in-Some : goal.returns-in-Some
 returns-in-Some g c =
     faced_chunk (read_by g.R.BitRegister g.O.Positions.position) c.args.words.now c.args.place c.args.count
-    c.in-Some.way c.args.direction c.read_bits-chunk.result c.faced.result c.requires.few c.read_bits-chunk.ensures
+    c.in-Some.straight.direction c.args.direction c.read_bits-chunk.result c.faced.result c.requires.few c.read_bits-chunk.ensures
     c.faced.ensures
 
 pub returns-in-None : goal.returns-in-None

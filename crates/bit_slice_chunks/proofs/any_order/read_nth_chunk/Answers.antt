@@ -5,12 +5,9 @@ use Rattle.bit_slice_chunks.proofs.AnyOrderLemmas.{chunk_of_entries}
 use Rattle.bit_slice_chunks.proofs.TurnLemmas.{faced_chunk}
 use Rattle.bit_slice_chunks.proofs.any_order.read_nth_chunk.Goals as goal
 
-pub read_nth_chunk-chunk-requires-clause-goes : goal.read_nth_chunk-chunk-requires-clause-goes
-read_nth_chunk-chunk-requires-clause-goes g c = (c.direction_of.ensures c.in-Some.way).0 c.in-Some.is
-
 pub returns-in-Some : goal.returns-in-Some
 returns-in-Some g c =
-    faced_chunk (read_by g.R.BitRegister g.O.Positions.position) c.args.words.now (c.args.place + 64 * c.args.k) 64 c.in-Some.way
+    faced_chunk (read_by g.R.BitRegister g.O.Positions.position) c.args.words.now (c.args.place + 64 * c.args.k) 64 c.in-Some.straight.direction
     c.args.direction c.read_nth_chunk-chunk.result c.faced.result (omega arith) c.read_nth_chunk-chunk.ensures c.faced.ensures
 
 pub returns-in-None : goal.returns-in-None

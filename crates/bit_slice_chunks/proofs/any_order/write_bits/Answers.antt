@@ -3,9 +3,6 @@ use Rattle.bit_addressing_memory.specs.Memory.{read_by}
 use Rattle.bit_slice_chunks.proofs.AnyOrderLemmas.{overwrites_as}
 use Rattle.bit_slice_chunks.proofs.any_order.write_bits.Goals as goal
 
-pub write_bits-requires-clause-goes : goal.write_bits-requires-clause-goes
-write_bits-requires-clause-goes g c = (c.direction_of.ensures c.in-Some.way).0 c.in-Some.is
-
 pub returns-in-Some : goal.returns-in-Some
 returns-in-Some g c =
     overwrites_as (read_by g.R.BitRegister g.O.Positions.position) c.args.words.now _ _ _ _ _

@@ -27,8 +27,8 @@ returns-then-by-eq0 g c =
     let first = c.args.place / c.bits_of-bits.result in
     let start = first_word b c.bits_of-bits.result c.args.place c.bits_of-bits.ensures in
     combined_from reading c.args.words.now c.scattered.new.words (first * b) c.args.place 64 (combined_bit c.args.how)
-    c.args.direction c.args.other (omega arith) (combined_chunk reading c.args.words.now c.scattered.new.words
-    (first * b) 64 (combined_bit c.args.how) c.args.direction c.gathered-low.result c.args.other c.combined.result
+    c.args.straight.direction c.args.other (omega arith) (combined_chunk reading c.args.words.now c.scattered.new.words
+    (first * b) 64 (combined_bit c.args.how) c.args.straight.direction c.gathered-low.result c.args.other c.combined.result
     c.gathered-low.ensures c.combined.ensures c.scattered.ensures)
 
 pub returns : goal.returns
@@ -45,7 +45,7 @@ returns g c =
     let words = words_of_64 b bits g.met.R.BitRegister.size narrow c.bits_of-bits.ensures in
     let within = word_behind b bits c.args.place (length c.args.words.now)
     g.met.R.BitRegister.size narrow c.bits_of-bits.ensures some c.requires.lies.within in
-    combined_across b g.R.BitRegister.number g.O.Positions.position c.args.direction c.requires.goes c.args.words.now
+    combined_across b g.R.BitRegister.number g.O.Positions.position c.args.straight.direction c.args.straight.goes c.args.words.now
     c.scattered-2.new.words c.put.new.words c.args.place first by (first + 64 / bits) c.gathered-low.result
     c.raised.result c.combined-front.result c.first_bits.result c.last_bits.result _ c.part-last.result
     c.lowered.result c.combined-back.result c.args.other c.word_at.result (combined_bit c.args.how) start

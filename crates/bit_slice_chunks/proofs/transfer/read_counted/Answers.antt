@@ -16,7 +16,7 @@ loop-k-init g c =
     c.requires.lies.within in
     record {
       chunk =
-          read_first b g.R.BitRegister.number g.O.Positions.position c.args.direction c.requires.goes c.args.words.now
+          read_first b g.R.BitRegister.number g.O.Positions.position c.args.straight.direction c.args.straight.goes c.args.words.now
           c.args.place first _ c.part-chunk.result _ c.index-words-first.result
           (first_word b bits c.args.place c.bits_of-bits.ensures) refl c.part-chunk.ensures within c.index-words-first.is;
       reads = omega arith;
@@ -40,7 +40,7 @@ loop-k-preserved g c =
     let row : k * bits ≡ k * b = ap (λ n. k * n) c.bits_of-bits.ensures in
     record {
       chunk =
-          read_more b g.R.BitRegister.number g.O.Positions.position c.args.direction c.requires.goes c.args.words.now
+          read_more b g.R.BitRegister.number g.O.Positions.position c.args.straight.direction c.args.straight.goes c.args.words.now
           place k (k * bits - place) c.loop-k.chunk c.part-next.result c.raised-chunk.result _ _ c.index-words-k.result
           (omega arith) (omega arith) refl c.loop-k.invariant.chunk c.part-next.ensures c.raised-chunk.ensures refl within
           c.index-words-k.is;
@@ -56,7 +56,7 @@ returns-clause-chunk g c =
     let ends : place + c.args.count ≤ c.loop-k.k * b =
     ends_behind b bits (place + c.args.count) c.loop-k.k c.bits_of-bits.ensures some (omega arith) in
     read_all (read_by g.R.BitRegister g.O.Positions.position) c.args.words.now place (c.loop-k.k * b) c.args.count
-    c.args.direction c.loop-k.chunk c.first_bits.result c.requires.few ends c.loop-k.invariant.chunk c.first_bits.ensures
+    c.args.straight.direction c.loop-k.chunk c.first_bits.result c.requires.few ends c.loop-k.invariant.chunk c.first_bits.ensures
 
 pub returns-clause-reads : goal.returns-clause-reads
 returns-clause-reads g c =

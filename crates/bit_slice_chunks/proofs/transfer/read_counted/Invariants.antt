@@ -6,6 +6,6 @@ use Rattle.bit_slice_chunks.proofs.transfer.read_counted.Given as goal
 abbrev pub invariant-loop-k : goal.invariant-loop-k
 invariant-loop-k g l = record {
   chunk : ReadTo (read_by g.R.BitRegister g.O.Positions.position) l.words l.place (l.k * g.R.BitRegister.BITS)
-      l.direction l.chunk;
+      l.straight.direction l.chunk;
   reads : l.reads ≡ l.k - l.first;
 }

@@ -22,10 +22,10 @@ loop-k-init g c =
     record {
       bits =
           write_more reading c.args.words.now c.args.words.now c.put.new.words place count first b (first * b) bits
-          (place % bits) c.min-inner.result 0 c.args.direction c.args.chunk c.args.chunk c.bits_of-bits.ensures refl
+          (place % bits) c.min-inner.result 0 c.args.straight.direction c.args.chunk c.args.chunk c.bits_of-bits.ensures refl
           (omega arith) (omega (arith, c.requires.some)) c.requires.few (omega arith) (omega arith) (omega arith)
-          (lowered_none c.args.direction c.args.chunk)
-          (write_none reading c.args.words.now place _ (chunk_bit c.args.direction c.args.chunk) (omega arith))
+          (lowered_none c.args.straight.direction c.args.chunk)
+          (write_none reading c.args.words.now place _ (chunk_bit c.args.straight.direction c.args.chunk) (omega arith))
           c.put.ensures;
       writes = omega arith;
     }
@@ -47,7 +47,7 @@ loop-k-preserved g c =
       bits =
           write_more (read_by g.R.BitRegister g.O.Positions.position) c.args.words.now c.loop-k.words
           c.put-in-loop-k.new.words place count k b (k * bits) bits 0 c.min-upto.result (k * bits - place)
-          c.args.direction c.args.chunk c.lowered-rest.result c.bits_of-bits.ensures row (omega arith) ends
+          c.args.straight.direction c.args.chunk c.lowered-rest.result c.bits_of-bits.ensures row (omega arith) ends
           c.requires.few (omega arith) c.min-upto.ensures (omega arith) c.lowered-rest.ensures c.loop-k.invariant.bits
           c.put-in-loop-k.ensures;
       writes = omega (arith, c.loop-k.invariant.writes);

@@ -6,6 +6,6 @@ use Rattle.bit_slice_chunks.proofs.transfer.write_counted.Given as goal
 abbrev pub invariant-loop-k : goal.invariant-loop-k
 invariant-loop-k g l = record {
   bits : Overwrites (read_by g.R.BitRegister g.O.Positions.position) l.fn.words l.words l.place
-      (min l.count (l.k * g.R.BitRegister.BITS - l.place)) (chunk_bit l.direction l.chunk);
+      (min l.count (l.k * g.R.BitRegister.BITS - l.place)) (chunk_bit l.straight.direction l.chunk);
   writes : l.writes ≡ l.k - l.first;
 }

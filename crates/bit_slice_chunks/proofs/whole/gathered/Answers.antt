@@ -32,7 +32,7 @@ loop-k-preserved g c =
     word_of_chunk b bits first k (length c.args.words.now) size c.requires.narrow c.bits_of-bits.ensures some
     (omega arith) c.requires.lies.within in
     let row : k * bits ≡ k * b = ap (λ n. k * n) c.bits_of-bits.ensures in
-    read_more b g.R.BitRegister.number g.O.Positions.position c.args.direction c.requires.goes c.args.words.now
+    read_more b g.R.BitRegister.number g.O.Positions.position c.args.straight.direction c.args.straight.goes c.args.words.now
     (first * b) (first + k) (k * bits) c.loop-k.chunk c.part-next.result c.raised-chunk.result _ _
     c.index-words-first.result (omega arith) (omega arith) (omega arith) c.loop-k.invariant c.part-next.ensures
     c.raised-chunk.ensures refl within c.index-words-first.is
@@ -46,4 +46,4 @@ returns g c =
     ap (λ k. k * b) all
     ∙ words_of_64 b bits g.met.R.BitRegister.size c.requires.narrow c.bits_of-bits.ensures in
     read_whole (read_by g.R.BitRegister g.O.Positions.position) c.args.words.now (c.args.first * b)
-    ((c.args.first + c.loop-k.k) * b) c.args.direction c.loop-k.chunk (omega arith) c.loop-k.invariant
+    ((c.args.first + c.loop-k.k) * b) c.args.straight.direction c.loop-k.chunk (omega arith) c.loop-k.invariant

@@ -6,4 +6,4 @@ use Rattle.bit_slice_chunks.proofs.whole.gathered.Given as goal
 abbrev pub invariant-loop-k : goal.invariant-loop-k
 invariant-loop-k g l =
     ReadTo (read_by g.R.BitRegister g.O.Positions.position) l.words (l.first * g.R.BitRegister.BITS)
-    ((l.first + l.k) * g.R.BitRegister.BITS) l.direction l.chunk
+    ((l.first + l.k) * g.R.BitRegister.BITS) l.straight.direction l.chunk

@@ -24,7 +24,7 @@ returns g c =
     let words = words_of_64 b bits g.met.R.BitRegister.size c.requires.narrow c.bits_of.ensures in
     let within = next_word b bits first by (length c.args.words.now)
     g.met.R.BitRegister.size c.requires.narrow c.bits_of.ensures some c.requires.lies.within in
-    read_across b g.R.BitRegister.number g.O.Positions.position c.args.direction c.requires.goes c.args.words.now
+    read_across b g.R.BitRegister.number g.O.Positions.position c.args.straight.direction c.args.straight.goes c.args.words.now
     (first * b + by) first by (first + 64 / bits) c.gathered-low.result c.part-next.result c.lowered.result c.raised.result
     _ c.index-words-behind.result refl some c.requires.index c.requires.narrow (omega arith) c.gathered-low.ensures
     c.part-next.ensures c.lowered.ensures c.raised.ensures refl within c.index-words-behind.is

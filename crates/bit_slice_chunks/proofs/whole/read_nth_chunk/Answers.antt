@@ -17,5 +17,5 @@ returns g c =
     let narrow : b ≤ 64 = omega (arith, c.BITS.ensures) in
     chunk_as (read_by g.R.BitRegister g.O.Positions.position) c.args.words.now
     ((c.args.place / bits + c.args.k * (64 / bits)) * b + c.args.place % bits) (c.args.place + 64 * c.args.k) 64
-    c.args.direction c.read_from.result
+    c.args.straight.direction c.read_from.result
     (nth_word b bits c.args.place c.args.k g.met.R.BitRegister.size narrow c.bits_of-bits.ensures) c.read_from.ensures

@@ -28,8 +28,8 @@ loop-k-preserved g c =
     let within : first + k < length c.loop-k.words = omega (arith, c.loop-k.invariant.words) in
     let row : k * bits ≡ k * b = ap (λ n. k * n) c.bits_of-bits.ensures in
     let fits = word_begins b bits k size c.requires.narrow c.bits_of-bits.ensures low in
-    rw c.replace.ensures (scattered_more b g.R.BitRegister.number g.O.Positions.position c.args.direction
-    c.requires.goes c.args.words.now c.loop-k.words first k (first + k) (k * bits) c.args.chunk
+    rw c.replace.ensures (scattered_more b g.R.BitRegister.number g.O.Positions.position c.args.straight.direction
+    c.args.straight.goes c.args.words.now c.loop-k.words first k (first + k) (k * bits) c.args.chunk
     c.lowered-rest.result c.placed-word.result some refl row (omega arith) within c.lowered-rest.ensures
     c.placed-word.ensures c.loop-k.invariant)
 
@@ -42,5 +42,5 @@ returns g c =
     ap (λ k. k * b) all
     ∙ words_of_64 b bits g.met.R.BitRegister.size c.requires.narrow c.bits_of-bits.ensures in
     overwrites_of (read_by g.R.BitRegister g.O.Positions.position) c.args.words.now c.loop-k.words
-    (c.args.first * b) (c.loop-k.k * b) (c.args.first * b) 64 (chunk_bit c.args.direction c.args.chunk) refl row
+    (c.args.first * b) (c.loop-k.k * b) (c.args.first * b) 64 (chunk_bit c.args.straight.direction c.args.chunk) refl row
     c.loop-k.invariant

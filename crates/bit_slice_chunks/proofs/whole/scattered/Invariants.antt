@@ -6,4 +6,4 @@ use Rattle.bit_slice_chunks.proofs.whole.scattered.Given as goal
 abbrev pub invariant-loop-k : goal.invariant-loop-k
 invariant-loop-k g l =
     Overwrites (read_by g.R.BitRegister g.O.Positions.position) l.fn.words l.words (l.first * g.R.BitRegister.BITS)
-    (l.k * g.R.BitRegister.BITS) (chunk_bit l.direction l.chunk)
+    (l.k * g.R.BitRegister.BITS) (chunk_bit l.straight.direction l.chunk)

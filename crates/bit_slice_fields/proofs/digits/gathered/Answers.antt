@@ -4,13 +4,8 @@ use Rattle.bit_slice_views.specs.View.{view_bits}
 use Rattle.bit_slice_fields.specs.Digits.{cut_weight}
 use Rattle.bit_slice_fields.specs.Pieces.{way_for}
 use Rattle.bit_slice_fields.proofs.DigitsLemmas.{gathered_none, gathered_all}
-use Rattle.bit_slice_fields.proofs.PieceLemmas.{goes_for, piece_digits, gathered_more, whole_digits}
+use Rattle.bit_slice_fields.proofs.PieceLemmas.{piece_digits, gathered_more, whole_digits}
 use Rattle.bit_slice_fields.proofs.digits.gathered.Goals as goal
-
-pub piece_bits-all-requires-clause-goes : goal.piece_bits-all-requires-clause-goes
-piece_bits-all-requires-clause-goes g c =
-    rw c.way_of-way.ensures
-    (goes_for c.args.cut.low g.T.BitRegister.BITS g.O.Positions.position c.requires.counts)
 
 pub returns-then-is_one_piece : goal.returns-then-is_one_piece
 returns-then-is_one_piece g c =
@@ -21,7 +16,7 @@ returns-then-is_one_piece g c =
     let len = c.parts-head.result.2 in
     let some : 0 < g.T.BitRegister.BITS = omega (arith, g.met.T.BitRegister.least_bits) in
     let is = c.is_one_piece.ensures c.if-is_one_piece.true in
-    let chunk = rw c.way_of-way.ensures at c.piece_bits-all.ensures in
+    let chunk = rw c.straight_of-straight.ensures at c.piece_bits-all.ensures in
     let has =
     piece_digits (way_for cut.low) reading c.parts-head.result.0.now head len 0 len head c.piece_bits-all.result
     c.digits_of.result shown some (omega arith) is.some is.few (omega arith) c.parts-head.ensures.bits
@@ -51,11 +46,6 @@ loop-from-init g c =
       upto = omega arith;
     }
 
-pub piece_bits-chunk-requires-clause-goes : goal.piece_bits-chunk-requires-clause-goes
-piece_bits-chunk-requires-clause-goes g c =
-    rw c.way_of-way.ensures
-    (goes_for c.args.cut.low g.T.BitRegister.BITS g.O.Positions.position c.requires.counts)
-
 pub loop-from-preserved : goal.loop-from-preserved
 loop-from-preserved g c =
     let reading = read_by g.T.BitRegister g.O.Positions.position in
@@ -67,7 +57,7 @@ loop-from-preserved g c =
     let piece = c.piece_of-piece.result in
     let some : 0 < g.T.BitRegister.BITS = omega (arith, g.met.T.BitRegister.least_bits) in
     let is = c.piece_of-piece.ensures in
-    let chunk = rw c.way_of-way.ensures at c.piece_bits-chunk.ensures in
+    let chunk = rw c.straight_of-straight.ensures at c.piece_bits-chunk.ensures in
     let has =
     piece_digits (way_for cut.low) reading c.parts-head.result.0.now head len from piece.len (head + from)
     c.piece_bits-chunk.result c.digits_of-more.result shown some is.inside is.some is.few refl

@@ -2,14 +2,9 @@ use Rattle.std.proofs.Common.{◌+◌, ◌*◌, ◌<◌, arith}
 use Rattle.bit_addressing_memory.specs.Memory.{read_by}
 use Rattle.bit_slice_fields.specs.Digits.{cut_weight}
 use Rattle.bit_slice_fields.specs.Pieces.{way_for}
-use Rattle.bit_slice_fields.proofs.PieceLemmas.{goes_for, written_piece}
+use Rattle.bit_slice_fields.proofs.PieceLemmas.{written_piece}
 use Rattle.bit_slice_fields.proofs.SegmentLemmas.{segment_piece}
 use Rattle.bit_slice_fields.proofs.digits.put_segment.Goals as goal
-
-pub write_counted-requires-clause-goes : goal.write_counted-requires-clause-goes
-write_counted-requires-clause-goes g c =
-    rw c.way_of.ensures
-    (goes_for c.args.cut.low g.T.BitRegister.BITS g.O.Positions.position c.requires.counts)
 
 pub returns : goal.returns
 returns g c =
@@ -26,4 +21,4 @@ returns g c =
     (cut_weight cut b n) n segment.from segment.len weight c.args.digits c.chunk_of-chunk.result
     (segment.word * c.bits_of.result + segment.index) (c.args.place + segment.from) (way_for cut.low) is
     c.chunk_of-chunk.ensures (rw c.bits_of.ensures c.requires.is.place)
-    (rw c.way_of.ensures at c.write_counted.ensures.bits)
+    (rw c.straight_of.ensures at c.write_counted.ensures.bits)

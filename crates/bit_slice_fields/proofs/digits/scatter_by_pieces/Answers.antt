@@ -7,7 +7,7 @@ use Rattle.bit_slice_words.proofs.ListLemmas.{overwritten_list}
 use Rattle.bit_slice_views_mut.proofs.FrameLemmas.{overwritten_beside}
 use Rattle.bit_slice_fields.specs.Digits.{cut_weight}
 use Rattle.bit_slice_fields.specs.Pieces.{way_for}
-use Rattle.bit_slice_fields.proofs.PieceLemmas.{goes_for, scattered_piece}
+use Rattle.bit_slice_fields.proofs.PieceLemmas.{scattered_piece}
 use Rattle.bit_slice_fields.proofs.digits.scatter_by_pieces.Goals as goal
 
 -- a window that is one piece is written by the chunk of its digits
@@ -18,7 +18,7 @@ returns-then-is_one_piece-clause-list g c =
     let digits = λ (k : ℕ). digit_at c.args.digits (weighs k) in
     let some : 0 < g.T.BitRegister.BITS = omega (arith, g.met.T.BitRegister.least_bits) in
     let is = rw c.bits_of-bits.ensures at (c.is_one_piece.ensures c.if-is_one_piece.true) in
-    let wrote = rw c.way_of-way.ensures at c.write_bits.ensures in
+    let wrote = rw c.straight_of-straight.ensures at c.write_bits.ensures in
     overwritten_list reading c.args.words.now c.write_bits.new.words c.args.place c.args.len some c.requires.within
     digits (bits_in_order weighs c.args.len c.args.digits) (length-bits_in_order weighs c.args.len c.args.digits)
     (λ k low. sym (get_or-bits_in_order weighs c.args.len c.args.digits k false low))
@@ -52,23 +52,13 @@ loop-from-init g c = record {
   upto = omega arith;
 }
 
-pub write_bits-requires-clause-goes : goal.write_bits-requires-clause-goes
-write_bits-requires-clause-goes g c =
-    rw c.way_of-way.ensures
-    (goes_for c.args.cut.low g.T.BitRegister.BITS g.O.Positions.position c.requires.counts)
-
-pub write_bits-requires-in-loop-from-clause-goes : goal.write_bits-requires-in-loop-from-clause-goes
-write_bits-requires-in-loop-from-clause-goes g c =
-    rw c.way_of-way.ensures
-    (goes_for c.args.cut.low g.T.BitRegister.BITS g.O.Positions.position c.requires.counts)
-
 pub loop-from-preserved : goal.loop-from-preserved
 loop-from-preserved g c =
     let cut = c.args.cut in
     let from = c.loop-from.from in
     let piece = c.piece_of-piece.result in
     let is = rw c.bits_of-bits.ensures at c.piece_of-piece.ensures in
-    let wrote = rw c.way_of-way.ensures at c.write_bits-in-loop-from.ensures in
+    let wrote = rw c.straight_of-straight.ensures at c.write_bits-in-loop-from.ensures in
     record {
       written =
           scattered_piece (read_by g.T.BitRegister g.O.Positions.position) c.args.words.now c.loop-from.words

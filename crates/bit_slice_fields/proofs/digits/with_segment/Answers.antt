@@ -3,14 +3,9 @@ use Rattle.std.proofs.Math.Nat.{mod-eq_of_lt}
 use Rattle.bit_addressing_memory.specs.Memory.{memory, piece, read_by}
 use Rattle.bit_addressing_memory.proofs.WindowLemmas.{length-window}
 use Rattle.bit_slice_fields.specs.Pieces.{way_for}
-use Rattle.bit_slice_fields.proofs.PieceLemmas.{goes_for, piece_digits, gathered_more}
+use Rattle.bit_slice_fields.proofs.PieceLemmas.{piece_digits, gathered_more}
 use Rattle.bit_slice_fields.proofs.SegmentLemmas.{segment_piece}
 use Rattle.bit_slice_fields.proofs.digits.with_segment.Goals as goal
-
-pub read_part-chunk-requires-clause-goes : goal.read_part-chunk-requires-clause-goes
-read_part-chunk-requires-clause-goes g c =
-    rw c.way_of.ensures
-    (goes_for c.args.cut.low g.T.BitRegister.BITS g.O.Positions.position c.requires.counts)
 
 pub returns : goal.returns
 returns g c =
@@ -26,7 +21,7 @@ returns g c =
     segment_piece b cut.head n cut.head segment some c.requires.head (mod-eq_of_lt c.requires.head) c.requires.is
     cut.low cut.le c.weight_of_segment-weight.result c.requires.mirrored c.requires.few
     c.weight_of_segment-weight.ensures.value in
-    let chunk = rw c.way_of.ensures at c.read_part-chunk.ensures in
+    let chunk = rw c.straight_of.ensures at c.read_part-chunk.ensures in
     let has =
     piece_digits (way_for cut.low) reading words cut.head n segment.from segment.len (segment.word * b + segment.index)
     c.read_part-chunk.result c.digits_of.result shown some is.inside is.some is.few c.requires.is.place refl

@@ -6,4 +6,4 @@ pub returns : goal.returns
 returns g c =
     let reading = read_by g.R.BitRegister g.O.Positions.position in
     copies_chunk reading reading c.args.words.now c.write_chunk.new.words c.args.words.now c.args.target 64
-    c.args.source c.args.direction c.read_chunk-chunk.result c.read_chunk-chunk.ensures c.write_chunk.ensures
+    c.args.source c.args.straight.direction c.read_chunk-chunk.result c.read_chunk-chunk.ensures c.write_chunk.ensures

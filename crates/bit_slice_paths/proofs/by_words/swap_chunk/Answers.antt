@@ -8,10 +8,10 @@ returns g c =
     record {
       to_words =
           copies_chunk reading reading c.args.words.now c.write_chunk.new.words c.args.others.now c.args.place 64
-          c.args.other_place c.args.direction c.read_chunk-other.result c.read_chunk-other.ensures
+          c.args.other_place c.args.straight.direction c.read_chunk-other.result c.read_chunk-other.ensures
           c.write_chunk.ensures;
       to_others =
           copies_chunk reading reading c.args.others.now c.write_chunk-2.new.words c.args.words.now c.args.other_place
-          64 c.args.place c.args.direction c.read_chunk-chunk.result c.read_chunk-chunk.ensures
+          64 c.args.place c.args.straight.direction c.read_chunk-chunk.result c.read_chunk-chunk.ensures
           c.write_chunk-2.ensures;
     }

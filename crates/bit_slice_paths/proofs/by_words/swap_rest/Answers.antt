@@ -8,10 +8,10 @@ returns g c =
     record {
       to_words =
           copies_chunk reading reading c.args.words.now c.write_bits.new.words c.args.others.now c.args.place
-          c.args.count c.args.other_place c.args.direction c.read_bits-other.result c.read_bits-other.ensures
+          c.args.count c.args.other_place c.args.straight.direction c.read_bits-other.result c.read_bits-other.ensures
           c.write_bits.ensures;
       to_others =
           copies_chunk reading reading c.args.others.now c.write_bits-2.new.words c.args.words.now c.args.other_place
-          c.args.count c.args.place c.args.direction c.read_bits-chunk.result c.read_bits-chunk.ensures
+          c.args.count c.args.place c.args.straight.direction c.read_bits-chunk.result c.read_bits-chunk.ensures
           c.write_bits-2.ensures;
     }

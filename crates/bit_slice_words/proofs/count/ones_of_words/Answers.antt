@@ -3,9 +3,6 @@ use Rattle.bit_addressing_memory.specs.Memory.{read_by}
 use Rattle.bit_slice_words.proofs.CountLemmas.{trues_all}
 use Rattle.bit_slice_words.proofs.count.ones_of_words.Goals as goal
 
-pub ones_of_blocks-requires-clause-goes : goal.ones_of_blocks-requires-clause-goes
-ones_of_blocks-requires-clause-goes g c = (c.direction_of.ensures c.in-Some.direction).0 c.in-Some.is
-
 pub returns-in-Some : goal.returns-in-Some
 returns-in-Some g c =
     trues_all (read_by g.R.BitRegister g.O.Positions.position) c.args.body.now (length c.args.body.now)

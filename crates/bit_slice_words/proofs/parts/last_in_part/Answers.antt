@@ -15,7 +15,7 @@ returns-then-behind-count g c =
     ap (λ n. c.args.word * n) c.bits_of.ensures in
     rw (row, ← end) (back_last reading c.args.words.now c.args.bit place count other chunk c.chunk_without.result
     c.first_difference-behind.result (omega (arith, c.requires.few)) (omega arith)
-    (back_rest reading c.args.words.now place count (64 - count) c.args.direction other c.read_part-read.result chunk
+    (back_rest reading c.args.words.now place count (64 - count) c.args.straight.direction other c.read_part-read.result chunk
     (omega (arith, c.requires.few)) c.opposite.ensures c.read_part-read.ensures c.raised-chunk.ensures)
     (c.chunk_without.ensures other) c.first_difference-behind.ensures)
 
@@ -29,6 +29,6 @@ returns-else-behind-count g c =
     let end : place + count ≡ c.args.word * g.R.BitRegister.BITS + c.args.upto = omega (arith, c.requires.order) in
     rw (← end) (back_none reading c.args.words.now c.args.bit place count other chunk c.chunk_without.result
     c.first_difference-behind.result (omega arith)
-    (back_rest reading c.args.words.now place count (64 - count) c.args.direction other c.read_part-read.result chunk
+    (back_rest reading c.args.words.now place count (64 - count) c.args.straight.direction other c.read_part-read.result chunk
     (omega (arith, c.requires.few)) c.opposite.ensures c.read_part-read.ensures c.raised-chunk.ensures)
     (c.chunk_without.ensures other) c.first_difference-behind.ensures)

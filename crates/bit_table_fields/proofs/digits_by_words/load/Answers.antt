@@ -6,8 +6,8 @@ use Rattle.bit_slice_chunks.specs.Chunk.{IsChunk}
 use Rattle.bit_table_fields.proofs.CountLemmas.{takes_words}
 use Rattle.bit_table_fields.proofs.digits_by_words.load.Goals as goal
 
-pub read_counted-chunk-requires-clause-goes : goal.read_counted-chunk-requires-clause-goes
-read_counted-chunk-requires-clause-goes g c = rw c.way_of.ensures c.requires.goes
+pub new-requires : goal.new-requires
+new-requires g c = rw c.way_of.ensures c.requires.goes
 
 pub returns-clause-value : goal.returns-clause-value
 returns-clause-value g c =
@@ -15,7 +15,7 @@ returns-clause-value g c =
     to_z-of_z w128 c.number_in.result (record { sfits = c.number_in.type_inv })
     ∙ c.number_in.ensures c.args.words.now c.args.place c.requires.within
     (subst (λ way. IsChunk reading c.args.words.now c.args.place c.args.width way c.read_counted-chunk.result.0)
-    c.way_of.ensures c.read_counted-chunk.ensures.chunk)
+    (c.new.ensures ∙ c.way_of.ensures) c.read_counted-chunk.ensures.chunk)
 
 pub returns-clause-steps : goal.returns-clause-steps
 returns-clause-steps g c =

@@ -10,9 +10,6 @@ use Rattle.bit_table_rows.proofs.KeptLemmas.{length-rows_left}
 use Rattle.bit_table_rows.proofs.RowLemmas.{rows_below, rows_join}
 use Rattle.bit_table_rows.proofs.keep.keep_runs.Goals as goal
 
-pub keep_run-word-requires-clause-goes : goal.keep_run-word-requires-clause-goes
-keep_run-word-requires-clause-goes g c d is = (c.direction_of-direction.ensures d).0 is
-
 -- rows that stay lie among all rows
 pub keep_run-word-requires-clause-within : goal.keep_run-word-requires-clause-within
 keep_run-word-requires-clause-within g c =

@@ -52,7 +52,7 @@ impl<R: BitRegister, P: Positions<R>> Straight<R, P> {
         }
     }
 
-    /// In which direction the positions go, by `direction_of`.
+    /// The direction in which the positions go, by `direction_of`: none where they go neither way.
     #[inline(always)]
     pub fn find() -> Option<Self>
         ensures { (direction : Direction) → Goes R.BITS P.position direction

@@ -24,6 +24,8 @@ pub enum BulkOp {
     Swap,
     /// The first bits of two memories are compared, which mostly differ early.
     Compare,
+    /// The same, if a block of 64 bits is compared next.
+    CompareBlock,
     /// The bits behind these are compared, if fewer than 64 are left.
     CompareRest,
     /// Bits are searched for at one index after the other.
@@ -74,11 +76,13 @@ pub fn bit_loop_limit_of_two<R: BitRegister, O: BitOrder<R>, Q: BitRegister, P: 
 // stored 25 + 20 n and 80, windows swapped 30 + 51 n and 600, a closure's results 15 + 21 n and 1,100, those of a closure
 // that is shown the bit 18 + 37 n and 2,400. Of words of 8 bits the second is up to twice that. A number of bytes is read by
 // 33 + 13 n, or 133. Of lists that differ behind the first bits both ways are paid: a block of fewer than 64 bits costs twice
-// one of 64, so more are compared one by one if no whole one is left.
+// one of 64, so more are compared one by one if no whole one is left. A whole one costs little, so it comes behind the first
+// bit.
 #[inline(always)]
 fn straight<R: BitRegister>(op: BulkOp) -> usize {
     match op {
         BulkOp::Load => if R::BITS == 8 { 5 } else { 0 },
+        BulkOp::CompareBlock => 1,
         BulkOp::Store => 5,
         BulkOp::Copy | BulkOp::Move | BulkOp::Rotate | BulkOp::SwapWithin => 8,
         BulkOp::Reverse => 12,
@@ -106,7 +110,7 @@ fn reordered<R: BitRegister>(op: BulkOp) -> usize {
         BulkOp::Indices => if narrow { usize::MAX } else { 32 },
         BulkOp::Search => 32,
         BulkOp::Swap => 48,
-        BulkOp::Compare => if of_32 { 80 } else { 64 },
+        BulkOp::Compare | BulkOp::CompareBlock => if of_32 { 80 } else { 64 },
         BulkOp::ForEach => if of_32 { usize::MAX } else { 64 },
         BulkOp::Reverse => 80,
         BulkOp::Fill => usize::MAX,

@@ -89,6 +89,7 @@ pub(crate) fn with_bits<R: BitRegister, O: BitOrder<R>>(
 
 // A word with eight times `blocks` bits of another one, those from the index `first` on, at its own from `from` on.
 #[inline(always)]
+#[tactic(auto, using(crate::proofs::SpreadLemmas::stored_more))]
 fn spread_blocks<R: BitRegister, O: BitOrder<R>, Q: BitRegister, P: BitOrder<Q>>(
     source: R,
     first: u8,
@@ -144,6 +145,7 @@ fn word_of<R: BitRegister, O: BitOrder<R>>(limb: u64) -> R
 
 // The word with the digits of a limb at its indices from one on.
 #[inline(always)]
+#[tactic(auto, using(crate::proofs::LimbLemmas::blocks_are, crate::proofs::LimbLemmas::wrapped))]
 fn with_limb<R: BitRegister, O: BitOrder<R>>(word: R, from: u8, limb: u64) -> R
     requires { from + min 64 R.BITS ≤ R.BITS }
     ensures { IsStored (read_by R.BitRegister O.position) word result from (from + min 64 R.BITS)
@@ -173,6 +175,7 @@ fn spread_limb(source: u64, first: u8, target: u64, from: u8, upto: u8) -> u64
 
 // A limb from a digit on.
 #[inline(always)]
+#[tactic(auto, using(crate::proofs::ShiftLemmas::bit_at_shr))]
 fn lowered_limb(limb: u64, by: u8) -> u64
     requires { by < 64 }
     ensures { (i : ℕ) → digit_at result i ≡ digit_at limb (by + i) }

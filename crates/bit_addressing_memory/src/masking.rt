@@ -77,6 +77,7 @@ pub fn store_in<R: BitRegister, O: BitOrder<R>>(
 }
 
 /// The word with no digit at any index.
+#[tactic(auto, using(crate::proofs::StoredLemmas::digit_none))]
 pub fn no_digits<R: BitRegister, O: BitOrder<R>>() -> R
     ensures { (i : ℕ) → i < R.BITS → indexed R.number O.position result i ≡ false }
 {
@@ -84,6 +85,7 @@ pub fn no_digits<R: BitRegister, O: BitOrder<R>>() -> R
 }
 
 /// The word with a digit at each index.
+#[tactic(auto, using(crate::proofs::StoredLemmas::digit_each))]
 pub fn each_digit<R: BitRegister, O: BitOrder<R>>() -> R
     ensures { (i : ℕ) → i < R.BITS → indexed R.number O.position result i ≡ true }
 {
@@ -91,6 +93,7 @@ pub fn each_digit<R: BitRegister, O: BitOrder<R>>() -> R
 }
 
 /// The word with the digit at each index flipped.
+#[tactic(auto, using(crate::proofs::StoredLemmas::digit_flipped))]
 pub fn flipped<R: BitRegister, O: BitOrder<R>>(word: R) -> R
     ensures { (i : ℕ) → i < R.BITS → indexed R.number O.position result i ≡ not (indexed R.number O.position word i) }
 {

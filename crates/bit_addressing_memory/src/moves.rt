@@ -131,6 +131,7 @@ fn gathered<R: BitRegister, O: BitOrder<R>>(
 /// the positions go in a direction, else by limbs, or one by one. Its other bits stay. Each word that is read is counted
 /// where it is read: at least one, at most one for each bit, and in a direction those that the bits touch, each once.
 #[inline(always)]
+#[tactic(auto, using(crate::proofs::PlaceLemmas::touched_few, crate::proofs::PlaceLemmas::touched_some))]
 pub fn taken<R: BitRegister, O: BitOrder<R>>(
     sweep: &mut Sweep<'_, R>,
     straight: Option<Straight<R, O>>,
@@ -218,6 +219,7 @@ fn taken_by_limbs<R: BitRegister, O: BitOrder<R>>(
 
 // The same of indices in one limb, that from the index `base` on: one step that counts a read for each of its bits.
 #[inline(always)]
+#[tactic(auto, using(crate::proofs::PlaceLemmas::touched_few, crate::proofs::PlaceLemmas::touched_some))]
 fn taken_limb<R: BitRegister, O: BitOrder<R>>(
     sweep: &mut Sweep<'_, R>,
     base: u8,

@@ -60,6 +60,7 @@ pub(crate) fn put_shifted<R: BitRegister, O: BitOrder<R>>(
 
 // Puts the words from `low` up to before `high`, which have no bits but the target's, upwards.
 #[inline(always)]
+#[tactic(auto, using(crate::proofs::ShiftedWords::place_at))]
 fn put_up<R: BitRegister, O: BitOrder<R>>(
     sweep: &mut Sweep<'_, R>,
     straight: Straight<R, O>,
@@ -98,6 +99,7 @@ fn put_up<R: BitRegister, O: BitOrder<R>>(
 
 // Puts the words from `low` up to before `high`, which have no bits but the target's, downwards.
 #[inline(always)]
+#[tactic(auto, using(crate::proofs::ShiftedWords::place_at))]
 fn put_down<R: BitRegister, O: BitOrder<R>>(
     sweep: &mut Sweep<'_, R>,
     straight: Straight<R, O>,

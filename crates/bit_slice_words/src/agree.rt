@@ -8,6 +8,9 @@ ghost use Rattle.bit_slice_paths.specs.Agrees.{Agrees};
 use bit_addressing_memory::{BitOrder, BitRegister, BulkOp, bit_loop_limit_of_two, read_entry};
 use bit_slice_paths::across;
 
+// So many bits are a block.
+const BLOCK: usize = 64;
+
 // How many of `len` bits are compared one by one first.
 #[inline(always)]
 pub(crate) fn few_to_compare<R: BitRegister, O: BitOrder<R>, Q: BitRegister, P: BitOrder<Q>>(
@@ -18,12 +21,26 @@ pub(crate) fn few_to_compare<R: BitRegister, O: BitOrder<R>, Q: BitRegister, P: 
     len.min(bit_loop_limit_of_two::<R, O, Q, P>(BulkOp::Compare))
 }
 
+// The same, if a block of 64 bits may follow.
+#[inline(always)]
+pub(crate) fn few_before_block<R: BitRegister, O: BitOrder<R>, Q: BitRegister, P: BitOrder<Q>>(
+    len: usize,
+) -> usize
+    ensures { result ≤ len }
+{
+    if len < BLOCK {
+        few_to_compare::<R, O, Q, P>(len)
+    } else {
+        len.min(bit_loop_limit_of_two::<R, O, Q, P>(BulkOp::CompareBlock))
+    }
+}
+
 // How many of `len` bits behind these: some where no whole chunk is left.
 #[inline(always)]
 fn few_behind<R: BitRegister, O: BitOrder<R>, Q: BitRegister, P: BitOrder<Q>>(len: usize) -> usize
     ensures { result ≤ len }
 {
-    if len < 64 {
+    if len < BLOCK {
         len.min(bit_loop_limit_of_two::<R, O, Q, P>(BulkOp::CompareRest))
     } else {
         0
@@ -70,13 +87,46 @@ pub(crate) fn agree_rest<R: BitRegister, O: BitOrder<R>, Q: BitRegister, P: BitO
     ensures { Agrees (read_by R.BitRegister O.position) words.now place
         (read_by Q.BitRegister P.position) others.now other_place len result }
 {
+    // A whole block costs less than a part of one, so the first bits are read again with it.
+    if few < BLOCK && BLOCK <= len {
+        return agree_by_block::<R, O, Q, P>(words, place, others, other_place, len);
+    }
     let rest = agree_behind::<R, O, Q, P>(words, place + few, others, other_place + few, len - few);
     few + rest
 }
 
+// How many of `len` bits are the same, by a block first.
+#[inline(always)]
+fn agree_by_block<R: BitRegister, O: BitOrder<R>, Q: BitRegister, P: BitOrder<Q>>(
+    words: &[R],
+    place: usize,
+    others: &[Q],
+    other_place: usize,
+    len: usize,
+) -> usize
+    requires some { 64 ≤ len }
+    requires lies { Lies R.BITS words.now place len }
+    requires other_lies { Lies Q.BITS others.now other_place len }
+    ensures { Agrees (read_by R.BitRegister O.position) words.now place
+        (read_by Q.BitRegister P.position) others.now other_place len result }
+{
+    let same = agree_by_chunks::<R, O, Q, P>(words, place, others, other_place, BLOCK);
+    if same < BLOCK || len == BLOCK {
+        return same;
+    }
+    let rest = agree_behind::<R, O, Q, P>(
+        words,
+        place + BLOCK,
+        others,
+        other_place + BLOCK,
+        len - BLOCK,
+    );
+    BLOCK + rest
+}
+
 // How many of `len` bits behind the first ones are the same.
 #[inline(always)]
-pub(crate) fn agree_behind<R: BitRegister, O: BitOrder<R>, Q: BitRegister, P: BitOrder<Q>>(
+fn agree_behind<R: BitRegister, O: BitOrder<R>, Q: BitRegister, P: BitOrder<Q>>(
     words: &[R],
     place: usize,
     others: &[Q],

@@ -6,7 +6,7 @@ ghost use Rattle.std.specs.Ordering.{bool_cmp};
 ghost use Rattle.bit_addressing_memory.specs.Lies.{Lies};
 ghost use Rattle.bit_addressing_memory.specs.Memory.{entry, memory, piece, read_by};
 
-use crate::agree::{agree_behind, few_to_compare};
+use crate::agree::{agree_rest, few_before_block};
 use bit_addressing_memory::{BitOrder, BitRegister, read_entry};
 use std::cmp::Ordering;
 
@@ -29,7 +29,7 @@ pub fn compare_in<R: BitRegister, O: BitOrder<R>, Q: BitRegister, P: BitOrder<Q>
         (piece (memory (read_by Q.BitRegister P.position) others.now) other_place other_len) }
 {
     let shorter = len.min(other_len);
-    let few = few_to_compare::<R, O, Q, P>(shorter);
+    let few = few_before_block::<R, O, Q, P>(shorter);
     // Lists that differ early are answered here.
     for k in 0..few {
         let bit = read_entry::<R, O>(words, place + k);
@@ -65,11 +65,10 @@ fn compare_rest<R: BitRegister, O: BitOrder<R>, Q: BitRegister, P: BitOrder<Q>>(
         (piece (memory (read_by Q.BitRegister P.position) others.now) other_place other_len) }
 {
     let shorter = len.min(other_len);
-    let rest = shorter - from;
-    let same = agree_behind::<R, O, Q, P>(words, place + from, others, other_place + from, rest);
-    if same < rest {
-        let bit = read_entry::<R, O>(words, place + (from + same));
-        let other = read_entry::<Q, P>(others, other_place + (from + same));
+    let same = agree_rest::<R, O, Q, P>(words, place, others, other_place, shorter, from);
+    if same < shorter {
+        let bit = read_entry::<R, O>(words, place + same);
+        let other = read_entry::<Q, P>(others, other_place + same);
         return bit.cmp(&other);
     }
     len.cmp(&other_len)

@@ -4,7 +4,7 @@ ghost use Rattle.std.specs.Prelude.{◌≡◌, ℕ, ◌+◌, ◌<◌, ◌≤◌,
 ghost use Rattle.bit_addressing_memory.specs.Lies.{Lies};
 ghost use Rattle.bit_addressing_memory.specs.Memory.{entry, memory, piece, read_by};
 
-use crate::agree::{agree_rest, agree_singly, few_to_compare};
+use crate::agree::{agree_rest, agree_singly, few_before_block};
 use bit_addressing_memory::{BitOrder, BitRegister};
 
 /// Whether the `len` bits of the memory `words` from a place on are those of the memory `others` from another place
@@ -23,7 +23,7 @@ pub fn equal_in<R: BitRegister, O: BitOrder<R>, Q: BitRegister, P: BitOrder<Q>>(
     ensures { IsTrue result ↔ (piece (memory (read_by R.BitRegister O.position) words.now) place len
         ≡ piece (memory (read_by Q.BitRegister P.position) others.now) other_place len) }
 {
-    let few = few_to_compare::<R, O, Q, P>(len);
+    let few = few_before_block::<R, O, Q, P>(len);
     // Lists that differ mostly do so early.
     if agree_singly::<R, O, Q, P>(words, place, others, other_place, few) < few {
         return false;

@@ -81,12 +81,32 @@ fn next_word<R: BitRegister, O: BitOrder<R>>(
     if next < near || near == upto {
         return next;
     }
+    next_far::<R, O>(words, near, upto, bit)
+}
+
+// `next_word`, by rounds of words: out of line, since most searches end before.
+#[inline(never)]
+fn next_far<R: BitRegister, O: BitOrder<R>>(
+    words: &[R],
+    from: usize,
+    upto: usize,
+    bit: bool,
+) -> usize
+    requires order { from ≤ upto }
+    requires within { upto ≤ length words.now }
+    ensures least { from ≤ result }
+    ensures most { result ≤ upto }
+    ensures none { Nowhere (bit_found (read_by R.BitRegister O.position) words.now bit)
+        (from * R.BITS) (result * R.BITS) }
+    ensures some { result < upto → ¬ Nowhere (bit_found (read_by R.BitRegister O.position) words.now bit)
+        (result * R.BITS) ((result + 1) * R.BITS) }
+{
     let source = Constant {
         bit: !bit,
-        count: upto - near,
+        count: upto - from,
     };
-    let without = match_words::<R, O, Constant>(words, near, &source, upto - near);
-    next_near::<R, O>(words, near + without, upto, bit)
+    let without = match_words::<R, O, Constant>(words, from, &source, upto - from);
+    next_near::<R, O>(words, from + without, upto, bit)
 }
 
 // `next_word`, word by word.

@@ -7,7 +7,7 @@ pub returns-then-agree_singly-few : goal.returns-then-agree_singly-few
 returns-then-agree_singly-few g c =
     answers_no (windows_part (read_by g.R.BitRegister g.O.Positions.position) c.args.words.now
     (read_by g.Q.BitRegister g.P.Positions.position) c.args.others.now c.args.place c.args.other_place
-    c.few_to_compare-few.result c.args.len c.agree_singly.result (omega (arith, g.met.R.BitRegister.least_bits))
+    c.few_before_block-few.result c.args.len c.agree_singly.result (omega (arith, g.met.R.BitRegister.least_bits))
     (omega (arith, g.met.Q.BitRegister.least_bits)) (omega arith) (λ same. omega arith) c.agree_singly.ensures)
 
 pub returns-then-few-len : goal.returns-then-few-len

@@ -1,14 +1,16 @@
 -- Words of a move put by a sweep, some after others.
 --
 -- `puts_none`, `puts_one`: no word, and one that was gathered. `puts_up`, `puts_down`: more words, either way.
--- `puts_all`: all of them.
+-- `puts_all`: all of them. `puts`: what a search needs at both ends of a loop.
 use Rattle.std.proofs.Common.{◌≡◌, ℕ, ◌+◌, ◌-◌, ◌/◌, ◌<◌, ◌≤◌, length, set, refl, sym, ◌∙◌, arith}
 use Rattle.bit_addressing_memory.specs.Memory.{Reading}
 use Rattle.bit_addressing_memory.specs.declared.sweep.Sweep.{Sweep}
 use Rattle.bit_addressing_memory.specs.MoveSteps.{IsGathered, PutsWords}
 use Rattle.bit_addressing_memory.specs.Sweep.{SameButReads, sweep_lender, sweep_words, way_of, writes_of}
 use Rattle.bit_addressing_memory.proofs.Changes.{changed-set}
-use Rattle.bit_addressing_memory.proofs.Sweeps.{swept_none, swept_one, swept_up, swept_down}
+use Rattle.bit_addressing_memory.proofs.ShiftedWords.{word_within}
+use Rattle.bit_addressing_memory.proofs.Sweeps.{first_le_last, swept_none, swept_one, swept_up, swept_down}
+use Rattle.bit_addressing_memory.proofs.WayLemmas.{fresh_down}
 
 pub puts_none : {R : Type 0} (reading : Reading R) (s : Sweep R) (source target len k : ℕ)
     → PutsWords reading s s source target len k k
@@ -71,3 +73,5 @@ puts_all reading s t source target len low high b is first last had =
     let from : target / reading.bits ≡ low = rw (← is) (sym first) in
     let upto : (target + len - 1) / reading.bits + 1 ≡ high = rw (← is) (sym last) in
     rw (from, upto) had
+
+pub ruleset puts = (puts_all, puts_none, word_within, first_le_last, fresh_down)

@@ -18,6 +18,7 @@ use bit_addressing_order::{BitEnd, BitIdx, BitOrder, BitRegister, Lsb0};
 
 /// The `count` bits of a memory from a place on, 1 to 64, in any lawful order, as one number: digit k is entry
 /// `place + k`, and the digits behind them are zero.
+#[tactic(auto, using(crate::proofs::LimbLemmas::limb_within, crate::proofs::PlaceLemmas::begins_before, crate::proofs::PlaceLemmas::first_word))]
 pub fn bits_in<R: BitRegister, O: BitOrder<R>>(words: &[R], place: usize, count: usize) -> u64
     requires some { 0 < count }
     requires few { count ≤ 64 }
@@ -37,6 +38,7 @@ pub fn bits_in<R: BitRegister, O: BitOrder<R>>(words: &[R], place: usize, count:
 
 /// Makes the `count` bits of a memory from a place on, 1 to 64, the digits of a number, in any lawful order: entry
 /// `place + k` is digit k. Every other bit of the memory stays.
+#[tactic(auto, using(crate::proofs::LimbLemmas::limb_within, crate::proofs::PlaceLemmas::begins_before))]
 pub fn put_bits_in<R: BitRegister, O: BitOrder<R>>(
     words: &mut [R],
     place: usize,
@@ -63,6 +65,7 @@ pub fn put_bits_in<R: BitRegister, O: BitOrder<R>>(
 // A word with the digits of a number, which are bits of a memory, at its indices from one up to before another, all in one
 // limb, that from the index `base` on. Its other bits stay.
 #[inline(always)]
+#[tactic(auto, using(crate::proofs::LimbLemmas::limb_whole))]
 pub(crate) fn with_bits<R: BitRegister, O: BitOrder<R>>(
     word: R,
     base: u8,
@@ -159,6 +162,7 @@ fn with_limb<R: BitRegister, O: BitOrder<R>>(word: R, from: u8, limb: u64) -> R
 
 // A limb with bits of another one, those from `first` on, at its own digits from one up to before another.
 #[inline(always)]
+#[tactic(auto, using(crate::proofs::LimbLemmas::wrapped))]
 fn spread_limb(source: u64, first: u8, target: u64, from: u8, upto: u8) -> u64
     requires order { from < upto }
     requires within { upto ≤ 64 }

@@ -67,6 +67,7 @@ pub fn move_in<R: BitRegister, O: BitOrder<R>>(
 }
 
 // Puts each word that the target touches, its bits gathered by limbs, or one by one.
+#[tactic(auto, using(std::proofs::lemmas::Grind::common_steps, crate::proofs::Puts::puts))]
 fn put_gathered<R: BitRegister, O: BitOrder<R>>(
     sweep: &mut Sweep<'_, R>,
     source: usize,
@@ -246,6 +247,7 @@ fn taken_limb<R: BitRegister, O: BitOrder<R>>(
 
 // The same bit by bit: each is read by itself.
 #[inline(always)]
+#[tactic(auto, using(crate::proofs::Sweeps::reads_none))]
 fn taken_singly<R: BitRegister, O: BitOrder<R>>(
     sweep: &mut Sweep<'_, R>,
     place: usize,

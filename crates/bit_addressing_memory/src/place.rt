@@ -72,7 +72,7 @@ impl<R: BitRegister> Place<R> {
     }
 
     // The place so many bits on.
-    #[tactic(auto, using(crate::proofs::PlaceLemmas::word_within))]
+    #[tactic(auto, using(crate::proofs::PlaceLemmas::word_within, crate::proofs::PlaceLemmas::place_after_next))]
     pub fn after(self, by: usize) -> Place<R>
         requires { place_of R.BITS self + by < 2 ^ 64 * R.BITS }
         ensures { place_of R.BITS result ≡ place_of R.BITS self + by }

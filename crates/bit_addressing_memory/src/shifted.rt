@@ -228,6 +228,7 @@ fn put_edge<R: BitRegister, O: BitOrder<R>>(
 }
 
 // The word `k` as the move leaves it: the source's bits inside the target, its own beside it.
+#[tactic(auto, using(crate::proofs::ShiftedWords::edge_some))]
 fn shifted<R: BitRegister, O: BitOrder<R>>(
     sweep: &mut Sweep<'_, R>,
     straight: Straight<R, O>,
@@ -264,6 +265,7 @@ fn shifted<R: BitRegister, O: BitOrder<R>>(
 // A word that begins with so many bits of the memory, those from a place on: of the word there, and
 // of the next one where they go on in it.
 #[inline(always)]
+#[tactic(auto, using(crate::proofs::ShiftedWords::place_at))]
 fn bits_from<R: BitRegister, O: BitOrder<R>>(
     sweep: &mut Sweep<'_, R>,
     straight: Straight<R, O>,

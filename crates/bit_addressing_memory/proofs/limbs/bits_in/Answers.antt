@@ -5,14 +5,6 @@ use Rattle.bit_addressing_memory.proofs.LimbLemmas.{bits_cut, bits_first, bits_j
 use Rattle.bit_addressing_memory.proofs.PlaceLemmas.{begins_before, begins_behind, ends_behind, first_word}
 use Rattle.bit_addressing_memory.proofs.limbs.bits_in.Goals as goal
 
-pub limb_at-requires : goal.limb_at-requires
-limb_at-requires g c =
-    let b = g.R.BitRegister.BITS in
-    let l = min 64 b in
-    let at = first_word l c.limb_bits-bits.result c.args.place c.limb_bits-bits.ensures in
-    limb_within b l (length c.args.words.now) (c.args.place / c.limb_bits-bits.result) (c.args.place + c.args.count) refl
-    g.met.R.BitRegister.size (omega (arith, at, c.requires.some)) c.requires.lies.within
-
 pub loop-n-init : goal.loop-n-init
 loop-n-init g c =
     let l = min 64 g.R.BitRegister.BITS in
@@ -33,16 +25,6 @@ limb_at-limb-requires g c =
     some (omega (arith, c.requires.some)) (omega arith) in
     limb_within b l (length c.args.words.now) c.loop-n.n (c.args.place + c.args.count) refl g.met.R.BitRegister.size ends
     c.requires.lies.within
-
-pub overflow_mul-n : goal.overflow_mul-n
-overflow_mul-n g c =
-    let l = min 64 g.R.BitRegister.BITS in
-    let bits = c.limb_bits-bits.result in
-    let some : 0 < l = omega (arith, g.met.R.BitRegister.least_bits) in
-    let row : c.loop-n.n * bits ≡ c.loop-n.n * l = ap (λ k. c.loop-n.n * k) c.limb_bits-bits.ensures in
-    let ends = begins_before l bits (c.args.place + c.args.count) c.loop-n.n c.limb_bits-bits.ensures some
-    (omega (arith, c.requires.some)) (omega arith) in
-    omega (arith, row, ends, c.requires.lies.ends)
 
 pub loop-n-preserved : goal.loop-n-preserved
 loop-n-preserved g c =

@@ -1,14 +1,7 @@
 use Rattle.std.proofs.Common.{min, arith}
 use Rattle.bit_addressing_memory.specs.Memory.{read_by}
-use Rattle.bit_addressing_memory.proofs.LimbLemmas.{limb_mixed, limb_whole}
+use Rattle.bit_addressing_memory.proofs.LimbLemmas.{limb_mixed}
 use Rattle.bit_addressing_memory.proofs.limbs.with_bits.Goals as goal
-
-pub returns-then-upto-from : goal.returns-then-upto-from
-returns-then-upto-from g c words place has =
-    limb_whole (read_by g.R.BitRegister g.O.Positions.position) words c.args.word c.with_limb.result
-    c.args.base (min 64 g.R.BitRegister.BITS) c.args.from c.args.upto place c.args.bits c.requires.low
-    c.requires.order c.requires.high (omega (arith, c.if-upto-from.true, c.min.ensures, c.BITS.ensures)) has
-    c.with_limb.ensures
 
 pub returns : goal.returns
 returns g c words place has =

@@ -3,22 +3,6 @@ use Rattle.bit_addressing_memory.specs.Memory.{read_by}
 use Rattle.bit_addressing_memory.proofs.Gathers.{gathered_of}
 use Rattle.bit_addressing_memory.proofs.moves.gathered.Goals as goal
 
-pub taken-requires-clause-order : goal.taken-requires-clause-order
-taken-requires-clause-order g c =
-    let row : c.args.k * c.bits_of-bits.result ≡ c.args.k * g.R.BitRegister.BITS =
-    ap (λ n. c.args.k * n) c.bits_of-bits.ensures in
-    omega (
-      arith,
-      c.bits_of-bits.ensures,
-      c.saturating_sub-from.ensures,
-      c.min-upto.ensures,
-      c.requires.some,
-      c.requires.begins,
-      c.requires.ends,
-      row,
-      g.met.R.BitRegister.least_bits,
-    )
-
 pub returns-clause-digits : goal.returns-clause-digits
 returns-clause-digits g c =
     let b = g.R.BitRegister.BITS in

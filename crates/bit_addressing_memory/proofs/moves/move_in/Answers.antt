@@ -1,7 +1,5 @@
-use Rattle.std.proofs.Common.{arith, ◌+◌, ◌-◌, ◌/◌, ◌<◌, refl, inl, inr}
+use Rattle.std.proofs.Common.{arith, ◌+◌, ◌-◌, ◌/◌, ◌<◌, refl}
 use Rattle.bit_addressing_memory.specs.Memory.{read_by}
-use Rattle.bit_addressing_memory.specs.declared.direction.Direction.TheVariants.{Ascending, Descending}
-use Rattle.bit_addressing_memory.proofs.Changes.{unchanged}
 use Rattle.bit_addressing_memory.proofs.Sweeps.{moved_all}
 use Rattle.bit_addressing_memory.proofs.moves.move_in.Goals as goal
 
@@ -13,13 +11,6 @@ returns-in-Some-clause-moved g c =
     c.put_straight.new.sweep.words.now c.args.source c.args.target c.args.len (c.args.target / b)
     ((c.args.target + c.args.len - 1) / b + 1) b some (omega arith) refl refl refl c.put_straight.ensures.put.swept
 
-pub returns-in-Some-clause-changed : goal.returns-in-Some-clause-changed
-returns-in-Some-clause-changed g c =
-    let number = g.R.BitRegister.number in
-    let words = c.args.sweep.now.words.now in
-    let put = c.put_straight.ensures.put in
-    omega (arith, put.few_changed number words, put.writes, unchanged number words, c.requires.fresh.writes)
-
 pub returns-in-None-clause-moved : goal.returns-in-None-clause-moved
 returns-in-None-clause-moved g c =
     let b = g.R.BitRegister.BITS in
@@ -28,14 +19,4 @@ returns-in-None-clause-moved g c =
     c.put_gathered.new.sweep.words.now c.args.source c.args.target c.args.len (c.args.target / b)
     ((c.args.target + c.args.len - 1) / b + 1) b some (omega arith) refl refl refl c.put_gathered.ensures.swept
 
-pub returns-in-None-clause-changed : goal.returns-in-None-clause-changed
-returns-in-None-clause-changed g c =
-    let number = g.R.BitRegister.number in
-    let words = c.args.sweep.now.words.now in
-    let put = c.put_gathered.ensures in
-    omega (arith, put.few_changed number words, put.writes, unchanged number words, c.requires.fresh.writes)
-
 -- no direction was found, so there is none
-pub returns-in-None-clause-reads : goal.returns-in-None-clause-reads
-returns-in-None-clause-reads g c (inl up) = absurd (rw c.in-None.is at c.find.ensures Ascending up)
-returns-in-None-clause-reads g c (inr down) = absurd (rw c.in-None.is at c.find.ensures Descending down)

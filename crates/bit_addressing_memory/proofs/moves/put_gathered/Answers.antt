@@ -1,20 +1,9 @@
-use Rattle.std.proofs.Common.{arith, ◌≡◌, ◌+◌, ◌-◌, ◌/◌, ◌<◌, ◌≤◌, length, refl}
+use Rattle.std.proofs.Common.{arith, ◌≡◌, ◌+◌, ◌-◌, ◌/◌, ◌<◌, ◌≤◌, length}
 use Rattle.std.proofs.lemmas.Grind.{common_steps}
 use Rattle.bit_addressing_memory.specs.Memory.{read_by}
-use Rattle.bit_addressing_memory.specs.Ways.{way_for}
-use Rattle.bit_addressing_memory.proofs.Puts.{puts_all, puts_down, puts_none, puts_one, puts_up}
-use Rattle.bit_addressing_memory.proofs.ShiftedWords.{word_within}
-use Rattle.bit_addressing_memory.proofs.Sweeps.{first_le_last}
-use Rattle.bit_addressing_memory.proofs.WayLemmas.{fresh_down, way_up, way_down}
+use Rattle.bit_addressing_memory.proofs.Puts.{puts_down, puts_one, puts_up}
+use Rattle.bit_addressing_memory.proofs.WayLemmas.{way_up, way_down}
 use Rattle.bit_addressing_memory.proofs.moves.put_gathered.Goals as goal
-
-pub up-init : goal.up-init
-up-init g c = record {
-  put =
-      puts_none (read_by g.R.BitRegister g.O.Positions.position) c.args.sweep.now c.args.source c.args.target c.args.len
-      (c.args.target / c.bits_of-bits.result);
-  edge = grind (arith, common_steps);
-}
 
 pub up-preserved : goal.up-preserved
 up-preserved g c =
@@ -34,26 +23,6 @@ up-preserved g c =
           c.gathered-word.ensures.digits c.put.ensures.words c.put.ensures.writes c.put.ensures.way
           c.put.ensures.lender);
       edge = grind (arith, common_steps);
-    }
-
-pub down-init : goal.down-init
-down-init g c =
-    let b = g.R.BitRegister.BITS in
-    let bits = c.bits_of-bits.result in
-    let some : 0 < b = omega (arith, g.met.R.BitRegister.least_bits) in
-    let positive : 0 < bits = omega (arith, c.bits_of-bits.ensures) in
-    let words = c.args.sweep.now.words.now in
-    let last =
-    word_within b bits (c.args.target + c.args.len - 1) 1 (length words) c.bits_of-bits.ensures some (omega arith)
-    (omega (arith, c.requires.some, c.requires.target_lies.within)) in
-    let edge =
-    fresh_down (way_for c.args.source c.args.target) c.args.sweep.now.edge (length words) c.requires.fresh.edge (cc) in
-    record {
-      put =
-          puts_none (read_by g.R.BitRegister g.O.Positions.position) c.args.sweep.now c.args.source c.args.target
-          c.args.len ((c.args.target + c.args.len - 1) / bits + 1);
-      edge = omega (arith, edge, last);
-      low = omega (arith, first_le_last bits c.args.target c.args.len positive c.requires.some);
     }
 
 pub down-preserved : goal.down-preserved
@@ -77,21 +46,3 @@ down-preserved g c =
       edge = grind (arith, common_steps);
       low = grind (arith, common_steps);
     }
-
-pub returns-after-up : goal.returns-after-up
-returns-after-up g c =
-    let reading = read_by g.R.BitRegister g.O.Positions.position in
-    let bits = c.bits_of-bits.result in
-    let positive : 0 < bits = omega (arith, c.bits_of-bits.ensures, g.met.R.BitRegister.least_bits) in
-    let high : c.up.k ≡ (c.args.target + c.args.len - 1) / bits + 1 =
-    omega (arith, first_le_last bits c.args.target c.args.len positive c.requires.some) in
-    puts_all reading c.args.sweep.now c.up.sweep c.args.source c.args.target c.args.len (c.args.target / bits) c.up.k
-    bits c.bits_of-bits.ensures refl high c.up.invariant.put
-
-pub returns-after-down : goal.returns-after-down
-returns-after-down g c =
-    let reading = read_by g.R.BitRegister g.O.Positions.position in
-    let bits = c.bits_of-bits.result in
-    let low : c.down.k ≡ c.args.target / bits = omega arith in
-    puts_all reading c.args.sweep.now c.down.sweep c.args.source c.args.target c.args.len c.down.k
-    ((c.args.target + c.args.len - 1) / bits + 1) bits c.bits_of-bits.ensures low refl c.down.invariant.put

@@ -1,21 +1,9 @@
-use Rattle.std.proofs.Common.{◌≡◌, ◌+◌, ◌-◌, refl, ap, ◌∙◌, arith}
+use Rattle.std.proofs.Common.{◌≡◌, ◌+◌, ◌-◌, ap, ◌∙◌, arith}
 use Rattle.bit_addressing_memory.specs.Memory.{entry, read_by}
 use Rattle.bit_addressing_memory.specs.Sweep.{sweep_words}
 use Rattle.bit_addressing_memory.proofs.SpreadLemmas.{stored_next}
-use Rattle.bit_addressing_memory.proofs.Sweeps.{reads_again, reads_none}
+use Rattle.bit_addressing_memory.proofs.Sweeps.{reads_again}
 use Rattle.bit_addressing_memory.proofs.moves.taken_singly.Goals as goal
-
-pub loop-i-init : goal.loop-i-init
-loop-i-init g c = record {
-  stored = record {
-    inside = λ i high low small. absurd (omega arith);
-    below = λ i low small. refl;
-    above = λ i high small. refl;
-  };
-  reads = omega arith;
-  same = reads_none c.args.sweep.now;
-  lender = refl;
-}
 
 pub loop-i-preserved : goal.loop-i-preserved
 loop-i-preserved g c =

@@ -34,14 +34,6 @@ returns-then-index-count-clause-digits g c =
     begins_inside reading words p c.args.count (p / b) (p % b) c.read-first.result c.read-first.result c.joined.result
     (place_at reading.bits b p c.bits_of-bits.ensures) most within c.read-first.ensures.value c.joined.ensures
 
-pub returns-clause-digits : goal.returns-clause-digits
-returns-clause-digits g c i low =
-    let b = g.R.BitRegister.BITS in
-    let reading = read_by g.R.BitRegister g.O.Positions.position in
-    let at = place_at b c.bits_of-bits.result c.args.place c.bits_of-bits.ensures in
-    let small : i < b = omega (arith, c.requires.most) in
-    rw at at (c.cut.ensures.digits i small)
-
 -- the bits go on in the next word
 pub returns-clause-reads : goal.returns-clause-reads
 returns-clause-reads g c =

@@ -1,14 +1,7 @@
-use Rattle.std.proofs.Common.{◌+◌, ◌-◌, ◌*◌, refl, arith}
+use Rattle.std.proofs.Common.{◌+◌, ◌-◌, ◌*◌, refl}
 use Rattle.bit_addressing_memory.specs.Memory.{read_by}
-use Rattle.bit_addressing_memory.proofs.ShiftedWords.{edge_word, edge_some}
+use Rattle.bit_addressing_memory.proofs.ShiftedWords.{edge_word}
 use Rattle.bit_addressing_memory.proofs.shifted.shifted.Goals as goal
-
-pub bits_from-moved-requires-clause-some : goal.bits_from-moved-requires-clause-some
-bits_from-moved-requires-clause-some g c =
-    edge_some g.R.BitRegister.BITS c.args.k c.args.target c.args.len c.bits_of-bits.result
-    c.saturating_sub-from.result c.min-upto.result
-    c.bits_of-bits.ensures (omega (arith, g.met.R.BitRegister.least_bits)) c.requires.some c.requires.begins c.requires.ends
-    c.saturating_sub-from.ensures c.min-upto.ensures
 
 pub returns-clause-digits : goal.returns-clause-digits
 returns-clause-digits g c =

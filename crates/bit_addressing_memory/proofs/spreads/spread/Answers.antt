@@ -1,14 +1,7 @@
-use Rattle.std.proofs.Common.{◌+◌, ◌-◌, refl, arith}
+use Rattle.std.proofs.Common.{◌+◌, ◌-◌, arith}
 use Rattle.bit_addressing_memory.specs.Memory.{indexed}
 use Rattle.bit_addressing_memory.proofs.SpreadLemmas.{stored_next}
 use Rattle.bit_addressing_memory.proofs.spreads.spread.Goals as goal
-
-pub loop-i-init : goal.loop-i-init
-loop-i-init g c = record {
-  inside = λ i high low small. absurd (omega arith);
-  below = λ i low small. refl;
-  above = λ i high small. refl;
-}
 
 pub loop-i-preserved : goal.loop-i-preserved
 loop-i-preserved g c =

@@ -1,5 +1,5 @@
 use Rattle.std.proofs.Common.{arith, ◌≤◌, ◌%◌, ◌^◌, ◌+◌}
-use Rattle.bit_addressing_memory.proofs.PlaceLemmas.{word_after, word_after_next, place_after_next}
+use Rattle.bit_addressing_memory.proofs.PlaceLemmas.{word_after, word_after_next}
 use Rattle.bit_addressing_memory.proofs.place.Place.after.Goals as goal
 
 pub overflow_add-word : goal.overflow_add-word
@@ -14,17 +14,3 @@ overflow_add-word-2 g c =
     let small = word_after_next g.R.BitRegister.BITS c.BITS-bits.result c.args.self.0 c.args.self.1 c.args.by
     (2 ^ 64) c.BITS-bits.ensures c.requires past in
     omega arith
-
-pub returns : goal.returns
-returns g c =
-    let past : c.BITS-bits.result ≤ c.args.self.1 + c.args.by % c.BITS-bits.result = omega arith in
-    let sum = place_after_next g.R.BitRegister.BITS c.BITS-bits.result c.args.self.0 c.args.self.1 c.args.by
-    c.BITS-bits.ensures past in
-    rw (
-      c.at-2.ensures.word,
-      c.at-2.ensures.index,
-      c.word.ensures,
-      c.new_unchecked-2.ensures,
-      c.into_inner.ensures.value,
-      c.index.ensures.value,
-    ) sum

@@ -3,7 +3,7 @@ use Rattle.std.proofs.Common.{◌≡◌, ℕ, zero, suc, ◌+◌, ◌-◌, ◌*�
 use Rattle.std.proofs.Common.{Bool, List, length, get_or, min, bit_or, refl, sym, ap, ◌∙◌, inl, inr, arith}
 use Rattle.std.proofs.Math.Nat.{div-mul-le_self, mul-le-mul_right}
 use Rattle.std.proofs.lemmas.Bool.{cases_lt}
-use Rattle.std.proofs.lemmas.Nat.{div_below, le-div}
+use Rattle.std.proofs.lemmas.Nat.{div_below, le-div, mod_below}
 use Rattle.bit_addressing_memory.specs.Bits.{digit_at}
 use Rattle.bit_addressing_memory.specs.Memory.{Reading, entry, reading_in, touched, Overwrites}
 use Rattle.bit_addressing_memory.proofs.EntryLemmas.{entry_read}
@@ -140,3 +140,8 @@ write_none reading words place n now none = record {
   above = λ p high. refl;
   words = refl;
 }
+
+-- what a search needs where words are read, or written, one behind the other
+pub ruleset reads_of_words = (begins_behind, ends_behind, word_in, read_more, read_all, touched_last, in_order)
+
+pub ruleset writes_of_words = (mod_below, first_word, lowered_none, write_more, write_none, touched_last, in_order)

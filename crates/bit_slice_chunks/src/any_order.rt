@@ -17,6 +17,7 @@ use bit_addressing_memory::{BitOrder, BitRegister, Direction, Straight, bits_in,
 
 /// The direction in which chunks of an order are had without a turn: that of its positions where they go straight.
 #[inline(always)]
+#[tactic(auto, using(crate::proofs::AnyOrderLemmas::goes_not))]
 pub fn direction_for<R: BitRegister, O: BitOrder<R>>() -> Direction
     ensures goes { (way : Direction) → Goes R.BITS O.position way → result ≡ way }
     ensures other { (IsStraight R.BITS O.position → ⊥) → result ≡ Ascending }
@@ -30,6 +31,7 @@ pub fn direction_for<R: BitRegister, O: BitOrder<R>>() -> Direction
 /// The `count` bits of a memory from a place on, 1 to 64, as a chunk of the direction: bit k of it is entry
 /// `place + k`, and the bits behind them are zero.
 #[inline(always)]
+#[tactic(auto, using(crate::proofs::AnyOrderLemmas::chunk_of_entries, crate::proofs::TurnLemmas::faced_chunk))]
 pub fn read_bits<R: BitRegister, O: BitOrder<R>>(
     direction: Direction,
     words: &[R],
@@ -55,6 +57,7 @@ pub fn read_bits<R: BitRegister, O: BitOrder<R>>(
 
 /// The same by the words that these bits touch and no others: quicker than `read_bits` where few words lie behind them.
 #[inline(always)]
+#[tactic(auto, using(crate::proofs::AnyOrderLemmas::chunk_of_entries, crate::proofs::TurnLemmas::faced_chunk))]
 pub fn read_touched<R: BitRegister, O: BitOrder<R>>(
     direction: Direction,
     words: &[R],
@@ -93,6 +96,7 @@ pub fn read_chunk<R: BitRegister, O: BitOrder<R>>(
 
 /// The 64 bits `64 * k` behind a place. A loop over `k` finds the word and the index of the place once.
 #[inline(always)]
+#[tactic(auto, using(crate::proofs::AnyOrderLemmas::chunk_of_entries, crate::proofs::TurnLemmas::faced_chunk))]
 pub fn read_nth_chunk<R: BitRegister, O: BitOrder<R>>(
     direction: Direction,
     words: &[R],
@@ -117,6 +121,7 @@ pub fn read_nth_chunk<R: BitRegister, O: BitOrder<R>>(
 /// Makes the `count` bits of a memory from a place on, 1 to 64, those of a chunk of the direction: entry `place + k`
 /// is bit k of it. Every other bit of the memory stays.
 #[inline(always)]
+#[tactic(auto, using(crate::proofs::AnyOrderLemmas::overwrites_as))]
 pub fn write_bits<R: BitRegister, O: BitOrder<R>>(
     direction: Direction,
     words: &mut [R],
@@ -144,6 +149,7 @@ pub fn write_bits<R: BitRegister, O: BitOrder<R>>(
 
 /// Makes the 64 bits of a memory from a place on those of a chunk, as `write_bits` does.
 #[inline(always)]
+#[tactic(auto, using(crate::proofs::AnyOrderLemmas::overwrites_as))]
 pub fn write_chunk<R: BitRegister, O: BitOrder<R>>(
     direction: Direction,
     words: &mut [R],
@@ -169,6 +175,7 @@ pub fn write_chunk<R: BitRegister, O: BitOrder<R>>(
 /// Makes each of the `count` bits of a memory from a place on, 1 to 64, what `how` makes of it and of a chunk's: entry
 /// `place + k` by bit k. Every other bit of the memory stays.
 #[inline(always)]
+#[tactic(auto, using(crate::proofs::CombineLemmas::combined_chunk))]
 pub fn combine_bits<R: BitRegister, O: BitOrder<R>>(
     direction: Direction,
     how: Combination,
@@ -194,6 +201,7 @@ pub fn combine_bits<R: BitRegister, O: BitOrder<R>>(
 
 /// Makes each of the 64 bits of a memory from a place on what `how` makes of it and of a chunk's, as `combine_bits`.
 #[inline(always)]
+#[tactic(auto, using(crate::proofs::AnyOrderLemmas::overwrites_as))]
 pub fn combine_chunk<R: BitRegister, O: BitOrder<R>>(
     direction: Direction,
     how: Combination,

@@ -10,6 +10,7 @@ use bit_addressing_memory::{BitRegister, Direction};
 
 /// The chunk whose bits are those of another from bit `by` on, and then zeros.
 #[inline(always)]
+#[tactic(auto, using(crate::proofs::ChunkLemmas::lowered_up, crate::proofs::ChunkLemmas::lowered_down))]
 pub fn lowered(direction: Direction, chunk: u64, by: u8) -> u64
     requires { by < 64 }
     ensures { IsLowered direction chunk by result }
@@ -22,6 +23,7 @@ pub fn lowered(direction: Direction, chunk: u64, by: u8) -> u64
 
 /// The chunk that begins with `by` zeros, and then has the bits of another as far as there is room.
 #[inline(always)]
+#[tactic(auto, using(crate::proofs::ChunkLemmas::raised_up, crate::proofs::ChunkLemmas::raised_down))]
 pub fn raised(direction: Direction, chunk: u64, by: u8) -> u64
     requires { by < 64 }
     ensures { IsRaised direction chunk by result }
@@ -34,6 +36,7 @@ pub fn raised(direction: Direction, chunk: u64, by: u8) -> u64
 
 /// The chunk with each bit from bit `count` on made zero. `count` is 1 to 64.
 #[inline(always)]
+#[tactic(auto, using(crate::proofs::ChunkLemmas::cut_is))]
 pub fn first_bits(direction: Direction, chunk: u64, count: u8) -> u64
     requires some { 0 < count }
     requires few { count ≤ 64 }
@@ -45,6 +48,7 @@ pub fn first_bits(direction: Direction, chunk: u64, count: u8) -> u64
 
 /// The chunk with each bit before bit `from` made zero.
 #[inline(always)]
+#[tactic(auto, using(crate::proofs::ChunkLemmas::rest_is))]
 pub fn last_bits(direction: Direction, chunk: u64, from: u8) -> u64
     requires { from < 64 }
     ensures { IsRest direction chunk from result }
@@ -54,6 +58,7 @@ pub fn last_bits(direction: Direction, chunk: u64, from: u8) -> u64
 
 /// The chunk of the direction `to` that has the bits of a chunk of the direction `from`, in the same places.
 #[inline(always)]
+#[tactic(auto, using(crate::proofs::TurnLemmas::faced_same, crate::proofs::TurnLemmas::faced_other))]
 pub fn faced(from: Direction, to: Direction, chunk: u64) -> u64
     ensures { IsFaced from to chunk result }
 {
@@ -62,6 +67,7 @@ pub fn faced(from: Direction, to: Direction, chunk: u64) -> u64
 
 /// The chunk whose first `count` bits, 1 to 64, are those of another in reverse.
 #[inline(always)]
+#[tactic(auto, using(crate::proofs::TurnLemmas::turned_is))]
 pub fn turned(direction: Direction, chunk: u64, count: u8) -> u64
     requires some { 0 < count }
     requires few { count ≤ 64 }
@@ -100,6 +106,7 @@ fn part_down(value: u128, by: u8) -> u64
 
 // A word with the bits of a chunk from an index on.
 #[inline(always)]
+#[tactic(auto, using(crate::proofs::ChunkLemmas::placed_up_is, crate::proofs::ChunkLemmas::placed_down_is))]
 pub(crate) fn placed<R: BitRegister>(direction: Direction, chunk: u64, from: u8) -> R
     requires { from < R.BITS }
     ensures { IsPlaced direction chunk from R.BITS (R.number result) }

@@ -19,6 +19,7 @@ pub enum Combination {
 
 /// The digits that those of two numbers make.
 #[inline(always)]
+#[tactic(auto, using(crate::proofs::CombineLemmas::and_digit, crate::proofs::CombineLemmas::or_digit, crate::proofs::CombineLemmas::xor_digit))]
 pub fn combined(how: Combination, digits: u64, others: u64) -> u64
     ensures { (p : ℕ) → digit_at result p ≡ combined_bit how (digit_at digits p) (digit_at others p) }
 {

@@ -17,6 +17,7 @@ use bit_addressing_memory::{BitOrder, BitRegister, Straight};
 
 /// Makes each of the `count` bits of a memory from a place on, 1 to 64, what `how` makes of it and of a chunk's: entry
 /// `place + k` by bit k. Every other bit of the memory stays.
+#[tactic(auto, using(crate::proofs::CombineLemmas::combined_chunk))]
 pub fn combine_bits<R: BitRegister, O: BitOrder<R>>(
     straight: Straight<R, O>,
     how: Combination,
@@ -38,6 +39,7 @@ pub fn combine_bits<R: BitRegister, O: BitOrder<R>>(
 
 /// Makes each of the 64 bits of a memory from a place on what `how` makes of it and of a chunk's, as `combine_bits`.
 #[inline(always)]
+#[tactic(auto, using(bit_addressing_memory::proofs::PlaceLemmas::first_word, crate::proofs::CombineLemmas::combined_chunk, crate::proofs::CombineLemmas::combined_from))]
 pub fn combine_chunk<R: BitRegister, O: BitOrder<R>>(
     straight: Straight<R, O>,
     how: Combination,

@@ -7,6 +7,7 @@ ghost use Rattle.bit_slice_chunks.specs.Exchanges.{exchange};
 // The number of 64 digits with those of another from the last to the first: neighbours are exchanged, then groups of
 // two, of four, and so on. `u64::reverse_bits` goes digit by digit.
 #[inline(always)]
+#[tactic(auto, using(crate::proofs::ExchangeLemmas::reversed_digit))]
 pub(crate) fn reversed(number: u64) -> u64
     ensures { (i : ℕ) → i < 64 → digit_at result i ≡ digit_at number (63 - i) }
 {

@@ -13,6 +13,7 @@ use bit_addressing_memory::{BitEnd, BitIdx, BitOrder, BitRegister, Straight, sto
 
 // Whether 64 bits from a place on are read at once: words have up to 64 bits, and there is one behind those that they fill.
 #[inline(always)]
+#[tactic(auto, using(crate::proofs::WholeLemmas::chunk_within))]
 fn has_chunk<R: BitRegister>(words: &[R], place: usize) -> bool
     ensures within { result ≡ true → place + 64 ≤ length words.now * R.BITS }
     ensures ends { result ≡ true → place + 64 < 2 ^ 64 }
@@ -26,6 +27,7 @@ fn has_chunk<R: BitRegister>(words: &[R], place: usize) -> bool
 
 /// The `count` bits of a memory from a place on, 1 to 64, as a chunk: bit k of it is entry `place + k`, and the
 /// bits behind them are zero.
+#[tactic(auto, using(crate::proofs::WholeLemmas::chunk_cut))]
 pub fn read_bits<R: BitRegister, O: BitOrder<R>>(
     straight: Straight<R, O>,
     words: &[R],
@@ -46,6 +48,7 @@ pub fn read_bits<R: BitRegister, O: BitOrder<R>>(
 
 /// The same by the words that the bits touch, each read once, with how many these are.
 #[inline(always)]
+#[tactic(auto, using(crate::proofs::TransferLemmas::reads_of_words))]
 pub fn read_counted<R: BitRegister, O: BitOrder<R>>(
     straight: Straight<R, O>,
     words: &[R],
@@ -114,6 +117,7 @@ pub fn write_bits<R: BitRegister, O: BitOrder<R>>(
 
 /// The same, with how many words were put: each that the bits touch, once.
 #[inline(always)]
+#[tactic(auto, using(crate::proofs::TransferLemmas::writes_of_words))]
 pub fn write_counted<R: BitRegister, O: BitOrder<R>>(
     straight: Straight<R, O>,
     words: &mut [R],

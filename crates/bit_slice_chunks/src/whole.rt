@@ -26,6 +26,7 @@ pub fn read_chunk<R: BitRegister, O: BitOrder<R>>(
 
 /// The 64 bits `64 * k` behind a place. A loop over `k` finds the word and the index of the place once.
 #[inline(always)]
+#[tactic(auto, using(crate::proofs::WholeLemmas::nth_word, crate::proofs::WholeLemmas::chunk_as))]
 pub fn read_nth_chunk<R: BitRegister, O: BitOrder<R>>(
     straight: Straight<R, O>,
     words: &[R],
@@ -45,6 +46,7 @@ pub fn read_nth_chunk<R: BitRegister, O: BitOrder<R>>(
 
 // The 64 bits from an index of a word on.
 #[inline(always)]
+#[tactic(auto, using(crate::proofs::WholeLemmas::next_word))]
 fn read_from<R: BitRegister, O: BitOrder<R>>(
     straight: Straight<R, O>,
     words: &[R],
@@ -67,6 +69,7 @@ fn read_from<R: BitRegister, O: BitOrder<R>>(
 
 // The bits of the words from one on, as many as make a chunk.
 #[inline(always)]
+#[tactic(auto, using(crate::proofs::WholeLemmas::word_of_chunk))]
 pub(crate) fn gathered<R: BitRegister, O: BitOrder<R>>(
     straight: Straight<R, O>,
     words: &[R],

@@ -1,9 +1,8 @@
-use Rattle.std.proofs.Common.{◌+◌, ◌*◌, ◌/◌, ◌%◌, ◌<◌, ◌≤◌, length, refl, arith}
-use Rattle.bit_addressing_memory.specs.Memory.{read_by}
+use Rattle.std.proofs.Common.{◌+◌, ◌/◌, ◌%◌, ◌<◌, ◌≤◌, length, refl, arith}
 use Rattle.bit_addressing_memory.proofs.PlaceLemmas.{first_word}
 use Rattle.bit_slice_chunks.specs.Combined.{combined_bit}
 use Rattle.bit_slice_chunks.proofs.WholeLemmas.{words_of_64, word_behind}
-use Rattle.bit_slice_chunks.proofs.CombineLemmas.{combined_chunk, combined_from, combined_across}
+use Rattle.bit_slice_chunks.proofs.CombineLemmas.{combined_across}
 use Rattle.bit_slice_chunks.proofs.combine.combine_chunk.Goals as goal
 
 pub word_at-requires : goal.word_at-requires
@@ -19,17 +18,6 @@ put-requires-clause-inside g c =
     word_behind g.R.BitRegister.BITS c.bits_of-bits.result c.args.place (length c.args.words.now)
     g.met.R.BitRegister.size narrow c.bits_of-bits.ensures (omega arith) c.requires.lies.within in
     omega (arith, c.scattered-2.ensures.words)
-
-pub returns-then-by-eq0 : goal.returns-then-by-eq0
-returns-then-by-eq0 g c =
-    let reading = read_by g.R.BitRegister g.O.Positions.position in
-    let b = g.R.BitRegister.BITS in
-    let first = c.args.place / c.bits_of-bits.result in
-    let start = first_word b c.bits_of-bits.result c.args.place c.bits_of-bits.ensures in
-    combined_from reading c.args.words.now c.scattered.new.words (first * b) c.args.place 64 (combined_bit c.args.how)
-    c.args.straight.direction c.args.other (omega arith) (combined_chunk reading c.args.words.now c.scattered.new.words
-    (first * b) 64 (combined_bit c.args.how) c.args.straight.direction c.gathered-low.result c.args.other c.combined.result
-    c.gathered-low.ensures c.combined.ensures c.scattered.ensures)
 
 pub returns : goal.returns
 returns g c =

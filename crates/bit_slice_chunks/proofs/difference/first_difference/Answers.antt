@@ -1,15 +1,7 @@
-use Rattle.std.proofs.Common.{ap, refl, arith}
+use Rattle.std.proofs.Common.{refl, arith}
 use Rattle.std.proofs.lemmas.Nat.{xor_lt}
-use Rattle.bit_slice_chunks.specs.Chunk.{chunk_bit}
 use Rattle.bit_slice_chunks.proofs.TurnLemmas.{agree_up, agree_down}
 use Rattle.bit_slice_chunks.proofs.difference.first_difference.Goals as goal
-
-pub returns-then-chunk-other : goal.returns-then-chunk-other
-returns-then-chunk-other c = record {
-  most = omega arith;
-  same = λ i _. ap (λ n. chunk_bit c.args.direction n i) c.if-chunk-other.true;
-  differ = λ low. absurd (omega arith);
-}
 
 pub returns-in-Ascending : goal.returns-in-Ascending
 returns-in-Ascending c = rw c.in-Ascending.is (

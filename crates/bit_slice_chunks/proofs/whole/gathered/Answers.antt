@@ -4,22 +4,6 @@ use Rattle.bit_slice_chunks.proofs.TransferLemmas.{read_more}
 use Rattle.bit_slice_chunks.proofs.WholeLemmas.{words_of_64, word_of_chunk, read_whole}
 use Rattle.bit_slice_chunks.proofs.whole.gathered.Goals as goal
 
-pub offset_bounds-words-first : goal.offset_bounds-words-first
-offset_bounds-words-first g c =
-    let size = g.met.R.BitRegister.size in
-    let some : 0 < g.R.BitRegister.BITS = omega (arith, g.met.R.BitRegister.least_bits) in
-    let within =
-    word_of_chunk g.R.BitRegister.BITS c.bits_of-bits.result c.args.first c.loop-k.k (length c.args.words.now) size
-    c.requires.narrow c.bits_of-bits.ensures some (omega arith) c.requires.lies.within in
-    omega arith
-
-pub bounds-words-first : goal.bounds-words-first
-bounds-words-first g c =
-    let size = g.met.R.BitRegister.size in
-    let some : 0 < g.R.BitRegister.BITS = omega (arith, g.met.R.BitRegister.least_bits) in
-    word_of_chunk g.R.BitRegister.BITS c.bits_of-bits.result c.args.first c.loop-k.k (length c.args.words.now) size
-    c.requires.narrow c.bits_of-bits.ensures some (omega arith) c.requires.lies.within
-
 pub loop-k-preserved : goal.loop-k-preserved
 loop-k-preserved g c =
     let b = g.R.BitRegister.BITS in

@@ -2,18 +2,6 @@ use Rattle.std.proofs.Common.{◌+◌, ◌*◌, ◌/◌, ◌<◌, length, refl, 
 use Rattle.bit_slice_chunks.proofs.WholeLemmas.{words_of_64, next_word, read_across}
 use Rattle.bit_slice_chunks.proofs.whole.read_from.Goals as goal
 
-pub offset_bounds-words-behind : goal.offset_bounds-words-behind
-offset_bounds-words-behind g c =
-    let within =
-    next_word g.R.BitRegister.BITS c.bits_of.result c.args.first c.args.by (length c.args.words.now)
-    g.met.R.BitRegister.size c.requires.narrow c.bits_of.ensures (omega arith) c.requires.lies.within in
-    omega arith
-
-pub bounds-words-behind : goal.bounds-words-behind
-bounds-words-behind g c =
-    next_word g.R.BitRegister.BITS c.bits_of.result c.args.first c.args.by (length c.args.words.now)
-    g.met.R.BitRegister.size c.requires.narrow c.bits_of.ensures (omega arith) c.requires.lies.within
-
 pub returns : goal.returns
 returns g c =
     let b = g.R.BitRegister.BITS in

@@ -142,6 +142,6 @@ write_none reading words place n now none = record {
 }
 
 -- what a search needs where words are read, or written, one behind the other
-pub ruleset reads_of_words = (begins_behind, ends_behind, word_in, read_more, read_all, touched_last, in_order)
+pub ruleset reads_of_words = (ends_behind, read_all, touched_last, in_order)
 
 pub ruleset writes_of_words = (mod_below, first_word, lowered_none, write_more, write_none, touched_last, in_order)

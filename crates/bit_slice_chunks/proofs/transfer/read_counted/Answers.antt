@@ -1,6 +1,6 @@
-use Rattle.std.proofs.Common.{◌-◌, ◌/◌, ◌<◌, length, refl, arith}
-use Rattle.bit_addressing_memory.proofs.PlaceLemmas.{first_word}
-use Rattle.bit_slice_chunks.proofs.TransferLemmas.{first_in, read_first}
+use Rattle.std.proofs.Common.{◌≡◌, ◌+◌, ◌-◌, ◌*◌, ◌/◌, ◌<◌, length, refl, ap, arith}
+use Rattle.bit_addressing_memory.proofs.PlaceLemmas.{first_word, begins_behind}
+use Rattle.bit_slice_chunks.proofs.TransferLemmas.{first_in, word_in, read_first, read_more}
 use Rattle.bit_slice_chunks.proofs.transfer.read_counted.Goals as goal
 
 pub loop-k-init : goal.loop-k-init
@@ -18,4 +18,26 @@ loop-k-init g c =
           c.args.place first _ c.part-chunk.result _ c.index-words-first.result
           (first_word b bits c.args.place c.bits_of-bits.ensures) refl c.part-chunk.ensures within c.index-words-first.is;
       reads = omega arith;
+    }
+
+pub loop-k-preserved : goal.loop-k-preserved
+loop-k-preserved g c =
+    let b = g.R.BitRegister.BITS in
+    let bits = c.bits_of-bits.result in
+    let k = c.loop-k.k in
+    let place = c.args.place in
+    let some : 0 < b = omega (arith, g.met.R.BitRegister.least_bits) in
+    let begins : place < k * b =
+    begins_behind b bits place k c.bits_of-bits.ensures some (omega arith) in
+    let within : k < length c.args.words.now =
+    word_in b bits (place + c.args.count) k (length c.args.words.now) c.bits_of-bits.ensures some (omega arith)
+    (omega arith) c.requires.lies.within in
+    let row : k * bits ≡ k * b = ap (λ n. k * n) c.bits_of-bits.ensures in
+    record {
+      chunk =
+          read_more b g.R.BitRegister.number g.O.Positions.position c.args.straight.direction c.args.straight.goes c.args.words.now
+          place k (k * bits - place) c.loop-k.chunk c.part-next.result c.raised-chunk.result _ _ c.index-words-k.result
+          (omega arith) (omega arith) refl c.loop-k.invariant.chunk c.part-next.ensures c.raised-chunk.ensures refl within
+          c.index-words-k.is;
+      reads = omega (arith, c.loop-k.invariant.reads);
     }

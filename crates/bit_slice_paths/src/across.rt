@@ -53,6 +53,7 @@ fn read_for<R: BitRegister, Q: BitRegister, P: BitOrder<Q>>(
 
 // Combines 64 bits.
 #[inline(always)]
+#[tactic(auto, using(crate::proofs::WalkLemmas::combines_chunk))]
 fn combine_whole<H: Combining, R: BitRegister, O: BitOrder<R>, Q: BitRegister, P: BitOrder<Q>>(
     words: &mut [R],
     place: usize,
@@ -71,6 +72,7 @@ fn combine_whole<H: Combining, R: BitRegister, O: BitOrder<R>, Q: BitRegister, P
 
 // Combines up to 64 bits.
 #[inline(never)]
+#[tactic(auto, using(crate::proofs::WalkLemmas::combines_chunk))]
 fn combine_rest<H: Combining, R: BitRegister, O: BitOrder<R>, Q: BitRegister, P: BitOrder<Q>>(
     words: &mut [R],
     place: usize,
@@ -156,6 +158,7 @@ pub fn combine<H: Combining, R: BitRegister, O: BitOrder<R>, Q: BitRegister, P: 
 
 // The first of the 64 bits behind `64 * k` others that differs: 64 if none does.
 #[inline(always)]
+#[tactic(auto, using(crate::proofs::AcrossLemmas::agrees_chunk))]
 fn difference_of_block<R: BitRegister, O: BitOrder<R>, Q: BitRegister, P: BitOrder<Q>>(
     words: &[R],
     place: usize,
@@ -176,6 +179,7 @@ fn difference_of_block<R: BitRegister, O: BitOrder<R>, Q: BitRegister, P: BitOrd
 
 // The first of up to 64 bits that differs: `count` if none does.
 #[inline(always)]
+#[tactic(auto, using(crate::proofs::AcrossLemmas::agrees_chunk))]
 pub(crate) fn difference_of_part<R: BitRegister, O: BitOrder<R>, Q: BitRegister, P: BitOrder<Q>>(
     words: &[R],
     place: usize,
@@ -272,6 +276,7 @@ pub fn match_bits<R: BitRegister, O: BitOrder<R>, Q: BitRegister, P: BitOrder<Q>
 // `match_bits` of many bits: by blocks near the start, then by rounds of whole words. Out of line, so that few are compared by
 // a short function.
 #[inline(never)]
+#[tactic(auto, using(crate::proofs::AcrossLemmas::matches_near))]
 fn match_many<R: BitRegister, O: BitOrder<R>, Q: BitRegister, P: BitOrder<Q>>(
     words: &[R],
     place: usize,
@@ -307,6 +312,7 @@ fn match_many<R: BitRegister, O: BitOrder<R>, Q: BitRegister, P: BitOrder<Q>>(
 
 // `match_bits` by rounds of whole words, or by blocks if words of both memories are not alike.
 #[inline(always)]
+#[tactic(auto, using(crate::proofs::AcrossLemmas::matches_near))]
 fn match_behind<R: BitRegister, O: BitOrder<R>, Q: BitRegister, P: BitOrder<Q>>(
     words: &[R],
     place: usize,

@@ -39,6 +39,7 @@ pub fn combine<H: Combining, R: BitRegister, O: BitOrder<R>>(
 
 // Copies up to 64 bits to another place of the same memory.
 #[inline(never)]
+#[tactic(auto, using(crate::proofs::WalkLemmas::copies_chunk))]
 fn move_rest<R: BitRegister, O: BitOrder<R>>(
     straight: Straight<R, O>,
     words: &mut [R],
@@ -59,6 +60,7 @@ fn move_rest<R: BitRegister, O: BitOrder<R>>(
 
 // Copies 64 bits to another place of the same memory.
 #[inline(always)]
+#[tactic(auto, using(crate::proofs::WalkLemmas::copies_chunk))]
 fn move_chunk<R: BitRegister, O: BitOrder<R>>(
     straight: Straight<R, O>,
     words: &mut [R],
@@ -187,6 +189,7 @@ pub fn copy_over<R: BitRegister, O: BitOrder<R>>(
 
 // Exchanges up to 64 bits.
 #[inline(never)]
+#[tactic(auto, using(crate::proofs::WalkLemmas::copies_chunk))]
 fn swap_rest<R: BitRegister, O: BitOrder<R>>(
     straight: Straight<R, O>,
     words: &mut [R],
@@ -212,6 +215,7 @@ fn swap_rest<R: BitRegister, O: BitOrder<R>>(
 
 // Exchanges 64 bits.
 #[inline(always)]
+#[tactic(auto, using(crate::proofs::WalkLemmas::copies_chunk))]
 fn swap_chunk<R: BitRegister, O: BitOrder<R>>(
     straight: Straight<R, O>,
     words: &mut [R],
@@ -299,6 +303,7 @@ fn swap_counted<R: BitRegister, O: BitOrder<R>>(
 
 /// Whether two stretches have the same bits, a step for each 64 up to the first that differ.
 #[inline(always)]
+#[tactic(auto, using(crate::proofs::AcrossLemmas::matches_test))]
 pub fn equal<R: BitRegister, O: BitOrder<R>>(
     words: &[R],
     place: usize,

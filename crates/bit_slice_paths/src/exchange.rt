@@ -9,6 +9,7 @@ use bit_slice_chunks::any_order::{read_chunk, read_touched, write_bits, write_ch
 
 // Exchanges 64 bits with 64 behind them.
 #[inline(always)]
+#[tactic(auto, using(crate::proofs::ExchangeLemmas::swaps_chunks))]
 fn exchange_wholes<R: BitRegister, O: BitOrder<R>>(
     direction: Direction,
     words: &mut [R],
@@ -27,6 +28,7 @@ fn exchange_wholes<R: BitRegister, O: BitOrder<R>>(
 
 // Exchanges up to 64 bits with as many behind them.
 #[inline(never)]
+#[tactic(auto, using(crate::proofs::ExchangeLemmas::swaps_chunks))]
 fn exchange_rests<R: BitRegister, O: BitOrder<R>>(
     direction: Direction,
     words: &mut [R],

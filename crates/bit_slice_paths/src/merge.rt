@@ -15,6 +15,7 @@ use std::marker::PhantomData;
 
 /// The word whose digits those of two words make.
 #[inline(always)]
+#[tactic(auto, using(bit_slice_chunks::proofs::CombineLemmas::and_digit, bit_slice_chunks::proofs::CombineLemmas::or_digit, bit_slice_chunks::proofs::CombineLemmas::xor_digit))]
 pub fn merged<H: Combining, R: BitRegister>(mine: R, its: R) -> R
     ensures { (p : ℕ) → digit_at (R.number result) p
         ≡ combined_bit H.HOW (digit_at (R.number mine) p) (digit_at (R.number its) p) }

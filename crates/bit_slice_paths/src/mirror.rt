@@ -30,6 +30,7 @@ fn turn_wholes<R: BitRegister, O: BitOrder<R>>(
 
 // Exchanges up to 64 bits with as many behind them, both in reverse.
 #[inline(never)]
+#[tactic(auto, using(crate::proofs::MirrorLemmas::mirrored_chunks))]
 fn turn_ends<R: BitRegister, O: BitOrder<R>>(
     direction: Direction,
     words: &mut [R],
@@ -54,6 +55,7 @@ fn turn_ends<R: BitRegister, O: BitOrder<R>>(
 
 // Turns up to 64 bits round.
 #[inline(never)]
+#[tactic(auto, using(crate::proofs::MirrorLemmas::turned_chunk))]
 fn turn_rest<R: BitRegister, O: BitOrder<R>>(
     direction: Direction,
     words: &mut [R],

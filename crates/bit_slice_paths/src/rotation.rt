@@ -121,6 +121,7 @@ fn are_exchanged(left: usize, right: usize) -> bool
 
 // Moves each of `len` bits towards the first of them; those that leave become the last.
 #[inline(always)]
+#[tactic(auto, using(crate::proofs::RotationLemmas::rotated_none))]
 fn move_down<R: BitRegister, O: BitOrder<R>>(
     direction: Direction,
     words: &mut [R],
@@ -145,6 +146,7 @@ fn move_down<R: BitRegister, O: BitOrder<R>>(
 
 // Moves each of `len` bits towards the last of them; those that leave become the first.
 #[inline(always)]
+#[tactic(auto, using(crate::proofs::RotationLemmas::rotated_none))]
 fn move_up<R: BitRegister, O: BitOrder<R>>(
     direction: Direction,
     words: &mut [R],

@@ -14,6 +14,7 @@ use bit_slice_chunks::{first_bits, lowered};
 
 // Whether so many bits of two memories are the same.
 #[inline(never)]
+#[tactic(auto, using(crate::proofs::SeekLemmas::stands_agreed, crate::proofs::SeekLemmas::stands_not))]
 fn same<R: BitRegister, O: BitOrder<R>, Q: BitRegister, P: BitOrder<Q>>(
     words: &[R],
     place: usize,
@@ -34,6 +35,7 @@ fn same<R: BitRegister, O: BitOrder<R>, Q: BitRegister, P: BitOrder<Q>>(
 // Whether bits of another memory stand at a place of which a chunk has the first ones, from bit `from` on. `sought` has
 // the first ones of the other memory.
 #[inline(always)]
+#[tactic(auto, using(crate::proofs::SeekLemmas::shown_chunk, crate::proofs::SeekLemmas::shown_same))]
 fn shows<R: BitRegister, O: BitOrder<R>, Q: BitRegister, P: BitOrder<Q>>(
     direction: Direction,
     words: &[R],
@@ -69,6 +71,7 @@ fn shows<R: BitRegister, O: BitOrder<R>, Q: BitRegister, P: BitOrder<Q>>(
 
 // The first of up to 33 places at which bits of another memory stand, the first of which are `sought`.
 #[inline(always)]
+#[tactic(auto, using(crate::proofs::SeekLemmas::seeks_none))]
 fn start_near<R: BitRegister, O: BitOrder<R>, Q: BitRegister, P: BitOrder<Q>>(
     direction: Direction,
     words: &[R],
@@ -112,6 +115,7 @@ fn start_near<R: BitRegister, O: BitOrder<R>, Q: BitRegister, P: BitOrder<Q>>(
 /// The first of `starts` places, counted from `place` on, at which `len` bits of another memory stand: `starts` where
 /// they stand at none.
 #[inline(always)]
+#[tactic(auto, using(crate::proofs::SeekLemmas::seeks_none))]
 pub fn start<R: BitRegister, O: BitOrder<R>, Q: BitRegister, P: BitOrder<Q>>(
     direction: Direction,
     words: &[R],

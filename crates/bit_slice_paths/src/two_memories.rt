@@ -30,6 +30,7 @@ pub enum Fit<S> {
 /// How two stretches of `len` bits fit, if they are long enough for whole words, and words of both are alike and no wider
 /// than 64 bits.
 #[inline(always)]
+#[tactic(auto, using(crate::proofs::FitLemmas::shifted_fit))]
 pub fn fit_of<R: BitRegister, O: BitOrder<R>, Q: BitRegister, P: BitOrder<Q>>(
     place: usize,
     other_place: usize,

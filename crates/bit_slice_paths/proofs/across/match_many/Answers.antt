@@ -1,17 +1,7 @@
 use Rattle.std.proofs.Common.{◌-◌, arith}
 use Rattle.bit_addressing_memory.specs.Memory.{read_by}
-use Rattle.bit_slice_paths.proofs.AcrossLemmas.{matches_more, matches_near}
+use Rattle.bit_slice_paths.proofs.AcrossLemmas.{matches_more}
 use Rattle.bit_slice_paths.proofs.across.match_many.Goals as goal
-
-pub returns-then-near-lt-NEAR_BITS-clause-matches : goal.returns-then-near-lt-NEAR_BITS-clause-matches
-returns-then-near-lt-NEAR_BITS-clause-matches g c =
-    let reading = read_by g.R.BitRegister g.O.Positions.position in
-    let its = read_by g.Q.BitRegister g.P.Positions.position in
-    let words = c.args.words.now in
-    let others = c.args.others.now in
-    matches_near reading its words others c.args.place c.args.other_place 8192 c.args.len
-    c.mismatch_by_blocks-near.result.done (omega arith) (λ low. c.if-near-lt-NEAR_BITS.true)
-    c.mismatch_by_blocks-near.ensures.agrees
 
 pub returns-clause-matches : goal.returns-clause-matches
 returns-clause-matches g c =

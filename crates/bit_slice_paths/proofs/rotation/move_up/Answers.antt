@@ -1,12 +1,7 @@
-use Rattle.std.proofs.Common.{◌≡◌, ◌+◌, ◌-◌, ◌*◌, ◌/◌, ◌%◌, inr, arith}
+use Rattle.std.proofs.Common.{◌≡◌, ◌+◌, ◌-◌, ◌*◌, ◌/◌, ◌%◌, arith}
 use Rattle.bit_addressing_memory.specs.Memory.{read_by}
-use Rattle.bit_slice_paths.proofs.RotationLemmas.{rotated_none, rotated_back_more}
+use Rattle.bit_slice_paths.proofs.RotationLemmas.{rotated_back_more}
 use Rattle.bit_slice_paths.proofs.rotation.move_up.Goals as goal
-
-pub loop-k-init : goal.loop-k-init
-loop-k-init g c =
-    let all : c.args.len - 0 ≡ c.args.len = omega arith in
-    rotated_none (read_by g.R.BitRegister g.O.Positions.position) c.args.words.now c.args.place c.args.len _ (inr all)
 
 pub loop-k-preserved : goal.loop-k-preserved
 loop-k-preserved g c =

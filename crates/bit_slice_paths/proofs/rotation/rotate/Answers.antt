@@ -3,15 +3,6 @@ use Rattle.bit_addressing_memory.specs.Memory.{read_by}
 use Rattle.bit_slice_paths.proofs.RotationLemmas.{exchanged_front, exchanged_back}
 use Rattle.bit_slice_paths.proofs.rotation.rotate.Goals as goal
 
-pub loop-right-init : goal.loop-right-init
-loop-right-init g c =
-    let all : c.args.by + (c.args.len - c.args.by) ≡ c.args.len = omega (arith, c.requires.most) in
-    record {
-      rest = λ after turned. rw all at turned;
-      inside = omega arith;
-      words = refl;
-    }
-
 pub loop-right-preserved-then-left-right : goal.loop-right-preserved-then-left-right
 loop-right-preserved-then-left-right g c =
     let reading = read_by g.R.BitRegister g.O.Positions.position in

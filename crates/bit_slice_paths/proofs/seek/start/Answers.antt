@@ -1,6 +1,6 @@
 use Rattle.std.proofs.Common.{◌+◌, ◌*◌, min, arith}
 use Rattle.bit_addressing_memory.specs.Memory.{read_by}
-use Rattle.bit_slice_paths.proofs.SeekLemmas.{seeks_before, seeks_more, seeks_none}
+use Rattle.bit_slice_paths.proofs.SeekLemmas.{seeks_before, seeks_more}
 use Rattle.bit_slice_paths.proofs.seek.start.Goals as goal
 
 pub returns-then-at-near : goal.returns-then-at-near
@@ -18,9 +18,3 @@ loop-k-preserved g c =
     c.args.words.now c.args.others.now c.args.place c.args.other_place c.args.len (33 * k) c.min-near.result
     c.start_near-at.result (min c.args.starts (33 * (k + 1))) (omega arith)
     (λ i low. c.loop-k.invariant i (omega arith)) c.start_near-at.ensures
-
-pub returns : goal.returns
-returns g c =
-    seeks_none (read_by g.R.BitRegister g.O.Positions.position) (read_by g.Q.BitRegister g.P.Positions.position)
-    c.args.words.now c.args.others.now c.args.place c.args.other_place c.args.len c.args.starts
-    (min c.args.starts (33 * c.loop-k.k)) (omega arith) c.loop-k.invariant

@@ -1,34 +1,21 @@
 -- A bit found in a list.
 --
--- The test: `is_bit_here`, `is_bit_other`, `without_bit`; of 1 and of 0, `is_bit-true`, `is_bit-false`.
+-- The test: `without_bit`.
 -- The first index: `position_found`, `position_missing`, and back, `position-None` (std has `position-Some`).
 -- The last index: `last_position_found`, `last_position_missing`, and back, `last_position-Some`,
--- `last_position-None`. Read from the end: `last_position-reverse`. Counted from the edges: `leading_are`,
--- `trailing_are`.
-use Rattle.std.proofs.Common.{◌≡◌, ◌≢◌, ℕ, ◌-◌, ◌<◌, ◌≤◌, Bool, true, false, not, cond, nat_lt, List, Option, Some}
+-- `last_position-None`. Counted from the edges: `leading_are`, `trailing_are`.
+use Rattle.std.proofs.Common.{◌≡◌, ℕ, ◌-◌, ◌<◌, ◌≤◌, Bool, true, false, not, cond, nat_lt, List, Option, Some}
 use Rattle.std.proofs.Common.{None, length, reverse, get_or, position, refl, sym, ap, ◌∙◌, arith}
 use Rattle.std.specs.List.{position_or_len, prefix_len, suffix_len}
 use Rattle.std.specs.Option.{option_map, option_map_or, unwrap_or}
 use Rattle.std.proofs.lemmas.Bool.{lt-ltb, ltb-true, ltb-false}
 use Rattle.std.proofs.lemmas.Bool.Decides.{nat_tests}
-use Rattle.std.proofs.lemmas.List.{length-reverse, get_or-reverse, reverse-reverse}
+use Rattle.std.proofs.lemmas.List.{length-reverse, get_or-reverse}
 use Rattle.std.proofs.lemmas.List.Quantifiers.{position-Some}
 use Rattle.std.proofs.lemmas.List.Sums.{position_or_len_is, prefix_len_passes, prefix_len-le-length}
 use Rattle.bit_slice_words.specs.Found.{is_bit, last_position}
 
 -- ---- the test
-
--- a bit is itself
-pub is_bit_here : (bit x : Bool) → x ≡ bit → is_bit bit x ≡ true
-is_bit_here true x same = same
-is_bit_here false x same = rw same refl
-
--- and not the other one
-pub is_bit_other : (bit x : Bool) → x ≢ bit → is_bit bit x ≡ false
-is_bit_other true true other = absurd (other refl)
-is_bit_other true false other = refl
-is_bit_other false true other = refl
-is_bit_other false false other = absurd (other refl)
 
 -- two bits that are not this one are equal
 pub without_bit : (bit x y : Bool) → is_bit bit x ≡ false → is_bit bit y ≡ false → x ≡ y
@@ -36,14 +23,6 @@ without_bit true x y out out' = out ∙ sym out'
 without_bit false true true out out' = refl
 without_bit false true false out out' = cc
 without_bit false false y out out' = cc
-
--- a bit is 1 where it is true
-pub is_bit-true : {X : Type 0} (f : (Bool → Bool) → X) → f (is_bit true) ≡ f (λ b. b)
-is_bit-true f = refl
-
--- and 0 where it is not
-pub is_bit-false : {X : Type 0} (f : (Bool → Bool) → X) → f (is_bit false) ≡ f (λ b. not b)
-is_bit-false f = refl
 
 -- ---- the first index
 
@@ -155,12 +134,6 @@ last_position-None test xs k d is low =
     mapped : (f : ℕ → ℕ) (r : Option ℕ) → option_map f r ≡ None → r ≡ None
     mapped f None is = refl
     mapped f (Some j) is = cc
-
--- the last index of a list read from its end is the first of the list
-pub last_position-reverse : {X : Type 0} (test : X → Bool) (xs : List X)
-    → last_position test (reverse xs) ≡ option_map (λ i. length xs - 1 - i) (position test xs)
-unfolding last_position
-last_position-reverse test xs = simp (reverse-reverse, length-reverse)
 
 -- ---- counted from the edges
 

@@ -3,11 +3,11 @@
 --
 -- Any overwrite: `overwritten_list`. One call each: `filled_list`, `inverted_list`, `reversed_list`,
 -- `rotated_left_list`, `rotated_right_list`, `shifted_left_list`, `shifted_right_list`, `moved_list`. With another
--- memory: `copied_list`, `combined_list`, and by it `and_list`, `or_list`, `xor_list`; `equal_list`. What lies
+-- memory: `copied_list`, `combined_list`, and by it `and_list`, `or_list`, `xor_list`. What lies
 -- beside the window is `window_beside` of `WindowLemmas`.
 use Rattle.std.proofs.Common.{◌≡◌, ℕ, ◌+◌, ◌-◌, ◌*◌, ◌<◌, ◌≤◌, Bool, false, not, List, ◌++◌, length, map, take, drop}
 use Rattle.std.proofs.Common.{reverse, replicate, get_or, min, sym, ap, ap₂, ◌∙◌, inl, inr, arith, length-append}
-use Rattle.std.specs.Prelude.{◌&&◌, ◌||◌, ◌↔◌, if◌then◌else◌, nat_lt}
+use Rattle.std.specs.Prelude.{◌&&◌, ◌||◌, if◌then◌else◌, nat_lt}
 use Rattle.std.specs.Bool.{xor}
 use Rattle.std.specs.Simd.Lanes.{zip2}
 use Rattle.std.proofs.lemmas.Bool.{cases_lt}
@@ -216,20 +216,3 @@ module _ {R Q : Type 0} (reading : Reading R) (before after : List R) (place n :
       → piece (memory reading after) place n
       ≡ zip2 xor (piece (memory reading before) place n) (piece (memory its other) other_place n)
   xor_list is = combined_list xor is
-
--- two windows are equal lists exactly if their entries are equal
-pub equal_list : {R Q : Type 0} (reading : Reading R) (words : List R) (place n : ℕ) (its : Reading Q)
-    (others : List Q) (other_place : ℕ) → 0 < reading.bits → place + n ≤ length words * reading.bits
-    → 0 < its.bits → other_place + n ≤ length others * its.bits
-    → ((k : ℕ) → k < n → entry reading words (place + k) ≡ entry its others (other_place + k))
-    ↔ (piece (memory reading words) place n ≡ piece (memory its others) other_place n)
-equal_list reading words place n its others other_place some fits its_some other_fits =
-    let ys = piece (memory its others) other_place n in (
-      λ same.
-          window_is reading words place n ys some fits (length-window its others other_place n other_fits)
-          (λ k low. same k low ∙ sym (window_bit its others other_place n k its_some low)),
-      λ equal k low.
-          sym (window_bit reading words place n k some low)
-          ∙ ap (λ zs. get_or zs k false) equal
-          ∙ window_bit its others other_place n k its_some low,
-    )

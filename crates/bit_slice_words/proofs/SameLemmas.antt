@@ -1,6 +1,6 @@
 -- Tests and answers: `differ_tested`, `answers_yes`, `answers_no`. Bits of two memories: `windows_equal`,
 -- `windows_differ`, `windows_agree`, `windows_part`. One list in another: `holds_empty`, `holds_here`, `holds_none`, `holds_short`, `none_more`;
--- told by the first place: `holds_first`, `holds_behind`.
+-- told by the first place: `holds_behind`.
 use Rattle.std.proofs.Common.{◌≡◌, ◌≢◌, ℕ, ◌+◌, ◌-◌, ◌*◌, ◌<◌, ◌≤◌, ◌↔◌, ◌==◌, nat_lt, IsTrue}
 use Rattle.std.proofs.Common.{Bool, true, false, not, List, [], ◌∷◌, length, get_or, refl, sym, ap, ◌∙◌, inl, inr, arith}
 use Rattle.std.proofs.Math.Bool.{beq}
@@ -143,30 +143,6 @@ windows_stand reading words its others place other_place n some its_some same k 
     sym (window_bit reading words place n k some low)
     ∙ ap (λ xs. get_or xs k false) same
     ∙ window_bit its others other_place n k its_some low
-
--- the first of so many places at which a list stands tells whether it stands in bits of a memory
-pub holds_first : {R Q : Type 0} (reading : Reading R) (words : List R) (its : Reading Q) (others : List Q)
-    (place len other_place n starts at : ℕ) → 0 < reading.bits → 0 < its.bits
-    → place + len ≤ length words * reading.bits → other_place + n ≤ length others * its.bits → starts + n ≡ len + 1
-    → StandsFirst reading words place its others other_place n starts at
-    → IsTrue (nat_lt at starts)
-    ↔ Holds (piece (memory reading words) place len) (piece (memory its others) other_place n)
-holds_first reading words its others place len other_place n starts at some its_some fits its_fit sum first =
-    let ys = piece (memory its others) other_place n in
-    let size : length ys ≡ n = length-window its others other_place n its_fit in (
-      λ test.
-          let low : at < starts = ltb-true at starts test in
-          holds_here reading words place len at n ys fits (omega arith) size
-          (windows_equal reading words its others (place + at) other_place n some its_some (omega arith) its_fit
-          (first.here low)),
-      λ held. elim (cases_lt at starts) [
-        | inl low ↦ lt-ltb at starts low
-        | inr past ↦
-            absurd (holds_none reading words place len n ys fits size
-            (λ i inside same. first.before i (omega arith)
-            (windows_stand reading words its others (place + i) other_place n some its_some same)) held)
-      ],
-    )
 
 -- so does the first of those behind places at which it does not stand
 pub holds_behind : {R Q : Type 0} (reading : Reading R) (words : List R) (its : Reading Q) (others : List Q)

@@ -49,6 +49,7 @@ fn few_behind<R: BitRegister, O: BitOrder<R>, Q: BitRegister, P: BitOrder<Q>>(le
 
 // How many of `len` bits of two memories are the same, from the first on, bit by bit.
 #[inline(always)]
+#[tactic(auto, using(bit_slice_paths::proofs::AcrossLemmas::agrees_all))]
 pub(crate) fn agree_singly<R: BitRegister, O: BitOrder<R>, Q: BitRegister, P: BitOrder<Q>>(
     words: &[R],
     place: usize,

@@ -15,6 +15,7 @@ use std::cmp::Ordering;
 ///
 /// The two may have different words and orders. It answers what `partial_cmp` of two slices in bitvec 1.1.1 has in its
 /// `Some`.
+#[tactic(auto, using(crate::proofs::CompareLemmas::windows_compare_ends))]
 pub fn compare_in<R: BitRegister, O: BitOrder<R>, Q: BitRegister, P: BitOrder<Q>>(
     words: &[R],
     place: usize,
@@ -46,6 +47,7 @@ pub fn compare_in<R: BitRegister, O: BitOrder<R>, Q: BitRegister, P: BitOrder<Q>
 
 // The same where the first bits are the same.
 #[inline(never)]
+#[tactic(auto, using(crate::proofs::CompareLemmas::windows_compare_ends))]
 fn compare_rest<R: BitRegister, O: BitOrder<R>, Q: BitRegister, P: BitOrder<Q>>(
     words: &[R],
     place: usize,

@@ -14,6 +14,7 @@ use bit_slice_paths::{direction_for, seek};
 ///
 /// The two may have different words and orders. Where the other list has bits, it answers as `contains` of a slice in
 /// bitvec 1.1.1.
+#[tactic(auto, using(crate::proofs::SameLemmas::none_more))]
 pub fn contains_in<R: BitRegister, O: BitOrder<R>, Q: BitRegister, P: BitOrder<Q>>(
     words: &[R],
     place: usize,
@@ -62,6 +63,7 @@ pub fn contains_in<R: BitRegister, O: BitOrder<R>, Q: BitRegister, P: BitOrder<Q
 
 // The same where the bits stand at no place before one, and their first `few` do there.
 #[inline(never)]
+#[tactic(auto, using(crate::proofs::SameLemmas::none_more))]
 fn contains_from<R: BitRegister, O: BitOrder<R>, Q: BitRegister, P: BitOrder<Q>>(
     words: &[R],
     place: usize,

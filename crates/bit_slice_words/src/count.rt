@@ -14,6 +14,7 @@ use bit_slice_paths::{read_bits, read_nth_chunk};
 ///
 /// Whole words are counted as words; the words at the two edges are masked. It answers as `count_ones` of a slice in
 /// bitvec 1.1.1.
+#[tactic(auto, using(crate::proofs::CountLemmas::trues_empty))]
 pub fn count_ones_in<R: BitRegister, O: BitOrder<R>>(words: &[R], place: usize, len: usize) -> usize
     requires lies { Lies R.BITS words.now place len }
     ensures { result ≡ count_by (λ b. b) (piece (memory (read_by R.BitRegister O.position) words.now) place len) }
@@ -34,6 +35,7 @@ pub fn count_ones_in<R: BitRegister, O: BitOrder<R>>(words: &[R], place: usize, 
 /// How many of the `len` bits from a place on are 0. Of no bits there are none.
 ///
 /// It answers as `count_zeros` of a slice in bitvec 1.1.1.
+#[tactic(auto, using(crate::proofs::CountLemmas::falses_are))]
 pub fn count_zeros_in<R: BitRegister, O: BitOrder<R>>(
     words: &[R],
     place: usize,
@@ -53,6 +55,7 @@ fn ones_of<R: BitRegister>(word: R) -> usize
 }
 
 // How many bits of a part of a word are 1.
+#[tactic(auto, using(crate::proofs::CountLemmas::ones_part))]
 fn ones_of_part<R: BitRegister, O: BitOrder<R>>(word: R, from: u8, upto: u8) -> usize
     requires index { from < R.BITS }
     requires order { from ≤ upto }
@@ -67,6 +70,7 @@ fn ones_of_part<R: BitRegister, O: BitOrder<R>>(word: R, from: u8, upto: u8) -> 
 }
 
 // How many bits of whole words are 1: of many narrow words 64 bits at a time.
+#[tactic(auto, using(crate::proofs::CountLemmas::trues_all))]
 fn ones_of_words<R: BitRegister, O: BitOrder<R>>(body: &[R]) -> usize
     requires { length body.now * R.BITS < 2 ^ 64 }
     ensures { result ≡ count_by (λ b. b) (memory (read_by R.BitRegister O.position) body.now) }
@@ -80,6 +84,7 @@ fn ones_of_words<R: BitRegister, O: BitOrder<R>>(body: &[R]) -> usize
 }
 
 // How many of the first `len` bits are 1, by blocks of 64.
+#[tactic(auto, using(crate::proofs::CountLemmas::trues_empty))]
 fn ones_of_blocks<R: BitRegister, O: BitOrder<R>>(
     straight: Straight<R, O>,
     words: &[R],
@@ -103,6 +108,7 @@ fn ones_of_blocks<R: BitRegister, O: BitOrder<R>>(
 }
 
 // How many bits of whole words are 1, word by word.
+#[tactic(auto, using(crate::proofs::CountLemmas::trues_empty, crate::proofs::CountLemmas::ones_more, crate::proofs::CountLemmas::trues_all))]
 fn ones_word_by_word<R: BitRegister, O: BitOrder<R>>(body: &[R]) -> usize
     requires { length body.now * R.BITS < 2 ^ 64 }
     ensures { result ≡ count_by (λ b. b) (memory (read_by R.BitRegister O.position) body.now) }

@@ -11,6 +11,7 @@ use bit_addressing_memory::{BitOrder, BitRegister};
 /// on, in order. No bits are equal to no bits.
 ///
 /// The two may have different words and orders. It answers as `==` of two slices of one length in bitvec 1.1.1.
+#[tactic(auto, using(crate::proofs::SameLemmas::answers_no, crate::proofs::SameLemmas::answers_yes, crate::proofs::SameLemmas::windows_equal, crate::proofs::SameLemmas::windows_part))]
 pub fn equal_in<R: BitRegister, O: BitOrder<R>, Q: BitRegister, P: BitOrder<Q>>(
     words: &[R],
     place: usize,
@@ -37,6 +38,7 @@ pub fn equal_in<R: BitRegister, O: BitOrder<R>, Q: BitRegister, P: BitOrder<Q>>(
 // The same where the first `few` bits are the same. Out of line, so that lists that differ early are compared by a short
 // function.
 #[inline(never)]
+#[tactic(auto, using(crate::proofs::SameLemmas::windows_agree))]
 fn equal_rest<R: BitRegister, O: BitOrder<R>, Q: BitRegister, P: BitOrder<Q>>(
     words: &[R],
     place: usize,

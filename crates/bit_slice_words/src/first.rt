@@ -20,6 +20,7 @@ use bit_slice_paths::word_source::Constant;
 ///
 /// A whole word that has no such bit is passed over by one comparison; where the order goes straight, a part of a word is
 /// looked at as one number. It answers as `first_one` of a slice in bitvec 1.1.1, and for false as `first_zero`.
+#[tactic(auto, using(crate::proofs::StretchLemmas::position_in))]
 pub fn first_in<R: BitRegister, O: BitOrder<R>>(
     words: &[R],
     place: usize,
@@ -61,6 +62,7 @@ fn first_place<R: BitRegister, O: BitOrder<R>>(
 }
 
 // The first word from one number up to before another that has the bit, or the second number.
+#[tactic(auto, using(crate::proofs::StretchLemmas::nowhere_join))]
 fn next_word<R: BitRegister, O: BitOrder<R>>(
     words: &[R],
     from: usize,
@@ -111,6 +113,7 @@ fn next_far<R: BitRegister, O: BitOrder<R>>(
 
 // `next_word`, word by word.
 #[inline(always)]
+#[tactic(auto, using(crate::proofs::StretchLemmas::nowhere_join, crate::proofs::StretchLemmas::nowhere_word))]
 fn next_near<R: BitRegister, O: BitOrder<R>>(
     words: &[R],
     from: usize,

@@ -17,6 +17,7 @@ use bit_addressing_memory::{BitIdx, BitOrder, BitRegister, Straight, edges_of, r
 /// A whole word that has no such bit is passed over by one comparison; where the order goes straight, a part of a word is
 /// looked at as one number. It answers as `last_one` of a slice in bitvec
 /// 1.1.1, and for false as `last_zero`.
+#[tactic(auto, using(crate::proofs::StretchLemmas::last_position_in))]
 pub fn last_in<R: BitRegister, O: BitOrder<R>>(
     words: &[R],
     place: usize,
@@ -59,6 +60,7 @@ fn last_place<R: BitRegister, O: BitOrder<R>>(
 }
 
 // The last word behind one number and before another that has the bit, or the first number.
+#[tactic(auto, using(crate::proofs::StretchLemmas::nowhere_join, crate::proofs::StretchLemmas::nowhere_word))]
 fn word_before<R: BitRegister, O: BitOrder<R>>(
     words: &[R],
     first: usize,

@@ -14,6 +14,7 @@ use bit_slice_paths::{first_difference, raised, read_part};
 
 // The place of the first bit that is `bit` in a part of a word, of up to 64 bits.
 #[inline(always)]
+#[tactic(auto, using(crate::proofs::ChunkedLemmas::chunk_first, crate::proofs::ChunkedLemmas::chunk_none))]
 pub(crate) fn first_in_part<R: BitRegister, O: BitOrder<R>>(
     straight: Straight<R, O>,
     words: &[R],
@@ -71,6 +72,7 @@ pub(crate) fn last_in_part<R: BitRegister, O: BitOrder<R>>(
 
 // The number no bit of which is `bit`.
 #[inline(always)]
+#[tactic(auto, using(crate::proofs::ChunkedLemmas::lacks_zeros))]
 fn chunk_without(bit: bool) -> u64
     ensures { (direction : Direction) → (i : ℕ) → i < 64 → is_bit bit (chunk_bit direction result i) ≡ false }
 {

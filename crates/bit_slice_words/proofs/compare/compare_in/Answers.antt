@@ -1,6 +1,6 @@
 use Rattle.std.proofs.Common.{arith}
 use Rattle.bit_addressing_memory.specs.Memory.{read_by}
-use Rattle.bit_slice_words.proofs.CompareLemmas.{windows_compare_differ, windows_compare_ends}
+use Rattle.bit_slice_words.proofs.CompareLemmas.{windows_compare_differ}
 use Rattle.bit_slice_words.proofs.SameLemmas.{differ_tested}
 use Rattle.bit_slice_words.proofs.compare.compare_in.Goals as goal
 
@@ -15,12 +15,3 @@ returns-then-bit-other g c =
     (omega (arith, g.met.R.BitRegister.least_bits)) (omega (arith, g.met.Q.BitRegister.least_bits)) c.requires.lies.within
     c.requires.other_lies.within (omega arith) (omega arith) mine.ensures.value theirs.ensures.value c.loop-k.invariant
     (differ_tested mine.result theirs.result c.if-bit-other.true) c.cmp.ensures
-
-pub returns-then-few-shorter : goal.returns-then-few-shorter
-returns-then-few-shorter g c =
-    let reading = read_by g.R.BitRegister g.O.Positions.position in
-    let its = read_by g.Q.BitRegister g.P.Positions.position in
-    windows_compare_ends reading c.args.words.now its c.args.others.now c.args.place c.args.other_place c.args.len
-    c.args.other_len c.cmp-then-few-shorter.result (omega (arith, g.met.R.BitRegister.least_bits))
-    (omega (arith, g.met.Q.BitRegister.least_bits)) c.requires.lies.within c.requires.other_lies.within
-    (λ k low its_low. c.loop-k.invariant k (omega arith)) c.cmp-then-few-shorter.ensures

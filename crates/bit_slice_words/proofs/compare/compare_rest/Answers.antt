@@ -1,6 +1,6 @@
 use Rattle.std.proofs.Common.{◌≢◌, sym, ◌∙◌, arith}
 use Rattle.bit_addressing_memory.specs.Memory.{read_by}
-use Rattle.bit_slice_words.proofs.CompareLemmas.{windows_compare_differ, windows_compare_ends}
+use Rattle.bit_slice_words.proofs.CompareLemmas.{windows_compare_differ}
 use Rattle.bit_slice_words.proofs.compare.compare_rest.Goals as goal
 
 pub returns-then-same-shorter : goal.returns-then-same-shorter
@@ -16,11 +16,3 @@ returns-then-same-shorter g c =
     (omega (arith, g.met.R.BitRegister.least_bits)) (omega (arith, g.met.Q.BitRegister.least_bits)) c.requires.lies.within
     c.requires.other_lies.within (omega arith) (omega arith) mine.ensures.value theirs.ensures.value agree.same other
     c.cmp.ensures
-
-pub returns : goal.returns
-returns g c =
-    windows_compare_ends (read_by g.R.BitRegister g.O.Positions.position) c.args.words.now
-    (read_by g.Q.BitRegister g.P.Positions.position) c.args.others.now c.args.place c.args.other_place c.args.len
-    c.args.other_len c.cmp-2.result (omega (arith, g.met.R.BitRegister.least_bits))
-    (omega (arith, g.met.Q.BitRegister.least_bits)) c.requires.lies.within c.requires.other_lies.within
-    (λ k low its_low. c.agree_rest-same.ensures.same k (omega arith)) c.cmp-2.ensures

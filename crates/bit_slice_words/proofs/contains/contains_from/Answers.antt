@@ -30,12 +30,3 @@ returns-then-len-other_len g c =
     c.agree_rest.ensures in
     answers_no (holds_none reading c.args.words.now c.args.place c.args.len c.args.other_len ys c.requires.lies.within size
     (λ i inside. none i (omega (arith, inside, c.if-len-other_len.true))))
-
-pub contains_rest-requires-clause-none : goal.contains_rest-requires-clause-none
-contains_rest-requires-clause-none g c =
-    let reading = read_by g.R.BitRegister g.O.Positions.position in
-    let its = read_by g.Q.BitRegister g.P.Positions.position in
-    none_more reading c.args.words.now its c.args.others.now c.args.place c.args.other_place c.args.other_len
-    c.args.other_len c.agree_rest.result c.args.from (omega (arith, g.met.R.BitRegister.least_bits))
-    (omega (arith, g.met.Q.BitRegister.least_bits)) (omega arith) c.if-agree_rest-other_len.false c.requires.none
-    c.agree_rest.ensures

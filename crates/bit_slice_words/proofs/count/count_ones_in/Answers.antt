@@ -1,10 +1,7 @@
 use Rattle.std.proofs.Common.{◌<◌, length, arith}
 use Rattle.bit_addressing_memory.specs.Memory.{read_by}
-use Rattle.bit_slice_words.proofs.CountLemmas.{trues_empty, trues_one, trues_cut, trues_fit}
+use Rattle.bit_slice_words.proofs.CountLemmas.{trues_one, trues_cut, trues_fit}
 use Rattle.bit_slice_words.proofs.count.count_ones_in.Goals as goal
-
-pub returns-then-len-eq0 : goal.returns-then-len-eq0
-returns-then-len-eq0 g c = trues_empty _ c.args.place _ c.if-len-eq0.true
 
 pub returns-then-cut : goal.returns-then-cut
 returns-then-cut g c =

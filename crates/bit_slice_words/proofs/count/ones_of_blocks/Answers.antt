@@ -1,11 +1,7 @@
 use Rattle.std.proofs.Common.{◌≡◌, ◌+◌, ◌*◌, ◌/◌, ◌%◌, ◌<◌, refl, arith}
 use Rattle.bit_addressing_memory.specs.Memory.{read_by}
-use Rattle.bit_slice_words.proofs.CountLemmas.{trues_empty}
 use Rattle.bit_slice_words.proofs.BlockOnes.{chunk_at, ones_and_more, ones_fit}
 use Rattle.bit_slice_words.proofs.count.ones_of_blocks.Goals as goal
-
-pub loop-k-init : goal.loop-k-init
-loop-k-init g c = trues_empty _ 0 _ (omega arith)
 
 pub loop-k-preserved : goal.loop-k-preserved
 loop-k-preserved g c =

@@ -1,16 +1,10 @@
-use Rattle.std.proofs.Common.{refl, arith}
+use Rattle.std.proofs.Common.{arith}
 use Rattle.std.proofs.lemmas.Bool.{false≢true}
 use Rattle.bit_addressing_memory.specs.Memory.{read_by}
-use Rattle.bit_slice_words.proofs.StretchLemmas.{nowhere_join, nowhere_word, word_nowhere}
+use Rattle.bit_slice_words.proofs.StretchLemmas.{word_nowhere}
 use Rattle.bit_slice_words.proofs.first.next_near.Goals as goal
 
 pub returns-then-not-lacks-clause-some : goal.returns-then-not-lacks-clause-some
 returns-then-not-lacks-clause-some g c _ none =
     false≢true (c.if-not-lacks.ensures.1 (word_nowhere (read_by g.R.BitRegister g.O.Positions.position)
     c.args.words.now c.args.bit c.loop-k.k c.index-words-k.result (omega arith) c.index-words-k.is none))
-
-pub loop-k-preserved : goal.loop-k-preserved
-loop-k-preserved g c =
-    nowhere_join _ _ _ _ c.loop-k.invariant (nowhere_word (read_by g.R.BitRegister g.O.Positions.position)
-    c.args.words.now c.args.bit c.loop-k.k c.index-words-k.result (omega arith) c.index-words-k.is
-    (c.if-not-lacks.ensures.0 refl))

@@ -600,6 +600,24 @@ def single_sweep():
                 yield f"{memory.head(place, length)} {'ones' if bit else 'zeros'}", f"Some({i}) Some({i})"
 
 
+def compare_sweep():
+    """Lists of 60 to 140 bits beside one that differs at one place, or is longer or shorter by a bit, or is the same."""
+    rng = random.Random(13)
+    for word in ("u8", "u32", "u64", "u128"):
+        for order in ORDERS:
+            for length in (60, 63, 64, 65, 88, 89, 128, 140):
+                memory = Memory(word, order, filled(WORDS[word], 160 // WORDS[word] + 1, rng))
+                place = rng.choice((0, 3, 7, 13))
+                bits = memory.piece(place, length)
+                others = [bits, bits[:-1], bits + [rng.getrandbits(1)]]
+                for k in rng.sample((0, 1, 23, 24, 25, 58, length - 2), 3) + rng.sample((62, 63, 64, 65, length - 1), 2):
+                    if k < length:
+                        others.append(put(bits, k, [1 - bits[k]]))
+                for other in others:
+                    call, args, answer = rng.choice([it for it in looks(bits, other, rng) if it[0] in ("eq", "cmp", "starts")])
+                    yield f"{memory.head(place, length)} {call} {args}", answer
+
+
 def path_sweep():
     """Word paths of two memories: of another memory, of the same one, and of one that differs in one bit."""
     rng = random.Random(5)
@@ -741,7 +759,7 @@ def number_sweep():
 
 def main():
     cases = [*ROWS, *sweep(), *part_sweep(), *piece_sweep(), *single_sweep(), *path_sweep(), *move_sweep(), *number_sweep()]
-    cases += [*path_heads(), *path_steps()]
+    cases += [*path_heads(), *path_steps(), *compare_sweep()]
     with open("stdin", "w") as file:
         file.write("".join(line + "\n" for line, _ in cases))
     with open("stdout", "w") as file:

@@ -14,7 +14,6 @@ use bit_slice_paths::{direction_for, seek};
 ///
 /// The two may have different words and orders. Where the other list has bits, it answers as `contains` of a slice in
 /// bitvec 1.1.1.
-#[tactic(auto, using(crate::proofs::SameLemmas::none_more))]
 pub fn contains_in<R: BitRegister, O: BitOrder<R>, Q: BitRegister, P: BitOrder<Q>>(
     words: &[R],
     place: usize,

@@ -2,7 +2,7 @@ use Rattle.std.proofs.Common.{◌+◌, ◌∙◌, arith}
 use Rattle.bit_addressing_memory.specs.Memory.{memory, piece, read_by}
 use Rattle.bit_addressing_memory.proofs.WindowLemmas.{length-window}
 use Rattle.bit_slice_words.proofs.SameLemmas.{answers_no, answers_yes, holds_empty, holds_here, holds_none, holds_short}
-use Rattle.bit_slice_words.proofs.SameLemmas.{windows_equal}
+use Rattle.bit_slice_words.proofs.SameLemmas.{none_more, windows_equal}
 use Rattle.bit_slice_words.proofs.contains.contains_in.Goals as goal
 
 pub returns-then-other_len-eq0 : goal.returns-then-other_len-eq0
@@ -19,6 +19,14 @@ returns-then-len-other_len g c =
     let its_size = length-window its c.args.others.now c.args.other_place c.args.other_len c.requires.other_lies.within in
     answers_no (holds_short (piece (memory reading c.args.words.now) c.args.place c.args.len)
     (piece (memory its c.args.others.now) c.args.other_place c.args.other_len) (omega arith))
+
+pub loop-i-preserved : goal.loop-i-preserved
+loop-i-preserved g c =
+    none_more (read_by g.R.BitRegister g.O.Positions.position) c.args.words.now
+    (read_by g.Q.BitRegister g.P.Positions.position) c.args.others.now c.args.place c.args.other_place
+    c.few_to_compare-few.result c.args.other_len c.agree_singly.result c.loop-i.i
+    (omega (arith, g.met.R.BitRegister.least_bits)) (omega (arith, g.met.Q.BitRegister.least_bits)) (omega arith)
+    c.if-agree_singly-few.false c.loop-i.invariant c.agree_singly.ensures
 
 pub returns-then-few-other_len : goal.returns-then-few-other_len
 returns-then-few-other_len g c =

@@ -53,7 +53,8 @@ def build(checkout, work, name, depends, sources):
             file.writelines(f"pub mod {module}\n" for module in specs)
     with open(os.path.join(work, "crates.txt"), "w") as file:
         file.writelines(lines + [f"{name}: {' '.join(depends)}\n"])
-    run = subprocess.run(["rt", "run"], cwd=crate, stdout=subprocess.PIPE, stderr=subprocess.STDOUT, text=True)
+    words = ["rt", "run", "--jobs", str(os.cpu_count())]
+    run = subprocess.run(words, cwd=crate, stdout=subprocess.PIPE, stderr=subprocess.STDOUT, text=True)
     program = os.path.join(crate, "out", name)
     told = [line for line in run.stdout.split("\n") if not line.startswith(("library", "statements", "checked"))]
     return (None if run.returncode or not os.path.exists(program) else program), told

@@ -1,7 +1,6 @@
 -- How many words have changed, as words are written.
-use Rattle.std.proofs.Common.{◌≡◌, ℕ, zero, suc, ◌+◌, ◌≤◌, ◌==◌, Bool, true}
-use Rattle.std.proofs.Common.{false, cond, List, [], ◌∷◌, set, refl, arith}
-use Rattle.std.proofs.lemmas.Bool.{eq-eqb}
+use Rattle.bit_addressing_memory.proofs.Common.{◌≡◌, ℕ, zero, suc, ◌+◌, ◌≤◌, ◌==◌, Bool, true, false, cond, List, []}
+use Rattle.bit_addressing_memory.proofs.Common.{◌∷◌, set, refl, arith, eq-eqb}
 use Rattle.bit_addressing_memory.specs.Moves.{changed}
 
 -- no word of a list is another than in the list itself

@@ -1,8 +1,7 @@
 -- What one more bit, copied or exchanged, makes of a loop's work so far.
-use Rattle.std.proofs.Common.{◌≡◌, ℕ, ◌+◌, ◌-◌, ◌<◌, ◌≤◌, Bool, List, refl, sym, ap, ◌∙◌, inl, inr, arith, below_more}
-use Rattle.std.proofs.lemmas.Bool.{cases_eq}
+use Rattle.bit_addressing_memory.proofs.Common.{◌≡◌, ℕ, ◌+◌, ◌-◌, ◌<◌, ◌≤◌, Bool, List, refl, sym, ap, ◌∙◌, inl, inr}
+use Rattle.bit_addressing_memory.proofs.Common.{arith, below_more, cases_eq, Reading, entry, Writes, Copies, Swaps}
 use Rattle.bit_addressing_memory.proofs.OverwriteLemmas.{written_there, written_others}
-use Rattle.bit_addressing_memory.specs.Memory.{Reading, entry, Writes, Copies, Swaps}
 
 -- ---- copies, the first bit first
 

@@ -1,19 +1,18 @@
 -- Entries of a memory, by word and index: what reading and writing one word tells of them.
 --
--- `entry_at`, `entry_read`, `entry_read_place`: a word that was read. `entry_past`: past the last word.
+-- `entry_at`, `entry_read`, `entry_read_place`: a word that was read.
 -- `entry-set_same`, `entry-set_other`: a word that was written.
 -- `indexed_same`, `indexed_other`: a word with the digit of one index made a bit. `writes_bit`: written back.
-use Rattle.std.proofs.Common.{◌≡◌, ◌≢◌, ℕ, ◌+◌, ◌*◌, ◌/◌, ◌%◌, ◌<◌, ◌≤◌, Bool, false, List, Option, length}
-use Rattle.std.proofs.Common.{map, get_or, set, sym, ap, ◌∙◌, inl, inr, arith}
-use Rattle.std.proofs.lemmas.Bool.{cases_eq}
+use Rattle.bit_addressing_memory.proofs.Common.{◌≡◌, ◌≢◌, ℕ, ◌+◌, ◌*◌, ◌/◌, ◌%◌, ◌<◌, ◌≤◌, Bool, false, List, Option}
+use Rattle.bit_addressing_memory.proofs.Common.{length, map, get_or, set, sym, ap, ◌∙◌, inl, inr, arith, cases_eq}
+use Rattle.bit_addressing_memory.proofs.Common.{Reading, entry, indexed, reading_in, Writes}
 use Rattle.std.proofs.lemmas.List.{map-set, length-map, length-set, get_or-map, get_or-set_same}
-use Rattle.std.proofs.lemmas.List.{get_or-set_other, get_or_past}
+use Rattle.std.proofs.lemmas.List.{get_or-set_other}
 use Rattle.std.proofs.lemmas.Nat.{div-mul-add, mod-mul-add, div-add-mod', div_below, mod_below}
 use Rattle.bit_addressing_order.proofs.CallerLemmas.{digit_at-with_digit_same, digit_at-with_digit_other}
 use Rattle.bit_addressing_order.specs.Bits.{digit_at, with_digit}
 use Rattle.bit_addressing_order.specs.BitOrder.{IsLawful}
 use Rattle.bit_addressing_memory.proofs.OverwriteLemmas.{writes_from}
-use Rattle.bit_addressing_memory.specs.Memory.{Reading, entry, indexed, reading_in, Writes}
 
 -- the entry of the word j at index i
 pub entry_at : {R : Type 0} (reading : Reading R) (words : List R) (j i : ℕ) (d : R) → i < reading.bits
@@ -37,14 +36,6 @@ entry_read_place reading words p j i x some h is_word is_index e =
     let low : i < reading.bits = rw is_index (mod_below p reading.bits some) in
     let place : j * reading.bits + i ≡ p = rw (is_word, is_index) (div-add-mod' p reading.bits) in
     entry_read reading words j i x low within e ∙ ap (entry reading words) place
-
--- past the last word each entry is false
-pub entry_past : {R : Type 0} (reading : Reading R) (words : List R) (k : ℕ) → length words ≤ k / reading.bits
-    → entry reading words k ≡ false
-unfolding entry
-entry_past reading words k h =
-    get_or_past (map (λ w. reading.digit w (k % reading.bits)) words) (k / reading.bits) false
-    (omega (arith, length-map words (λ w. reading.digit w (k % reading.bits))))
 
 -- a word written at j has its own digits there
 pub entry-set_same : {R : Type 0} (reading : Reading R) (words : List R) (j : ℕ) (w : R) (k : ℕ)

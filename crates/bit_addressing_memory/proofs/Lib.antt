@@ -1,3 +1,4 @@
+pub mod Common
 pub mod CopyLemmas
 pub mod EntryLemmas
 pub mod LimbLemmas

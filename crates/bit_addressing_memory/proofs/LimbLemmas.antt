@@ -1,17 +1,15 @@
 -- Limbs: how many blocks of eight digits they have, and their digits.
-use Rattle.std.proofs.Common.{◌≡◌, ℕ, ◌+◌, ◌-◌, ◌*◌, ◌/◌, ◌%◌, ◌^◌, ◌==◌, ◌<◌, ◌≤◌, List, length, get_or, set}
-use Rattle.std.proofs.Common.{◌≢◌, false, bit_or, min, ap, sym, ◌∙◌, inl, inr, arith}
+use Rattle.bit_addressing_memory.proofs.Common.{◌≡◌, ℕ, ◌+◌, ◌-◌, ◌*◌, ◌/◌, ◌%◌, ◌^◌, ◌==◌, ◌<◌, ◌≤◌, List, length}
+use Rattle.bit_addressing_memory.proofs.Common.{get_or, set, ◌≢◌, false, bit_or, min, ap, sym, ◌∙◌, inl, inr, arith}
+use Rattle.bit_addressing_memory.proofs.Common.{cases_lt, eqb-false, Reading, entry, Overwrites, IsStored}
 use Rattle.std.proofs.Math.Nat.{mul-le-mul_right}
 use Rattle.std.proofs.Math.Pow.{pow_mono}
-use Rattle.std.proofs.lemmas.Bool.{cases_lt, eqb-false}
 use Rattle.std.proofs.lemmas.Nat.{pow-add}
 use Rattle.std.proofs.lemmas.Nat.Bits.{bit_at_or, bit_at-lt}
 use Rattle.std.specs.Int.{bit_at}
 use Rattle.bit_addressing_order.specs.Bits.{digit_at}
 use Rattle.bit_addressing_order.specs.BitRegister.{IsRegisterSize}
 use Rattle.bit_addressing_memory.specs.Limbs.{HasEntries}
-use Rattle.bit_addressing_memory.specs.Memory.{Reading, entry, Overwrites}
-use Rattle.bit_addressing_memory.specs.Partial.{IsStored}
 use Rattle.bit_addressing_memory.proofs.EntryLemmas.{entry_read}
 use Rattle.bit_addressing_memory.proofs.PartsLemmas.{stores_part}
 use Rattle.bit_addressing_memory.proofs.ShiftLemmas.{bit_at_cut}

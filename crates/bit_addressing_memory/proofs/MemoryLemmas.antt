@@ -6,11 +6,11 @@
 -- Pieces: `length-piece`, `get_or-piece`, `piece_none`, `piece_join`, `piece_piece`.
 -- A list written over: `length-with_piece`, `with_piece_below`, `with_piece_inside`, `with_piece_above`.
 -- What a call leaves, as a list: `memory_written`, `memory_copied`.
-use Rattle.std.proofs.Common.{◌≡◌, ℕ, suc, ◌+◌, ◌-◌, ◌*◌, ◌/◌, ◌%◌, ◌<◌, ◌≤◌, Bool, false, List, [], ◌∷◌}
-use Rattle.std.proofs.Common.{◌++◌, length, map, take, drop, get_or, set, refl, sym}
-use Rattle.std.proofs.Common.{ap, ◌∙◌, inl, inr, arith, rules, length-append}
-use Rattle.std.proofs.Common.{length-set, add-one, get_or-set_same, get_or-set_other}
-use Rattle.std.proofs.lemmas.Bool.{cases_eq, cases_lt}
+use Rattle.bit_addressing_memory.proofs.Common.{◌≡◌, ℕ, suc, ◌+◌, ◌-◌, ◌*◌, ◌/◌, ◌%◌, ◌<◌, ◌≤◌, Bool, false, List, []}
+use Rattle.bit_addressing_memory.proofs.Common.{◌∷◌, ◌++◌, length, map, take, drop, get_or, set, refl, sym, ap, ◌∙◌}
+use Rattle.bit_addressing_memory.proofs.Common.{inl, inr, arith, rules, length-append, length-set, add-one}
+use Rattle.bit_addressing_memory.proofs.Common.{get_or-set_same, get_or-set_other, cases_eq, cases_lt, Reading, entry}
+use Rattle.bit_addressing_memory.proofs.Common.{digits, memory, piece, with_piece, Overwrites, Writes, Copies}
 use Rattle.std.proofs.lemmas.List.{append-nil, take-append-drop, length-take, length-take-le}
 use Rattle.std.proofs.lemmas.List.{length-drop, get_or_append_left, get_or-append_right}
 use Rattle.std.proofs.lemmas.List.{take_at, drop_at, drop-drop, drop_more, take_all, same_lists, ext_get_or, places}
@@ -18,8 +18,6 @@ use Rattle.std.proofs.lemmas.List.Concat.{flat_map-append}
 use Rattle.std.proofs.lemmas.List.FromFn.{length-map-range_with_len, get_or-map-range_with_len}
 use Rattle.std.proofs.lemmas.Nat.{div-mul-add, mod-mul-add, div-add-mod', mod_below}
 use Rattle.bit_addressing_memory.proofs.OverwriteLemmas.{written_there, written_others}
-use Rattle.bit_addressing_memory.specs.Memory.{Reading, entry, digits, memory, piece, with_piece}
-use Rattle.bit_addressing_memory.specs.Memory.{Overwrites, Writes, Copies}
 
 -- ---- the list
 

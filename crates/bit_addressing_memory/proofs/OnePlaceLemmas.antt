@@ -2,9 +2,8 @@
 --
 -- `before_own`, `before_digits`: of the word alone, and of the word before it too. `behind_own`, `behind_digits`: of the
 -- word alone, and of the word behind it too. `some_word`: a word with bits before it has a word before it.
-use Rattle.std.proofs.Common.{◌≡◌, ℕ, zero, suc, ◌+◌, ◌-◌, ◌*◌, ◌<◌, List, length, get_or, ap, ◌∙◌, inl, inr, arith}
-use Rattle.std.proofs.lemmas.Bool.{cases_lt, cases_eq}
-use Rattle.bit_addressing_memory.specs.Memory.{Reading, entry}
+use Rattle.bit_addressing_memory.proofs.Common.{◌≡◌, ℕ, zero, suc, ◌+◌, ◌-◌, ◌*◌, ◌<◌, List, length, get_or, ap, ◌∙◌}
+use Rattle.bit_addressing_memory.proofs.Common.{inl, inr, arith, cases_lt, cases_eq, Reading, entry}
 use Rattle.bit_addressing_memory.specs.Straight.{IsJoined}
 use Rattle.bit_addressing_memory.proofs.EntryLemmas.{entry_read}
 

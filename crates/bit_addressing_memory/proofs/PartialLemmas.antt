@@ -1,11 +1,10 @@
 -- A part of a word under a mask: `masked_digits` (read), `one_word` (the one word of a list of one).
-use Rattle.std.proofs.Common.{◌≡◌, ◌≢◌, ℕ, ◌<◌, ◌≤◌, ◌==◌, Option, Some, bit_and, ap, ◌∙◌, arith}
+use Rattle.bit_addressing_memory.proofs.Common.{◌≡◌, ◌≢◌, ℕ, ◌<◌, ◌≤◌, ◌==◌, Option, Some, bit_and, ap, ◌∙◌, arith}
+use Rattle.bit_addressing_memory.proofs.Common.{reading_in, part_mask, IsMasked}
 use Rattle.std.proofs.lemmas.Nat.Bits.{bit_at_and, bit_at-lt}
 use Rattle.std.specs.Int.{bit_at}
 use Rattle.bit_addressing_order.proofs.CallerLemmas.{mask_has}
 use Rattle.bit_addressing_order.specs.BitOrder.{IsLawful}
-use Rattle.bit_addressing_memory.specs.Memory.{reading_in}
-use Rattle.bit_addressing_memory.specs.Partial.{part_mask, IsMasked}
 
 -- a digit of the mask of a part is 1 inside it
 pub part_inside : (b : ℕ) (at select : ℕ → ℕ) (mask : Option ℕ → Option ℕ → ℕ) (from upto i : ℕ)

@@ -1,14 +1,12 @@
 -- The parts of a span, a word each: where they lie, and a word of a memory read and written in its part.
 --
--- `part_start`, `part_order`: where a part lies. `reads_part`, `stores_part`: one word read, and written back.
-use Rattle.std.proofs.Common.{◌≡◌, ℕ, zero, suc, ◌+◌, ◌-◌, ◌*◌, ◌/◌, ◌%◌, ◌<◌, ◌≤◌, Bool, List, length, get_or}
-use Rattle.std.proofs.Common.{set, min, true, false, not, sym, ap, ◌∙◌, inl, inr, arith, length-set}
+-- `part_start`: where a part lies. `reads_part`, `stores_part`: one word read, and written back.
+use Rattle.bit_addressing_memory.proofs.Common.{◌≡◌, ℕ, zero, suc, ◌+◌, ◌-◌, ◌*◌, ◌/◌, ◌%◌, ◌<◌, ◌≤◌, Bool, List, length}
+use Rattle.bit_addressing_memory.proofs.Common.{get_or, set, true, false, not, sym, ap, ◌∙◌, inl, inr, arith}
+use Rattle.bit_addressing_memory.proofs.Common.{length-set, cases_eq, cases_lt, Reading, entry, touched, Overwrites}
+use Rattle.bit_addressing_memory.proofs.Common.{IsMasked, IsStored, ReadsPart}
 use Rattle.std.proofs.Math.Nat.{mul-le-mul_right}
-use Rattle.std.proofs.lemmas.Bool.{cases_eq, cases_lt}
 use Rattle.std.proofs.lemmas.Nat.{div-mul-add, mod-mul-add, div-add-mod', mod_below}
-use Rattle.bit_addressing_memory.specs.Memory.{Reading, entry, touched, Overwrites}
-use Rattle.bit_addressing_memory.specs.Partial.{IsMasked, IsStored}
-use Rattle.bit_addressing_memory.specs.Partial.{ReadsPart}
 use Rattle.bit_addressing_memory.proofs.EntryLemmas.{entry_read, entry-set_same, entry-set_other}
 
 -- a word of a span begins before the span's end
@@ -18,11 +16,6 @@ part_start b head (suc n) k within some =
     let last : k ≤ (head + n) / b = omega arith in
     let up : k * b ≤ (head + n) / b * b = mul-le-mul_right b last in
     omega (arith, div-add-mod' (head + n) b)
-
--- its part has bits, and lies in the word
-pub part_order : (b head len first : ℕ) → head < b → 0 < len → first < head + len
-    → (head - first < min (head + len - first) b) × (head - first < b)
-part_order b head len first low some before = (omega arith, omega arith)
 
 -- a span with a word has bits
 pub part_some : (b head len k : ℕ) → k < touched b head len → 0 < len

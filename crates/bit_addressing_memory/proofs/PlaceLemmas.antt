@@ -1,9 +1,8 @@
 -- The word of a place that lies below the end of so many words.
-use Rattle.std.proofs.Common.{◌≡◌, ℕ, zero, suc, ◌+◌, ◌-◌, ◌*◌, ◌/◌, ◌%◌, ◌<◌, ◌≤◌, inl, inr, sym, ap, ◌∙◌, arith}
+use Rattle.bit_addressing_memory.proofs.Common.{◌≡◌, ℕ, zero, suc, ◌+◌, ◌-◌, ◌*◌, ◌/◌, ◌%◌, ◌<◌, ◌≤◌, inl, inr, sym}
+use Rattle.bit_addressing_memory.proofs.Common.{ap, ◌∙◌, arith, cases_lt, touched}
 use Rattle.std.proofs.Math.Nat.{mul-le-mul_right}
-use Rattle.std.proofs.lemmas.Bool.{cases_lt}
 use Rattle.std.proofs.lemmas.Nat.{div-add-mod', div-mul-add, div_below, le-div, mod_below}
-use Rattle.bit_addressing_memory.specs.Memory.{touched}
 
 -- a place before the end of n words of b bits lies in one of them
 pub word_within : (b j i n : ℕ) → j * b + i < n * b → j < n

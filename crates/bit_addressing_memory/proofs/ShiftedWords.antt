@@ -4,15 +4,13 @@
 -- of two. `whole_word`, `edge_word`, `beside_word`: with such a word the word of the move is gathered.
 -- `place_at`, `cut_place`: which place a word begins at. `less_words`, `word_within`, `cut_first`, `cut_next`,
 -- `filled_within`, `edge_some`: what is read is there.
-use Rattle.std.proofs.Common.{◌≡◌, ℕ, ◌+◌, ◌-◌, ◌*◌, ◌/◌, ◌%◌, ◌<◌, ◌≤◌, min, List, length, get_or}
-use Rattle.std.proofs.Common.{refl, sym, ap, ◌∙◌, inl, inr, arith}
+use Rattle.bit_addressing_memory.proofs.Common.{◌≡◌, ℕ, ◌+◌, ◌-◌, ◌*◌, ◌/◌, ◌%◌, ◌<◌, ◌≤◌, min, List, length, get_or}
+use Rattle.bit_addressing_memory.proofs.Common.{refl, sym, ap, ◌∙◌, inl, inr, arith, cases_lt, Reading, entry}
+use Rattle.bit_addressing_memory.proofs.Common.{IsStored}
 use Rattle.std.proofs.Math.Nat.{mul-le-mul_right}
-use Rattle.std.proofs.lemmas.Bool.{cases_lt}
 use Rattle.std.proofs.lemmas.Nat.{div-add-mod', div_below}
-use Rattle.bit_addressing_memory.specs.Memory.{Reading, entry}
 use Rattle.bit_addressing_memory.proofs.EntryLemmas.{entry_read}
 use Rattle.bit_addressing_memory.specs.Straight.{IsJoined}
-use Rattle.bit_addressing_memory.specs.Partial.{IsStored}
 use Rattle.bit_addressing_memory.specs.MoveSteps.{BeginsWith, IsGathered, moved_bit}
 use Rattle.bit_addressing_memory.proofs.Gathers.{moved_bit_inside, moved_bit_below, moved_bit_above}
 

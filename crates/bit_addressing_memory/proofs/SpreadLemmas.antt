@@ -1,10 +1,8 @@
 -- Bits of one word put into another.
-use Rattle.std.proofs.Common.{◌≡◌, ◌≢◌, ℕ, ◌+◌, ◌<◌, ◌≤◌, Bool, Option, ◌∙◌, inl, inr, arith}
-use Rattle.std.proofs.lemmas.Bool.{cases_lt}
+use Rattle.bit_addressing_memory.proofs.Common.{◌≡◌, ◌≢◌, ℕ, ◌+◌, ◌<◌, ◌≤◌, Bool, Option, ◌∙◌, inl, inr, arith}
+use Rattle.bit_addressing_memory.proofs.Common.{cases_lt, Reading, reading_in, IsStored}
 use Rattle.bit_addressing_order.specs.Bits.{with_digit}
 use Rattle.bit_addressing_order.specs.BitOrder.{IsLawful}
-use Rattle.bit_addressing_memory.specs.Memory.{Reading, reading_in}
-use Rattle.bit_addressing_memory.specs.Partial.{IsStored}
 use Rattle.bit_addressing_memory.proofs.EntryLemmas.{indexed_same, indexed_other}
 
 -- one bit more of a word written

@@ -1,12 +1,11 @@
 -- A word written in a part of it: `stored_digits`, and what it is at the words that flip, clear and set.
-use Rattle.std.proofs.Common.{◌≡◌, ℕ, zero, suc, ◌-◌, ◌^◌, ◌<◌, ◌≤◌, ◌==◌, Bool, true, false, not, Option, bit_and}
-use Rattle.std.proofs.Common.{bit_or, refl, ap, ◌∙◌, arith}
+use Rattle.bit_addressing_memory.proofs.Common.{◌≡◌, ℕ, zero, suc, ◌-◌, ◌^◌, ◌<◌, ◌≤◌, ◌==◌, Bool, true, false, not}
+use Rattle.bit_addressing_memory.proofs.Common.{Option, bit_and, bit_or, refl, ap, ◌∙◌, arith, Reading, indexed}
+use Rattle.bit_addressing_memory.proofs.Common.{reading_in, part_mask, IsStored}
 use Rattle.std.proofs.lemmas.Nat.Bits.{bit_at_and, bit_at_or, bit_at-lt, bit_at-zero, bit_at_ones}
 use Rattle.std.specs.Int.{bit_at}
 use Rattle.bit_addressing_order.proofs.DigitLemmas.{bit_at-complement}
 use Rattle.bit_addressing_order.specs.BitOrder.{IsLawful}
-use Rattle.bit_addressing_memory.specs.Memory.{Reading, indexed, reading_in}
-use Rattle.bit_addressing_memory.specs.Partial.{part_mask, IsStored}
 use Rattle.bit_addressing_memory.proofs.PartialLemmas.{part_inside, part_outside}
 
 -- the digit of `(word & !mask) | (value & mask)` where the mask has a 1, and where it has a 0

@@ -2,13 +2,11 @@
 --
 -- `swept_none`, `swept_one`: no word, and one. `swept_up`, `swept_down`: more words, either way. `moved_all`: all of
 -- them. `first_le_last`: there is one. `reads_none`, `reads_again`: a sweep that was only read, and read again.
-use Rattle.std.proofs.Common.{◌≡◌, ◌≢◌, ℕ, ◌+◌, ◌-◌, ◌*◌, ◌/◌, ◌%◌, ◌<◌, ◌≤◌, List, length, set}
-use Rattle.std.proofs.Common.{refl, sym, ap, ◌∙◌, inl, inr, arith}
-use Rattle.std.proofs.lemmas.Bool.{cases_lt}
+use Rattle.bit_addressing_memory.proofs.Common.{◌≡◌, ◌≢◌, ℕ, ◌+◌, ◌-◌, ◌*◌, ◌/◌, ◌%◌, ◌<◌, ◌≤◌, List, length, set}
+use Rattle.bit_addressing_memory.proofs.Common.{refl, sym, ap, ◌∙◌, inl, inr, arith, cases_lt, Reading, entry}
 use Rattle.std.proofs.lemmas.List.{length-set}
 use Rattle.std.proofs.Math.Nat.{mul-le-mul_right}
 use Rattle.std.proofs.lemmas.Nat.{div-mul-add, mod-mul-add, div-add-mod', div_below, mod_below, le-div}
-use Rattle.bit_addressing_memory.specs.Memory.{Reading, entry}
 use Rattle.bit_addressing_memory.proofs.EntryLemmas.{entry-set_same, entry-set_other}
 use Rattle.bit_addressing_memory.specs.Moves.{Moves}
 use Rattle.bit_addressing_memory.specs.Sweep.{SameButReads}

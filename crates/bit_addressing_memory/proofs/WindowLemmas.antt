@@ -3,16 +3,15 @@
 -- By its entries: `window_is`, `window_bit`, `length-window`. Beside it: `window_same`, `window_beside`.
 -- Written: `window_written` (one entry), `window_overwritten` (several), `window_copied` (a piece of the same window),
 -- `window_swapped` (two exchanged).
-use Rattle.std.proofs.Common.{◌≡◌, ◌⊎◌, ℕ, ◌+◌, ◌-◌, ◌*◌, ◌<◌, ◌≤◌, Bool, false, List, length, get_or, set, sym, ap}
-use Rattle.std.proofs.Common.{◌∙◌, inl, inr, arith, length-set, get_or-set_same, get_or-set_other}
-use Rattle.std.proofs.lemmas.Bool.{cases_eq, cases_lt}
+use Rattle.bit_addressing_memory.proofs.Common.{◌≡◌, ◌⊎◌, ℕ, ◌+◌, ◌-◌, ◌*◌, ◌<◌, ◌≤◌, Bool, false, List, length}
+use Rattle.bit_addressing_memory.proofs.Common.{get_or, set, sym, ap, ◌∙◌, inl, inr, arith, length-set}
+use Rattle.bit_addressing_memory.proofs.Common.{get_or-set_same, get_or-set_other, cases_eq, cases_lt, Reading, entry}
+use Rattle.bit_addressing_memory.proofs.Common.{memory, piece, with_piece, Overwrites, Writes, Copies, Swaps}
 use Rattle.std.proofs.lemmas.List.{ext_get_or}
 use Rattle.bit_addressing_memory.proofs.MemoryLemmas.{length-memory, entry_memory, length-piece, get_or-piece}
 use Rattle.bit_addressing_memory.proofs.MemoryLemmas.{length-with_piece, with_piece_below, with_piece_inside}
 use Rattle.bit_addressing_memory.proofs.MemoryLemmas.{with_piece_above}
 use Rattle.bit_addressing_memory.proofs.OverwriteLemmas.{written_there, written_others}
-use Rattle.bit_addressing_memory.specs.Memory.{Reading, entry, memory, piece, with_piece, Overwrites, Writes, Copies}
-use Rattle.bit_addressing_memory.specs.Memory.{Swaps}
 
 -- ---- by its entries
 

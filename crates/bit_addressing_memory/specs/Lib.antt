@@ -1,3 +1,4 @@
+pub mod Prelude
 pub mod Lies
 pub mod Limbs
 pub mod Memory

@@ -17,11 +17,6 @@ abbrev pub IsGathered : {R : Type 0} → Reading R → List R → ℕ → ℕ �
 IsGathered reading before k source target len word n =
     (i : ℕ) → i < n → reading.digit word i ≡ moved_bit reading before source target len (k * reading.bits + i)
 
--- the digits of the word from n on are those of the word k
-abbrev pub IsOwnFrom : {R : Type 0} → Reading R → List R → ℕ → R → ℕ → Type 0
-IsOwnFrom reading before k word n = (j : ℕ) → n ≤ j → j < reading.bits
-    → reading.digit word j ≡ entry reading before (k * reading.bits + j)
-
 -- the words from low up to high are as the move leaves them, and the others are as before
 pub record Swept {R : Type 0} (reading : Reading R) (before now : List R) (source target len low high : ℕ)
     : Type 0 where

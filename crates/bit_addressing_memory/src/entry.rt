@@ -4,8 +4,8 @@
 //! one word that holds its place.
 
 ghost use Rattle.std.specs.Prelude.{◌≡◌, ◌*◌, ◌<◌, length};
-ghost use Rattle.bit_addressing_order.specs.Bits.{with_digit};
 ghost use Rattle.bit_addressing_memory.specs.Memory.{entry, indexed, read_by, Writes};
+ghost use Rattle.bit_addressing_order.specs.Bits.{with_digit};
 ghost use Rattle.bit_addressing_memory.specs.Place.{place_of};
 
 use crate::place::Place;

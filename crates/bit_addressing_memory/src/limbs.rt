@@ -3,11 +3,9 @@
 //! those whose positions lie side by side. A limb costs the same however few of its bits are wanted.
 
 ghost use Rattle.std.specs.Prelude.{◌≡◌, ℕ, ◌+◌, ◌-◌, ◌*◌, ◌^◌, ◌<◌, ◌≤◌, false, List, length, min};
-ghost use Rattle.bit_addressing_memory.specs.Lies.{Lies};
+ghost use Rattle.bit_addressing_memory.specs.Prelude.{Lies, entry, indexed, read_by, Overwrites, IsStored};
 ghost use Rattle.bit_addressing_order.specs.Bits.{digit_at};
 ghost use Rattle.bit_addressing_memory.specs.Limbs.{HasEntries};
-ghost use Rattle.bit_addressing_memory.specs.Memory.{entry, indexed, read_by, Overwrites};
-ghost use Rattle.bit_addressing_memory.specs.Partial.{IsStored};
 
 use crate::direction::Direction;
 use crate::masking::{no_digits, stored};

@@ -4,8 +4,7 @@
 
 ghost use Rattle.std.specs.Prelude.{◌≡◌, ℕ, ◌+◌, ◌-◌, ◌*◌, ◌^◌, ◌<◌, ◌≤◌, true, false, not, bit_and, bit_or, length};
 ghost use Rattle.bit_addressing_memory.specs.Memory.{indexed, read_by, Overwrites};
-ghost use Rattle.bit_addressing_memory.specs.Partial.{part_mask, IsMasked, IsStored};
-ghost use Rattle.bit_addressing_memory.specs.Partial.{ReadsPart};
+ghost use Rattle.bit_addressing_memory.specs.Partial.{part_mask, IsMasked, IsStored, ReadsPart};
 
 use bit_addressing_order::{BitEnd, BitIdx, BitOrder, BitRegister};
 

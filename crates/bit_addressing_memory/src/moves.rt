@@ -1,9 +1,7 @@
 //! Bits that move inside one memory: each word of the target is gathered and then written once.
 
 ghost use Rattle.std.specs.Prelude.{◌≡◌, ◌+◌, ◌-◌, ◌*◌, ◌/◌, ◌^◌, ◌<◌, ◌≤◌, IfSome, length, min};
-ghost use Rattle.bit_addressing_memory.specs.Lies.{Lies};
-ghost use Rattle.bit_addressing_memory.specs.Memory.{read_by, entry, touched};
-ghost use Rattle.bit_addressing_memory.specs.Partial.{IsStored};
+ghost use Rattle.bit_addressing_memory.specs.Prelude.{Lies, read_by, entry, touched, IsStored};
 ghost use Rattle.bit_addressing_memory.specs.Straight.{IsStraight};
 ghost use Rattle.bit_addressing_memory.specs.Moves.{Moves, changed};
 ghost use Rattle.bit_addressing_memory.specs.MoveSteps.{IsGathered, PutsWords};

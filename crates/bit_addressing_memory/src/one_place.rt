@@ -2,8 +2,7 @@
 //! itself and of the word beside it, by shifts of one.
 
 ghost use Rattle.std.specs.Prelude.{◌≡◌, ℕ, ◌+◌, ◌-◌, ◌*◌, ◌/◌, ◌^◌, ◌<◌, ◌≤◌, length, slice_index_or};
-ghost use Rattle.bit_addressing_memory.specs.Lies.{Lies};
-ghost use Rattle.bit_addressing_memory.specs.Memory.{entry, indexed, read_by};
+ghost use Rattle.bit_addressing_memory.specs.Prelude.{Lies, entry, indexed, read_by};
 ghost use Rattle.bit_addressing_memory.specs.MoveSteps.{PutsWords};
 ghost use Rattle.bit_addressing_memory.specs.Sweep.{IsFresh, SameButReads, edge_of, reads_of, sweep_lender, sweep_words, way_of};
 ghost use Rattle.bit_addressing_memory.specs.Ways.{IsPast, edge_after, way_for};

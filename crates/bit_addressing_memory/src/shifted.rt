@@ -5,9 +5,7 @@
 //! sweep's counts in registers.
 
 ghost use Rattle.std.specs.Prelude.{◌≡◌, ◌+◌, ◌-◌, ◌*◌, ◌/◌, ◌^◌, ◌<◌, ◌≤◌, length, min};
-ghost use Rattle.bit_addressing_memory.specs.Lies.{Lies};
-ghost use Rattle.bit_addressing_memory.specs.Memory.{entry, read_by, touched};
-ghost use Rattle.bit_addressing_memory.specs.Partial.{IsStored};
+ghost use Rattle.bit_addressing_memory.specs.Prelude.{Lies, entry, read_by, touched, IsStored};
 ghost use Rattle.bit_addressing_memory.specs.declared.sweep.Way.TheVariants.{Up, Down};
 ghost use Rattle.bit_addressing_memory.specs.MoveSteps.{BeginsWith, IsGathered, PutsWords};
 ghost use Rattle.bit_addressing_memory.specs.Sweep.{IsFresh, SameButReads, edge_of, reads_of, sweep_lender, sweep_words, way_of};

@@ -1,8 +1,7 @@
 //! Bits of one word put into another, whatever the order of each.
 
 ghost use Rattle.std.specs.Prelude.{◌≡◌, ℕ, ◌+◌, ◌-◌, ◌<◌, ◌≤◌, false};
-ghost use Rattle.bit_addressing_memory.specs.Memory.{indexed, read_by};
-ghost use Rattle.bit_addressing_memory.specs.Partial.{IsStored};
+ghost use Rattle.bit_addressing_memory.specs.Prelude.{indexed, read_by, IsStored};
 
 use crate::entry::{read_bit, write_bit};
 use bit_addressing_order::{BitIdx, BitOrder, BitRegister};

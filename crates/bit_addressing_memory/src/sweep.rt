@@ -3,11 +3,9 @@
 //!
 //! While a sweep is there, its words are read and written through it alone.
 
-ghost use Rattle.std.specs.Prelude.{◌≡◌, ◌≢◌, ℕ, ◌+◌, ◌-◌, ◌^◌, ◌<◌, ◌≤◌, length, min};
-ghost use Rattle.std.specs.Prelude.{slice_index_or, slice_set};
-ghost use Rattle.bit_addressing_memory.specs.Lies.{Lies};
+ghost use Rattle.std.specs.Prelude.{◌≡◌, ◌≢◌, ℕ, ◌+◌, ◌-◌, ◌^◌, ◌<◌, ◌≤◌, length, min, slice_index_or, slice_set};
+ghost use Rattle.bit_addressing_memory.specs.Prelude.{Lies, read_by, touched};
 ghost use Rattle.bit_addressing_memory.specs.Limbs.{HasEntries};
-ghost use Rattle.bit_addressing_memory.specs.Memory.{read_by, touched};
 ghost use Rattle.bit_addressing_memory.specs.Ways.{IsPast, edge_after, passed, way_for};
 
 use crate::limbs::bits_in;

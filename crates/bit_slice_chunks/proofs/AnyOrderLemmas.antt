@@ -1,7 +1,6 @@
 -- Chunks of a memory whose positions go anyhow.
-use Rattle.std.proofs.Common.{◌≡◌, ℕ, ◌<◌, Bool, List, refl, ◌∙◌, inr}
+use Rattle.bit_addressing_memory.proofs.Common.{◌≡◌, ℕ, ◌<◌, Bool, List, refl, ◌∙◌, inr, Reading, Overwrites}
 use Rattle.bit_addressing_memory.specs.Limbs.{HasEntries}
-use Rattle.bit_addressing_memory.specs.Memory.{Reading, Overwrites}
 use Rattle.bit_addressing_memory.specs.declared.direction.Direction.{Direction}
 use Rattle.bit_addressing_memory.specs.declared.direction.Direction.TheVariants.{Ascending, Descending}
 use Rattle.bit_addressing_memory.specs.Straight.{Goes, IsStraight}

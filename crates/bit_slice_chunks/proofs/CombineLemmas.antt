@@ -1,13 +1,12 @@
 -- Bits of a memory combined with those of a chunk.
-use Rattle.std.proofs.Common.{◌≡◌, ℕ, ◌+◌, ◌-◌, ◌*◌, ◌%◌, ◌==◌, ◌<◌, ◌≤◌, Bool, ◌&&◌, ◌||◌, List, length, get_or}
-use Rattle.std.proofs.Common.{bit_and, bit_or, bit_xor, min, max, sym, ap, ap₂, ◌∙◌, inl, inr, arith}
+use Rattle.bit_addressing_memory.proofs.Common.{◌≡◌, ℕ, ◌+◌, ◌-◌, ◌*◌, ◌%◌, ◌==◌, ◌<◌, ◌≤◌, Bool, ◌&&◌, ◌||◌, List}
+use Rattle.bit_addressing_memory.proofs.Common.{length, get_or, bit_and, bit_or, bit_xor, min, max, sym, ap, ap₂, ◌∙◌}
+use Rattle.bit_addressing_memory.proofs.Common.{inl, inr, arith, cases_lt, Reading, entry, reading_in, Overwrites}
 use mathlib.Core.Bool.{xor}
 use Rattle.std.specs.Int.{bit_at}
-use Rattle.std.proofs.lemmas.Bool.{cases_lt}
 use Rattle.std.proofs.lemmas.Bool.Decides.{nat_tests}
 use Rattle.std.proofs.lemmas.Nat.Bits.{bit_at_and, bit_at_or, bit_at_xor, bit_at-lt}
 use Rattle.bit_addressing_memory.specs.Bits.{digit_at}
-use Rattle.bit_addressing_memory.specs.Memory.{Reading, entry, reading_in, Overwrites}
 use Rattle.bit_addressing_memory.proofs.PartsLemmas.{stores_as}
 use Rattle.bit_addressing_memory.specs.declared.direction.Direction.{Direction}
 use Rattle.bit_addressing_memory.specs.Straight.{straight, Goes}

@@ -1,11 +1,10 @@
 -- Chunks of a memory, word by word: read, and written.
-use Rattle.std.proofs.Common.{◌≡◌, ℕ, zero, suc, ◌+◌, ◌-◌, ◌*◌, ◌/◌, ◌<◌, ◌≤◌}
-use Rattle.std.proofs.Common.{Bool, List, length, get_or, min, bit_or, refl, sym, ap, ◌∙◌, inl, inr, arith}
+use Rattle.bit_addressing_memory.proofs.Common.{◌≡◌, ℕ, zero, suc, ◌+◌, ◌-◌, ◌*◌, ◌/◌, ◌<◌, ◌≤◌, Bool, List, length}
+use Rattle.bit_addressing_memory.proofs.Common.{get_or, min, bit_or, refl, sym, ap, ◌∙◌, inl, inr, arith, cases_lt}
+use Rattle.bit_addressing_memory.proofs.Common.{Reading, entry, reading_in, touched, Overwrites}
 use Rattle.std.proofs.Math.Nat.{div-mul-le_self, mul-le-mul_right}
-use Rattle.std.proofs.lemmas.Bool.{cases_lt}
 use Rattle.std.proofs.lemmas.Nat.{div_below, le-div, mod_below}
 use Rattle.bit_addressing_memory.specs.Bits.{digit_at}
-use Rattle.bit_addressing_memory.specs.Memory.{Reading, entry, reading_in, touched, Overwrites}
 use Rattle.bit_addressing_memory.proofs.EntryLemmas.{entry_read}
 pub use Rattle.bit_addressing_memory.proofs.LimbLemmas.{no_digit, or_left, or_right}
 pub use Rattle.bit_addressing_memory.proofs.OverwriteLemmas.{overwrites_join}

@@ -1,15 +1,14 @@
 -- Chunks in another direction, and where two differ.
-use Rattle.std.proofs.Common.{◌≡◌, ℕ, ◌+◌, ◌-◌, ◌*◌, ◌/◌, ◌^◌, ◌==◌, ◌<◌, ◌≤◌, ◌≢◌}
-use Rattle.std.proofs.Common.{suc, Bool, true, false, List, bit_xor, refl, sym, ap, ◌∙◌, inl, inr, arith}
+use Rattle.bit_addressing_memory.proofs.Common.{◌≡◌, ℕ, ◌+◌, ◌-◌, ◌*◌, ◌/◌, ◌^◌, ◌==◌, ◌<◌, ◌≤◌, ◌≢◌, suc, Bool, true}
+use Rattle.bit_addressing_memory.proofs.Common.{false, List, bit_xor, refl, sym, ap, ◌∙◌, inl, inr, arith, cases_lt}
+use Rattle.bit_addressing_memory.proofs.Common.{Reading}
 use denote.Enum.Bare.{sameb}
 use mathlib.Core.Bool.{xor}
 use Rattle.std.specs.Int.{bit_at, leading_zeros, trailing_zeros, w64}
 use Rattle.std.proofs.Math.Nat.{div-lt_iff_lt-mul, le-div_iff_mul-le, two-pow-succ}
-use Rattle.std.proofs.lemmas.Bool.{cases_lt}
 use Rattle.std.proofs.lemmas.Nat.{leading_top, pow_pos}
 use Rattle.std.proofs.lemmas.Nat.Bits.{bit_at-lt, bit_at-zero, bit_at-trailing_zeros, bit_at_above, bit_at_xor, same_from_bits}
 use Rattle.bit_addressing_memory.specs.Bits.{digit_at}
-use Rattle.bit_addressing_memory.specs.Memory.{Reading}
 use Rattle.bit_addressing_memory.specs.declared.direction.Direction.{Direction}
 use Rattle.bit_addressing_memory.specs.declared.direction.Direction.TheVariants.{Ascending, Descending}
 use Rattle.bit_addressing_memory.specs.contracts.direction.Direction.{the_type}

@@ -1,13 +1,11 @@
 -- Chunks of 64 bits: of whole words, and of whole words and one more.
-use Rattle.std.proofs.Common.{◌≡◌, ℕ, ◌+◌, ◌-◌, ◌*◌, ◌/◌, ◌%◌, ◌^◌, ◌<◌, ◌≤◌}
-use Rattle.std.proofs.Common.{Bool, List, length, get_or, set, bit_or, refl, ap, ◌∙◌, inl, inr, arith}
+use Rattle.bit_addressing_memory.proofs.Common.{◌≡◌, ℕ, ◌+◌, ◌-◌, ◌*◌, ◌/◌, ◌%◌, ◌^◌, ◌<◌, ◌≤◌, Bool, List, length}
+use Rattle.bit_addressing_memory.proofs.Common.{get_or, set, bit_or, refl, ap, ◌∙◌, inl, inr, arith, cases_lt}
+use Rattle.bit_addressing_memory.proofs.Common.{cases_eq, Reading, entry, reading_in, Overwrites, IsStored}
 use Rattle.std.proofs.Math.Nat.{mul-le-mul_right}
-use Rattle.std.proofs.lemmas.Bool.{cases_lt, cases_eq}
 use Rattle.std.proofs.lemmas.List.{get_or_default}
 use Rattle.bit_addressing_memory.specs.Bits.{digit_at}
 use Rattle.bit_addressing_memory.specs.BitRegister.{IsRegisterSize}
-use Rattle.bit_addressing_memory.specs.Memory.{Reading, entry, reading_in, Overwrites}
-use Rattle.bit_addressing_memory.specs.Partial.{IsStored}
 use Rattle.bit_addressing_memory.proofs.PartsLemmas.{stores_part}
 use Rattle.bit_addressing_memory.specs.declared.direction.Direction.{Direction}
 use Rattle.bit_addressing_memory.specs.Straight.{straight, Goes}

@@ -1,7 +1,7 @@
 -- Bits combined with others.
 use Rattle.std.specs.Prelude.{ℕ, ◌+◌, Bool, ◌&&◌, ◌||◌, List}
-use Rattle.std.specs.Bool.{xor}
 use Rattle.bit_addressing_memory.specs.Memory.{Reading, entry, Overwrites}
+use Rattle.std.specs.Bool.{xor}
 use Rattle.bit_slice_chunks.specs.declared.combination.Combination.{Combination}
 use Rattle.bit_slice_chunks.specs.declared.combination.Combination.TheVariants.{Take, And, Or, Xor}
 

@@ -2,8 +2,7 @@
 //! else by limbs, each word turned to the order of its digits as a whole.
 
 ghost use Rattle.std.specs.Prelude.{◌≡◌, ◌+◌, ◌*◌, ◌<◌, ◌≤◌};
-ghost use Rattle.bit_addressing_memory.specs.Lies.{Lies};
-ghost use Rattle.bit_addressing_memory.specs.Memory.{entry, read_by, Overwrites};
+ghost use Rattle.bit_addressing_memory.specs.Prelude.{Lies, entry, read_by, Overwrites};
 ghost use Rattle.bit_addressing_memory.specs.Straight.{Goes, IsStraight};
 ghost use Rattle.bit_addressing_memory.specs.declared.direction.Direction.{Direction};
 ghost use Rattle.bit_addressing_memory.specs.declared.direction.Direction.TheVariants.{Ascending};

@@ -1,10 +1,8 @@
 //! Bits of a memory combined with those of a chunk, in the memory's own words: what two chunks make of a word that they
 //! share is two masked writes, and neither waits for the other.
 
-ghost use Rattle.std.specs.Prelude.{◌≡◌, ◌+◌, ◌<◌, ◌≤◌, length};
-ghost use Rattle.std.specs.Prelude.{slice_index_or};
-ghost use Rattle.bit_addressing_memory.specs.Lies.{Lies};
-ghost use Rattle.bit_addressing_memory.specs.Memory.{entry, read_by, Overwrites};
+ghost use Rattle.std.specs.Prelude.{◌≡◌, ◌+◌, ◌<◌, ◌≤◌, length, slice_index_or};
+ghost use Rattle.bit_addressing_memory.specs.Prelude.{Lies, entry, read_by, Overwrites};
 ghost use Rattle.bit_slice_chunks.specs.Chunk.{chunk_bit};
 ghost use Rattle.bit_slice_chunks.specs.Combined.{combined_bit};
 

@@ -2,8 +2,7 @@
 //! once; else a whole chunk is read, where the memory has one, and cut off.
 
 ghost use Rattle.std.specs.Prelude.{◌≡◌, ◌+◌, ◌-◌, ◌*◌, ◌^◌, ◌<◌, ◌≤◌, length, true};
-ghost use Rattle.bit_addressing_memory.specs.Lies.{Lies};
-ghost use Rattle.bit_addressing_memory.specs.Memory.{read_by, touched, Overwrites};
+ghost use Rattle.bit_addressing_memory.specs.Prelude.{Lies, read_by, touched, Overwrites};
 ghost use Rattle.bit_slice_chunks.specs.Chunk.{chunk_bit, IsChunk};
 
 use crate::chunk::{first_bits, lowered, part, placed, raised};

@@ -2,8 +2,7 @@
 //! 64 bits goes by `transfer`.
 
 ghost use Rattle.std.specs.Prelude.{◌≡◌, ◌+◌, ◌*◌, ◌<◌, ◌≤◌, length, slice_set};
-ghost use Rattle.bit_addressing_memory.specs.Lies.{Lies};
-ghost use Rattle.bit_addressing_memory.specs.Memory.{read_by, Overwrites};
+ghost use Rattle.bit_addressing_memory.specs.Prelude.{Lies, read_by, Overwrites};
 ghost use Rattle.bit_slice_chunks.specs.Chunk.{chunk_bit, IsChunk};
 
 use crate::chunk::{lowered, part, placed, raised};

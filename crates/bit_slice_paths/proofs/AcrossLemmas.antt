@@ -1,8 +1,6 @@
 -- How far two stretches are the same, chunk by chunk.
-use Rattle.std.proofs.Common.{◌≡◌, ℕ, ◌+◌, ◌==◌, ◌<◌, ◌≤◌, ◌↔◌, IsTrue, List, min, refl, sym, ◌∙◌}
-use Rattle.std.proofs.Common.{inl, inr, arith}
-use Rattle.std.proofs.lemmas.Bool.{cases_lt, eqb-true, eq-eqb}
-use Rattle.bit_addressing_memory.specs.Memory.{Reading, entry}
+use Rattle.bit_addressing_memory.proofs.Common.{◌≡◌, ℕ, ◌+◌, ◌==◌, ◌<◌, ◌≤◌, ◌↔◌, IsTrue, List, min, refl, sym, ◌∙◌}
+use Rattle.bit_addressing_memory.proofs.Common.{inl, inr, arith, cases_lt, eqb-true, eq-eqb, Reading, entry}
 use Rattle.bit_addressing_memory.specs.declared.direction.Direction.{Direction}
 use Rattle.bit_slice_chunks.specs.Chunk.{IsChunk, AgreeTo}
 use Rattle.bit_slice_paths.specs.Agrees.{Agrees, Matches}

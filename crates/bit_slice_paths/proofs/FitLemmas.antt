@@ -2,11 +2,9 @@
 --
 -- Words that a place has behind it: `few_words`, `more_words`, `words_lie`, `next_lies`. Stretches that fit: `level_on`, `fit_on`,
 -- `shifted_fit`. One part more: `merged_more`, `matched_more`, `matched_part`.
-use Rattle.std.proofs.Common.{◌≡◌, ℕ, ◌+◌, ◌-◌, ◌*◌, ◌/◌, ◌%◌, ◌<◌, ◌≤◌, Bool, List}
-use Rattle.std.proofs.Common.{refl, sym, ap, ◌∙◌, inl, inr, arith}
+use Rattle.bit_addressing_memory.proofs.Common.{◌≡◌, ℕ, ◌+◌, ◌-◌, ◌*◌, ◌/◌, ◌%◌, ◌<◌, ◌≤◌, Bool, List, refl, sym, ap}
+use Rattle.bit_addressing_memory.proofs.Common.{◌∙◌, inl, inr, arith, cases_lt, Reading, entry}
 use Rattle.std.proofs.Math.Nat.{mod-add-mod, mul-le-mul_right}
-use Rattle.std.proofs.lemmas.Bool.{cases_lt}
-use Rattle.bit_addressing_memory.specs.Memory.{Reading, entry}
 use Rattle.bit_slice_chunks.specs.Combined.{Combines}
 use Rattle.bit_slice_paths.proofs.WalkLemmas.{combines_more}
 use Rattle.bit_slice_paths.specs.Fits.{AreSame, IsFit, Matched, Merged}

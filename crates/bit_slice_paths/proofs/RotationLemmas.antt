@@ -3,10 +3,9 @@
 -- Where a bit stood: `rotated_from_on`, `rotated_from_over`. Nothing to rotate: `rotated_none`. Rotated again, towards the
 -- start and towards the end: `rotated_more`, `rotated_back_more`. A part exchanged, and the rest rotated:
 -- `exchanged_front`, `exchanged_back`.
-use Rattle.std.proofs.Common.{◌≡◌, ◌⊎◌, ℕ, ◌+◌, ◌-◌, ◌<◌, ◌≤◌, List, refl, sym, ap, ◌∙◌, inl, inr, arith}
+use Rattle.bit_addressing_memory.proofs.Common.{◌≡◌, ◌⊎◌, ℕ, ◌+◌, ◌-◌, ◌<◌, ◌≤◌, List, refl, sym, ap, ◌∙◌, inl, inr}
+use Rattle.bit_addressing_memory.proofs.Common.{arith, cases_lt, lt-ltb, le-ltb, Reading, entry, Overwrites, Swaps}
 use Rattle.std.specs.Prelude.{if◌then◌else◌}
-use Rattle.std.proofs.lemmas.Bool.{cases_lt, lt-ltb, le-ltb}
-use Rattle.bit_addressing_memory.specs.Memory.{Reading, entry, Overwrites, Swaps}
 use Rattle.bit_slice_paths.specs.Rotations.{rotated_from}
 
 -- after is before with the n bits from a place on rotated by `by` towards their start

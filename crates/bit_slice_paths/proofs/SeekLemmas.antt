@@ -2,9 +2,8 @@
 --
 -- One place: `stands_agreed`, `stands_not`; by the first bits: `shown_chunk`, `shown_same`, `shown_other`. So many of them:
 -- `seeks_here`, `seeks_none`, `seeks_next`, `seeks_before`, `seeks_more`.
-use Rattle.std.proofs.Common.{◌≡◌, ◌≢◌, ℕ, ◌+◌, ◌-◌, ◌^◌, ◌<◌, ◌≤◌, List, ap, ◌∙◌, inl, inr, arith}
-use Rattle.std.proofs.lemmas.Bool.{cases_lt}
-use Rattle.bit_addressing_memory.specs.Memory.{Reading, entry}
+use Rattle.bit_addressing_memory.proofs.Common.{◌≡◌, ◌≢◌, ℕ, ◌+◌, ◌-◌, ◌^◌, ◌<◌, ◌≤◌, List, ap, ◌∙◌, inl, inr, arith}
+use Rattle.bit_addressing_memory.proofs.Common.{cases_lt, Reading, entry}
 use Rattle.bit_addressing_memory.specs.declared.direction.Direction.{Direction}
 use Rattle.bit_slice_chunks.specs.Chunk.{chunk_bit, IsChunk, IsCut, IsLowered}
 use Rattle.bit_slice_paths.specs.Agrees.{Agrees}

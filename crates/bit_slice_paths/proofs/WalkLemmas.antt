@@ -1,11 +1,10 @@
 -- Stretches combined, copied and compared chunk by chunk.
-use Rattle.std.proofs.Common.{◌≡◌, ℕ, ◌+◌, ◌-◌, ◌^◌, ◌<◌, ◌≤◌, ◌≢◌, ◌↔◌, Bool, List}
-use Rattle.std.proofs.Common.{refl, sym, ap, ap₂, ◌∙◌, inl, inr, arith}
+use Rattle.bit_addressing_memory.proofs.Common.{◌≡◌, ℕ, ◌+◌, ◌-◌, ◌^◌, ◌<◌, ◌≤◌, ◌≢◌, ◌↔◌, Bool, List, refl, sym, ap}
+use Rattle.bit_addressing_memory.proofs.Common.{ap₂, ◌∙◌, inl, inr, arith, cases_lt, cases_eq, eqb-true, eqb-false}
+use Rattle.bit_addressing_memory.proofs.Common.{eq-eqb, ne_eqb, Reading, entry, Overwrites, Copies}
 use Rattle.std.specs.Int.{bit_at}
-use Rattle.std.proofs.lemmas.Bool.{cases_lt, cases_eq, eqb-true, eqb-false, eq-eqb, ne_eqb}
 use Rattle.std.proofs.lemmas.Nat.Bits.{bit_at-lt, same_from_bits_below}
 use Rattle.bit_addressing_memory.specs.Bits.{digit_at}
-use Rattle.bit_addressing_memory.specs.Memory.{Reading, entry, Overwrites, Copies}
 use Rattle.bit_addressing_memory.proofs.PartsLemmas.{stores_as}
 use Rattle.bit_addressing_memory.specs.declared.direction.Direction.{Direction}
 use Rattle.bit_addressing_memory.specs.declared.direction.Direction.TheVariants.{Ascending, Descending}

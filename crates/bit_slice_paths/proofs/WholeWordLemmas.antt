@@ -2,18 +2,16 @@
 --
 -- One word more: `merges_more`, `compares_more`. `alike_digit`: a digit of words that are alike. `same_words_more`,
 -- `same_words_part`: more words with the same bits, and some of them.
-use Rattle.std.proofs.Common.{◌≡◌, ℕ, ◌+◌, ◌-◌, ◌*◌, ◌^◌, ◌<◌, ◌≤◌, Bool, List, Option, length, get_or, set}
-use Rattle.std.proofs.Common.{bit_or, bit_xor, refl, sym, ap, ap₂, ◌∙◌, inl, inr, arith}
+use Rattle.bit_addressing_memory.proofs.Common.{◌≡◌, ℕ, ◌+◌, ◌-◌, ◌*◌, ◌^◌, ◌<◌, ◌≤◌, Bool, List, Option, length}
+use Rattle.bit_addressing_memory.proofs.Common.{get_or, set, bit_or, bit_xor, refl, sym, ap, ap₂, ◌∙◌, inl, inr, arith}
+use Rattle.bit_addressing_memory.proofs.Common.{cases_lt, Reading, entry, indexed, reading_in, Overwrites, IsStored}
 use Rattle.std.proofs.Math.Nat.{mul-le-mul_right}
-use Rattle.std.proofs.lemmas.Bool.{cases_lt}
 use Rattle.std.proofs.lemmas.List.{get_or_default}
 use Rattle.std.proofs.lemmas.Nat.Bits.{bit_at_or, bit_at_xor, bit_at-zero, bit_at-lt, same_from_bits}
 use Rattle.std.specs.Int.{bit_at}
 use Rattle.bit_addressing_memory.specs.Bits.{digit_at}
 use Rattle.bit_addressing_memory.specs.BitOrder.{IsLawful}
-use Rattle.bit_addressing_memory.specs.Memory.{Reading, entry, indexed, reading_in, Overwrites}
 use Rattle.bit_addressing_memory.proofs.EntryLemmas.{entry_read}
-use Rattle.bit_addressing_memory.specs.Partial.{IsStored}
 use Rattle.bit_addressing_memory.proofs.OverwriteLemmas.{overwrites_join}
 use Rattle.bit_addressing_memory.proofs.PartsLemmas.{stores_part, stores_as}
 use Rattle.bit_addressing_memory.proofs.OrderCallerLemmas.{same_word}

@@ -1,7 +1,7 @@
 -- How two stretches fit word by word, and how far they are combined or compared.
 use Rattle.std.specs.Prelude.{ℕ, ◌+◌, ◌%◌, ◌<◌, ◌≤◌, ◌≡◌, Bool, List}
-use Rattle.std.proofs.Common.{refl, arith}
 use Rattle.bit_addressing_memory.specs.Memory.{Reading, entry}
+use Rattle.std.proofs.Common.{refl, arith}
 use Rattle.bit_slice_chunks.specs.Combined.{Combines}
 use Rattle.bit_slice_paths.specs.WholeWords.{IsAlike}
 use Rattle.bit_slice_paths.specs.declared.two_memories.Fit.{Fit}

@@ -1,7 +1,7 @@
 -- What is done with whole words, and when words of two types have the same bits.
 use Rattle.std.specs.Prelude.{ℕ, ◌+◌, ◌*◌, ◌<◌, ◌≡◌, ◌↔◌, Bool, List}
-use Rattle.std.proofs.Common.{refl, arith}
 use Rattle.bit_addressing_memory.specs.Memory.{Reading, entry, Overwrites}
+use Rattle.std.proofs.Common.{refl, arith}
 
 -- words of b and of c bits, whose indices have the positions `at` and `its`: words that hold the same number have the
 -- same bits

@@ -1,8 +1,7 @@
 //! Two stretches of one memory exchanged, by chunks of 64 bits.
 
 ghost use Rattle.std.specs.Prelude.{◌+◌, ◌<◌, ◌≤◌};
-ghost use Rattle.bit_addressing_memory.specs.Lies.{Lies};
-ghost use Rattle.bit_addressing_memory.specs.Memory.{read_by, Swaps};
+ghost use Rattle.bit_addressing_memory.specs.Prelude.{Lies, read_by, Swaps};
 
 use bit_addressing_memory::{BitOrder, BitRegister, Direction};
 use bit_slice_chunks::any_order::{read_chunk, read_touched, write_bits, write_chunk};

@@ -1,8 +1,7 @@
 //! Bits of one memory in reverse, by chunks of 64: one from each end at a time, each of them turned round.
 
 ghost use Rattle.std.specs.Prelude.{◌+◌, ◌-◌, ◌<◌, ◌≤◌};
-ghost use Rattle.bit_addressing_memory.specs.Lies.{Lies};
-ghost use Rattle.bit_addressing_memory.specs.Memory.{entry, read_by, Overwrites};
+ghost use Rattle.bit_addressing_memory.specs.Prelude.{Lies, entry, read_by, Overwrites};
 ghost use Rattle.bit_slice_paths.specs.Mirrored.{Mirrored};
 
 use bit_addressing_memory::{BitOrder, BitRegister, Direction};

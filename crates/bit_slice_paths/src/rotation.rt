@@ -3,8 +3,7 @@
 //! other end, and is in place.
 
 ghost use Rattle.std.specs.Prelude.{◌≡◌, ◌+◌, ◌-◌, ◌<◌, ◌≤◌, true};
-ghost use Rattle.bit_addressing_memory.specs.Lies.{Lies};
-ghost use Rattle.bit_addressing_memory.specs.Memory.{entry, read_by, Copies, Overwrites};
+ghost use Rattle.bit_addressing_memory.specs.Prelude.{Lies, entry, read_by, Copies, Overwrites};
 ghost use Rattle.bit_slice_paths.specs.Rotations.{rotated_from};
 
 use crate::by_words::copy_over;

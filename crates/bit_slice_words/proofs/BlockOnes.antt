@@ -1,11 +1,10 @@
 -- The ones of a block of 64 bits are the true bits of its stretch: `chunk_ones`; of one more, `ones_and_more`, and `ones_fit`.
-use Rattle.std.proofs.Common.{◌≡◌, ℕ, ◌+◌, ◌-◌, ◌*◌, ◌^◌, ◌<◌, ◌≤◌, Bool, false, List, length}
-use Rattle.std.proofs.Common.{refl, sym, ap, ◌∙◌, arith}
+use Rattle.bit_addressing_memory.proofs.Common.{◌≡◌, ℕ, ◌+◌, ◌-◌, ◌*◌, ◌^◌, ◌<◌, ◌≤◌, Bool, false, List, length, refl}
+use Rattle.bit_addressing_memory.proofs.Common.{sym, ap, ◌∙◌, arith, Reading, entry, memory, piece}
 use Rattle.std.specs.Int.RustNames.{count_ones}
 use Rattle.std.proofs.lemmas.List.{ext_get_or}
 use Rattle.bit_addressing_memory.specs.Bits.{bits_in_order}
 use Rattle.bit_addressing_memory.specs.OrderLaws.{lsb0_lawful, msb0_lawful}
-use Rattle.bit_addressing_memory.specs.Memory.{Reading, entry, memory, piece}
 use Rattle.bit_addressing_memory.specs.Straight.{straight}
 use Rattle.bit_addressing_memory.specs.declared.direction.Direction.{Direction}
 use Rattle.bit_addressing_memory.specs.declared.direction.Direction.TheVariants.{Ascending, Descending}

@@ -1,6 +1,5 @@
 -- A stretch overwritten bit by bit.
-use Rattle.std.proofs.Common.{◌≡◌, ℕ, ◌+◌, Bool, List, ap₂, ◌∙◌, arith}
-use Rattle.bit_addressing_memory.specs.Memory.{Reading, entry, Writes}
+use Rattle.bit_addressing_memory.proofs.Common.{◌≡◌, ℕ, ◌+◌, Bool, List, ap₂, ◌∙◌, arith, Reading, entry, Writes}
 pub use Rattle.bit_addressing_memory.proofs.OverwriteLemmas.{stretch_more, stretch_none}
 use Rattle.bit_slice_paths.specs.Combined.{Combines}
 

@@ -3,16 +3,15 @@
 -- Pieces: `trues_join`, `trues_empty`, `trues_short`. One word: `trues_part`, `ones_digits`, `ones_part`. Word by word:
 -- `ones_more`, `ones_bound`, `trues_all`. A stretch: `trues_one`, `trues_cut` (cut at its edges), `trues_fit`,
 -- `falses_are`.
-use Rattle.std.proofs.Common.{◌≡◌, ℕ, ◌+◌, ◌-◌, ◌*◌, ◌^◌, ◌<◌, ◌≤◌, Bool, false, not, List, ◌++◌, Option, length, take}
-use Rattle.std.proofs.Common.{drop, get_or, count_by, refl, sym, ap, ◌∙◌, arith}
+use Rattle.bit_addressing_memory.proofs.Common.{◌≡◌, ℕ, ◌+◌, ◌-◌, ◌*◌, ◌^◌, ◌<◌, ◌≤◌, Bool, false, not, List, ◌++◌}
+use Rattle.bit_addressing_memory.proofs.Common.{Option, length, take, drop, get_or, count_by, refl, sym, ap, ◌∙◌}
+use Rattle.bit_addressing_memory.proofs.Common.{arith, Reading, reading_in, digits, memory, piece, IsMasked}
 use Rattle.std.specs.Int.RustNames.{count_ones}
 use Rattle.std.proofs.Math.Nat.{mul-le-mul_right}
 use Rattle.std.proofs.lemmas.List.{ext_get_or}
 use Rattle.std.proofs.lemmas.List.FromFn.{get_or-map-range_with_len, length-map-range_with_len}
 use Rattle.std.proofs.lemmas.List.Sums.{count_by-le-length}
 use Rattle.bit_addressing_memory.specs.BitOrder.{IsLawful}
-use Rattle.bit_addressing_memory.specs.Memory.{Reading, reading_in, digits, memory, piece}
-use Rattle.bit_addressing_memory.specs.Partial.{IsMasked}
 use Rattle.bit_addressing_memory.proofs.MemoryLemmas.{length-memory, piece_join, piece_all, piece_none, length-piece}
 use Rattle.bit_addressing_memory.proofs.MemoryLemmas.{get_or-piece, word_whole}
 use Rattle.bit_slice_words.proofs.EdgeLemmas.{cut_one, cut_more}

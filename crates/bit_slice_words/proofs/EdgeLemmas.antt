@@ -1,9 +1,8 @@
 -- A stretch of bits cut at its edges: the first word from an index on, whole words, the last word up to an index.
 --
 -- `cut_one`: inside one word. `cut_more`: over more words.
-use Rattle.std.proofs.Common.{◌≡◌, ℕ, ◌+◌, ◌-◌, ◌*◌, ◌<◌, ◌≤◌, List, ◌++◌, length, take, drop, get_or, refl, ap, ◌∙◌}
-use Rattle.std.proofs.Common.{arith}
-use Rattle.bit_addressing_memory.specs.Memory.{Reading, digits, memory, piece}
+use Rattle.bit_addressing_memory.proofs.Common.{◌≡◌, ℕ, ◌+◌, ◌-◌, ◌*◌, ◌<◌, ◌≤◌, List, ◌++◌, length, take, drop}
+use Rattle.bit_addressing_memory.proofs.Common.{get_or, refl, ap, ◌∙◌, arith, Reading, digits, memory, piece}
 use Rattle.bit_addressing_memory.proofs.MemoryLemmas.{piece_join, word_part, memory_part}
 
 -- bits inside one word are a piece of its digits

@@ -1,8 +1,6 @@
 -- A stretch turned round bit by bit, by exchanges from its two ends.
-use Rattle.std.proofs.Common.{◌≡◌, ℕ, ◌+◌, ◌-◌, ◌/◌, ◌<◌, ◌≤◌, List, sym, ap, ◌∙◌, inl, inr, arith}
-use Rattle.std.proofs.Common.{below_more}
-use Rattle.std.proofs.lemmas.Bool.{cases_lt}
-use Rattle.bit_addressing_memory.specs.Memory.{Reading, entry, Swaps}
+use Rattle.bit_addressing_memory.proofs.Common.{◌≡◌, ℕ, ◌+◌, ◌-◌, ◌/◌, ◌<◌, ◌≤◌, List, sym, ap, ◌∙◌, inl, inr, arith}
+use Rattle.bit_addressing_memory.proofs.Common.{below_more, cases_lt, Reading, entry, Swaps}
 use Rattle.bit_slice_paths.specs.Mirrored.{Mirrored}
 pub use Rattle.bit_slice_paths.proofs.MirrorLemmas.{mirrored_none, mirrored_all}
 

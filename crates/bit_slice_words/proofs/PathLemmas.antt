@@ -1,10 +1,8 @@
 -- Word paths bit by bit: their steps, and bits that are equal so far.
-use Rattle.std.proofs.Common.{◌≡◌, ◌≢◌, ℕ, ◌+◌, ◌-◌, ◌<◌, ◌≤◌, ◌↔◌, ◌∙◌}
-use Rattle.std.proofs.Common.{IsTrue, Bool, true, false, not, List, refl, sym, ap}
-use Rattle.std.proofs.Common.{inl, inr, arith, min}
-use Rattle.std.proofs.lemmas.Bool.{cases_lt}
+use Rattle.bit_addressing_memory.proofs.Common.{◌≡◌, ◌≢◌, ℕ, ◌+◌, ◌-◌, ◌<◌, ◌≤◌, ◌↔◌, ◌∙◌, IsTrue, Bool, true, false}
+use Rattle.bit_addressing_memory.proofs.Common.{not, List, refl, sym, ap, inl, inr, arith, min, cases_lt, Reading}
+use Rattle.bit_addressing_memory.proofs.Common.{entry}
 use mathlib.Core.Bool.{beq}
-use Rattle.bit_addressing_memory.specs.Memory.{Reading, entry}
 use Rattle.bit_slice_paths.specs.Steps.{most_steps, groups, Takes}
 use Rattle.bit_slice_paths.proofs.StepLemmas.{takes_none, takes_more, takes_as}
 

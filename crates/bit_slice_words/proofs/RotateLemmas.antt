@@ -1,7 +1,6 @@
 -- A stretch rotated: its two parts turned round, and then the whole.
-use Rattle.std.proofs.Common.{◌≡◌, ℕ, ◌+◌, ◌-◌, ◌≤◌, List, sym, ap, ◌∙◌, inl, inr, arith}
-use Rattle.std.proofs.lemmas.Bool.{cases_lt}
-use Rattle.bit_addressing_memory.specs.Memory.{Reading, entry, Overwrites}
+use Rattle.bit_addressing_memory.proofs.Common.{◌≡◌, ℕ, ◌+◌, ◌-◌, ◌≤◌, List, sym, ap, ◌∙◌, inl, inr, arith, cases_lt}
+use Rattle.bit_addressing_memory.proofs.Common.{Reading, entry, Overwrites}
 use Rattle.bit_slice_paths.specs.Rotations.{rotated_from}
 use Rattle.bit_slice_paths.proofs.RotationLemmas.{rotated_from_on, rotated_from_over}
 

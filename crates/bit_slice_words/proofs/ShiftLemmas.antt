@@ -1,8 +1,7 @@
 -- A stretch shifted: a part of it moved, and the rest filled.
-use Rattle.std.proofs.Common.{◌≡◌, ℕ, ◌+◌, ◌-◌, ◌<◌, ◌≤◌, false, List, sym, ap, ◌∙◌, inl, inr, arith}
+use Rattle.bit_addressing_memory.proofs.Common.{◌≡◌, ℕ, ◌+◌, ◌-◌, ◌<◌, ◌≤◌, false, List, sym, ap, ◌∙◌, inl, inr, arith}
+use Rattle.bit_addressing_memory.proofs.Common.{cases_lt, lt-ltb, le-ltb, Reading, entry, Overwrites, Copies}
 use Rattle.std.specs.Prelude.{if◌then◌else◌, nat_lt}
-use Rattle.std.proofs.lemmas.Bool.{cases_lt, lt-ltb, le-ltb}
-use Rattle.bit_addressing_memory.specs.Memory.{Reading, entry, Overwrites, Copies}
 use Rattle.bit_addressing_memory.proofs.PartsLemmas.{stores_as}
 
 -- what a test that holds picks

@@ -3,14 +3,13 @@
 -- One word: `lacks_is`, `digit_found`, `nowhere_word`, `word_nowhere`, `nowhere_part`, `first_part`, `last_part`.
 -- Words of the other bit: `nowhere_opposite`. Joined: `nowhere_join`, `first_of_cut`, `last_of_cut`.
 -- As an index of the list: `position_in`, `last_position_in`.
-use Rattle.std.proofs.Common.{◌≡◌, ℕ, ◌+◌, ◌-◌, ◌*◌, ◌^◌, ◌<◌, ◌≤◌, ◌↔◌, Bool, true, false, List, Option, Some, None}
-use Rattle.std.proofs.Common.{length, get_or, not, position, refl, sym, ap, ◌∙◌, inl, inr, arith}
+use Rattle.bit_addressing_memory.proofs.Common.{◌≡◌, ℕ, ◌+◌, ◌-◌, ◌*◌, ◌^◌, ◌<◌, ◌≤◌, ◌↔◌, Bool, true, false, List}
+use Rattle.bit_addressing_memory.proofs.Common.{Option, Some, None, length, get_or, not, position, refl, sym, ap, ◌∙◌}
+use Rattle.bit_addressing_memory.proofs.Common.{inl, inr, arith, cases_lt, Reading, entry, indexed, memory, piece}
 use Rattle.std.specs.Option.{option_map}
 use Rattle.std.proofs.Math.Nat.{mul-le-mul_right}
-use Rattle.std.proofs.lemmas.Bool.{cases_lt}
 use Rattle.bit_addressing_memory.specs.BitOrder.{IsLawful}
 use Rattle.bit_addressing_memory.specs.Bits.{digit_at}
-use Rattle.bit_addressing_memory.specs.Memory.{Reading, entry, indexed, memory, piece}
 use Rattle.bit_addressing_memory.proofs.EntryLemmas.{entry_read}
 use Rattle.bit_addressing_memory.proofs.OrderCallerLemmas.{same_word}
 use Rattle.bit_addressing_memory.proofs.WindowLemmas.{length-window, window_bit}

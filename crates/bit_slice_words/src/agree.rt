@@ -1,15 +1,14 @@
 //! How far bits of two memories are the same.
 
 ghost use Rattle.std.specs.Prelude.{◌≡◌, ℕ, ◌+◌, ◌<◌, ◌≤◌};
-ghost use Rattle.bit_addressing_memory.specs.Lies.{Lies};
-ghost use Rattle.bit_addressing_memory.specs.Memory.{entry, read_by};
+ghost use Rattle.bit_addressing_memory.specs.Prelude.{Lies, entry, read_by};
 ghost use Rattle.bit_slice_paths.specs.Agrees.{Agrees};
 
 use bit_addressing_memory::{BitOrder, BitRegister, BulkOp, bit_loop_limit_of_two, read_entry};
 use bit_slice_paths::across;
 
 // So many bits are a block.
-const BLOCK: usize = 64;
+pub(crate) const BLOCK: usize = 64;
 
 // How many of `len` bits are compared one by one first.
 #[inline(always)]
@@ -88,41 +87,8 @@ pub(crate) fn agree_rest<R: BitRegister, O: BitOrder<R>, Q: BitRegister, P: BitO
     ensures { Agrees (read_by R.BitRegister O.position) words.now place
         (read_by Q.BitRegister P.position) others.now other_place len result }
 {
-    // A whole block costs less than a part of one, so the first bits are read again with it.
-    if few < BLOCK && BLOCK <= len {
-        return agree_by_block::<R, O, Q, P>(words, place, others, other_place, len);
-    }
     let rest = agree_behind::<R, O, Q, P>(words, place + few, others, other_place + few, len - few);
     few + rest
-}
-
-// How many of `len` bits are the same, by a block first.
-#[inline(always)]
-fn agree_by_block<R: BitRegister, O: BitOrder<R>, Q: BitRegister, P: BitOrder<Q>>(
-    words: &[R],
-    place: usize,
-    others: &[Q],
-    other_place: usize,
-    len: usize,
-) -> usize
-    requires some { 64 ≤ len }
-    requires lies { Lies R.BITS words.now place len }
-    requires other_lies { Lies Q.BITS others.now other_place len }
-    ensures { Agrees (read_by R.BitRegister O.position) words.now place
-        (read_by Q.BitRegister P.position) others.now other_place len result }
-{
-    let same = agree_by_chunks::<R, O, Q, P>(words, place, others, other_place, BLOCK);
-    if same < BLOCK || len == BLOCK {
-        return same;
-    }
-    let rest = agree_behind::<R, O, Q, P>(
-        words,
-        place + BLOCK,
-        others,
-        other_place + BLOCK,
-        len - BLOCK,
-    );
-    BLOCK + rest
 }
 
 // How many of `len` bits behind the first ones are the same.

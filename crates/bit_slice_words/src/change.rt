@@ -1,8 +1,7 @@
 //! Each bit of a stretch combined with one and the same bit: whole words at a time, with masks at both edges alone.
 
 ghost use Rattle.std.specs.Prelude.{◌≡◌, ℕ, ◌+◌, ◌-◌, ◌*◌, ◌<◌, ◌≤◌, length};
-ghost use Rattle.bit_addressing_memory.specs.Lies.{Lies};
-ghost use Rattle.bit_addressing_memory.specs.Memory.{indexed, read_by, touched};
+ghost use Rattle.bit_addressing_memory.specs.Prelude.{Lies, indexed, read_by, touched};
 ghost use Rattle.bit_slice_paths.specs.Combined.{combined_bit};
 ghost use Rattle.bit_slice_words.specs.Edits.{Changes};
 

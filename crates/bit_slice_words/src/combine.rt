@@ -1,9 +1,8 @@
 //! Bits combined with those of another memory.
 
 ghost use Rattle.std.specs.Prelude.{◌≡◌, ◌+◌, ◌&&◌, ◌||◌};
+ghost use Rattle.bit_addressing_memory.specs.Prelude.{Lies, entry, read_by, Overwrites};
 ghost use Rattle.std.specs.Bool.{xor};
-ghost use Rattle.bit_addressing_memory.specs.Lies.{Lies};
-ghost use Rattle.bit_addressing_memory.specs.Memory.{entry, read_by, Overwrites};
 ghost use Rattle.bit_slice_paths.specs.Combined.{combined_bit, Combines};
 
 use bit_addressing_memory::{

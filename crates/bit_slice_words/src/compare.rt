@@ -1,12 +1,12 @@
 //! How bits of two memories compare as lists.
 
-ghost use Rattle.std.specs.Prelude.{◌≡◌, ℕ, ◌+◌, ◌<◌, ◌≤◌};
+ghost use Rattle.std.specs.Prelude.{◌≡◌, ℕ, ◌+◌, ◌<◌, ◌≤◌, min};
+ghost use Rattle.bit_addressing_memory.specs.Prelude.{Lies, entry, memory, piece, read_by};
+ghost use Rattle.bit_slice_paths.specs.Agrees.{Agrees};
 ghost use Rattle.std.specs.Cmp.Lexicographic.{slice_cmp};
 ghost use Rattle.std.specs.Ordering.{bool_cmp};
-ghost use Rattle.bit_addressing_memory.specs.Lies.{Lies};
-ghost use Rattle.bit_addressing_memory.specs.Memory.{entry, memory, piece, read_by};
 
-use crate::agree::{agree_rest, few_before_block};
+use crate::agree::{BLOCK, agree_by_chunks, agree_rest, agree_singly, few_before_block};
 use bit_addressing_memory::{BitOrder, BitRegister, read_entry};
 use std::cmp::Ordering;
 
@@ -15,7 +15,6 @@ use std::cmp::Ordering;
 ///
 /// The two may have different words and orders. It answers what `partial_cmp` of two slices in bitvec 1.1.1 has in its
 /// `Some`.
-#[tactic(auto, using(crate::proofs::CompareLemmas::windows_compare_ends))]
 pub fn compare_in<R: BitRegister, O: BitOrder<R>, Q: BitRegister, P: BitOrder<Q>>(
     words: &[R],
     place: usize,
@@ -32,22 +31,43 @@ pub fn compare_in<R: BitRegister, O: BitOrder<R>, Q: BitRegister, P: BitOrder<Q>
     let shorter = len.min(other_len);
     let few = few_before_block::<R, O, Q, P>(shorter);
     // Lists that differ early are answered here.
-    for k in 0..few {
-        let bit = read_entry::<R, O>(words, place + k);
-        let other = read_entry::<Q, P>(others, other_place + k);
-        if bit != other {
-            return bit.cmp(&other);
-        }
+    let same = agree_singly::<R, O, Q, P>(words, place, others, other_place, few);
+    if same < few || few == shorter {
+        return compare_at::<R, O, Q, P>(words, place, len, others, other_place, other_len, same);
     }
-    if few == shorter {
-        return len.cmp(&other_len);
+    // A whole block costs less than a part of one, so the first bits are read again with it.
+    if few < BLOCK && BLOCK <= shorter {
+        return compare_block::<R, O, Q, P>(words, place, len, others, other_place, other_len);
     }
     compare_rest::<R, O, Q, P>(words, place, len, others, other_place, other_len, few)
 }
 
+// The same of at least 64 bits, by the first 64 as one block.
+#[inline(never)]
+fn compare_block<R: BitRegister, O: BitOrder<R>, Q: BitRegister, P: BitOrder<Q>>(
+    words: &[R],
+    place: usize,
+    len: usize,
+    others: &[Q],
+    other_place: usize,
+    other_len: usize,
+) -> Ordering
+    requires some { 64 ≤ min len other_len }
+    requires lies { Lies R.BITS words.now place len }
+    requires other_lies { Lies Q.BITS others.now other_place other_len }
+    ensures { result ≡ slice_cmp bool_cmp (piece (memory (read_by R.BitRegister O.position) words.now) place len)
+        (piece (memory (read_by Q.BitRegister P.position) others.now) other_place other_len) }
+{
+    let shorter = len.min(other_len);
+    let same = agree_by_chunks::<R, O, Q, P>(words, place, others, other_place, BLOCK);
+    if same == BLOCK && BLOCK < shorter {
+        return compare_rest::<R, O, Q, P>(words, place, len, others, other_place, other_len, BLOCK);
+    }
+    compare_at::<R, O, Q, P>(words, place, len, others, other_place, other_len, same)
+}
+
 // The same where the first bits are the same.
 #[inline(never)]
-#[tactic(auto, using(crate::proofs::CompareLemmas::windows_compare_ends))]
 fn compare_rest<R: BitRegister, O: BitOrder<R>, Q: BitRegister, P: BitOrder<Q>>(
     words: &[R],
     place: usize,
@@ -68,7 +88,29 @@ fn compare_rest<R: BitRegister, O: BitOrder<R>, Q: BitRegister, P: BitOrder<Q>>(
 {
     let shorter = len.min(other_len);
     let same = agree_rest::<R, O, Q, P>(words, place, others, other_place, shorter, from);
-    if same < shorter {
+    compare_at::<R, O, Q, P>(words, place, len, others, other_place, other_len, same)
+}
+
+// The same where it is known how many first bits agree: the next ones decide, and where none are left the lengths do.
+#[inline(always)]
+#[tactic(auto, using(crate::proofs::CompareLemmas::windows_compare_ends))]
+fn compare_at<R: BitRegister, O: BitOrder<R>, Q: BitRegister, P: BitOrder<Q>>(
+    words: &[R],
+    place: usize,
+    len: usize,
+    others: &[Q],
+    other_place: usize,
+    other_len: usize,
+    same: usize,
+) -> Ordering
+    requires lies { Lies R.BITS words.now place len }
+    requires other_lies { Lies Q.BITS others.now other_place other_len }
+    requires agrees { Agrees (read_by R.BitRegister O.position) words.now place
+        (read_by Q.BitRegister P.position) others.now other_place (min len other_len) same }
+    ensures { result ≡ slice_cmp bool_cmp (piece (memory (read_by R.BitRegister O.position) words.now) place len)
+        (piece (memory (read_by Q.BitRegister P.position) others.now) other_place other_len) }
+{
+    if same < len.min(other_len) {
         let bit = read_entry::<R, O>(words, place + same);
         let other = read_entry::<Q, P>(others, other_place + same);
         return bit.cmp(&other);

@@ -1,8 +1,7 @@
 //! Bits of one memory that stand in those of another.
 
 ghost use Rattle.std.specs.Prelude.{◌≡◌, ◌≢◌, ℕ, ◌+◌, ◌<◌, ◌≤◌, ◌↔◌, IsTrue};
-ghost use Rattle.bit_addressing_memory.specs.Lies.{Lies};
-ghost use Rattle.bit_addressing_memory.specs.Memory.{entry, memory, piece, read_by};
+ghost use Rattle.bit_addressing_memory.specs.Prelude.{Lies, entry, memory, piece, read_by};
 ghost use Rattle.bit_slice_words.specs.Holds.{Holds};
 
 use crate::agree::{agree_rest, agree_singly, few_to_compare};

@@ -1,8 +1,7 @@
 //! Bits counted by words.
 
 ghost use Rattle.std.specs.Prelude.{◌≡◌, ◌-◌, ◌*◌, ◌^◌, ◌<◌, ◌≤◌, count_by, count_ones, length, not};
-ghost use Rattle.bit_addressing_memory.specs.Lies.{Lies};
-ghost use Rattle.bit_addressing_memory.specs.Memory.{digits, memory, piece, read_by};
+ghost use Rattle.bit_addressing_memory.specs.Prelude.{Lies, digits, memory, piece, read_by};
 
 use bit_addressing_memory::mem::bits_of;
 use bit_addressing_memory::{

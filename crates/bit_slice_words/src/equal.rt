@@ -1,10 +1,9 @@
 //! Bits of two memories, equal or not.
 
 ghost use Rattle.std.specs.Prelude.{◌≡◌, ℕ, ◌+◌, ◌<◌, ◌≤◌, ◌↔◌, IsTrue};
-ghost use Rattle.bit_addressing_memory.specs.Lies.{Lies};
-ghost use Rattle.bit_addressing_memory.specs.Memory.{entry, memory, piece, read_by};
+ghost use Rattle.bit_addressing_memory.specs.Prelude.{Lies, entry, memory, piece, read_by};
 
-use crate::agree::{agree_rest, agree_singly, few_before_block};
+use crate::agree::{BLOCK, agree_by_chunks, agree_rest, agree_singly, few_before_block};
 use bit_addressing_memory::{BitOrder, BitRegister};
 
 /// Whether the `len` bits of the memory `words` from a place on are those of the memory `others` from another place
@@ -32,7 +31,36 @@ pub fn equal_in<R: BitRegister, O: BitOrder<R>, Q: BitRegister, P: BitOrder<Q>>(
     if few == len {
         return true;
     }
+    // A whole block costs less than a part of one, so the first bits are read again with it.
+    if few < BLOCK && BLOCK <= len {
+        return equal_block::<R, O, Q, P>(words, place, others, other_place, len);
+    }
     equal_rest::<R, O, Q, P>(words, place, others, other_place, len, few)
+}
+
+// The same of at least 64 bits, by the first 64 as one block.
+#[inline(never)]
+#[tactic(auto, using(crate::proofs::SameLemmas::answers_no, crate::proofs::SameLemmas::answers_yes, crate::proofs::SameLemmas::windows_equal, crate::proofs::SameLemmas::windows_part))]
+fn equal_block<R: BitRegister, O: BitOrder<R>, Q: BitRegister, P: BitOrder<Q>>(
+    words: &[R],
+    place: usize,
+    others: &[Q],
+    other_place: usize,
+    len: usize,
+) -> bool
+    requires some { 64 ≤ len }
+    requires lies { Lies R.BITS words.now place len }
+    requires other_lies { Lies Q.BITS others.now other_place len }
+    ensures { IsTrue result ↔ (piece (memory (read_by R.BitRegister O.position) words.now) place len
+        ≡ piece (memory (read_by Q.BitRegister P.position) others.now) other_place len) }
+{
+    if agree_by_chunks::<R, O, Q, P>(words, place, others, other_place, BLOCK) < BLOCK {
+        return false;
+    }
+    if len == BLOCK {
+        return true;
+    }
+    equal_rest::<R, O, Q, P>(words, place, others, other_place, len, BLOCK)
 }
 
 // The same where the first `few` bits are the same. Out of line, so that lists that differ early are compared by a short

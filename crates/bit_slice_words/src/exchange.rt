@@ -1,8 +1,7 @@
 //! Two stretches of one memory exchanged.
 
 ghost use Rattle.std.specs.Prelude.{◌+◌, ◌≤◌};
-ghost use Rattle.bit_addressing_memory.specs.Lies.{Lies};
-ghost use Rattle.bit_addressing_memory.specs.Memory.{read_by, Swaps};
+ghost use Rattle.bit_addressing_memory.specs.Prelude.{Lies, read_by, Swaps};
 
 use bit_addressing_memory::{BitOrder, BitRegister, BulkOp, bit_loop_limit, swap_within};
 use bit_slice_paths::{direction_for, exchange};

@@ -1,8 +1,7 @@
 //! Bits made all the same.
 
 ghost use Rattle.std.specs.Prelude.{◌≡◌};
-ghost use Rattle.bit_addressing_memory.specs.Lies.{Lies};
-ghost use Rattle.bit_addressing_memory.specs.Memory.{read_by, touched, Overwrites};
+ghost use Rattle.bit_addressing_memory.specs.Prelude.{Lies, read_by, touched, Overwrites};
 
 use crate::change::change_in;
 use bit_addressing_memory::{BitOrder, BitRegister};

@@ -1,8 +1,7 @@
 //! The first bit of a kind, by words.
 
 ghost use Rattle.std.specs.Prelude.{◌≡◌, ◌+◌, ◌*◌, ◌^◌, ◌<◌, ◌≤◌, length, position};
-ghost use Rattle.bit_addressing_memory.specs.Lies.{Lies};
-ghost use Rattle.bit_addressing_memory.specs.Memory.{indexed, memory, piece, read_by};
+ghost use Rattle.bit_addressing_memory.specs.Prelude.{Lies, indexed, memory, piece, read_by};
 ghost use Rattle.bit_slice_words.specs.Found.{is_bit};
 ghost use Rattle.bit_slice_words.specs.Stretch.{bit_found, IsFirst, Nowhere};
 
@@ -20,7 +19,6 @@ use bit_slice_paths::word_source::Constant;
 ///
 /// A whole word that has no such bit is passed over by one comparison; where the order goes straight, a part of a word is
 /// looked at as one number. It answers as `first_one` of a slice in bitvec 1.1.1, and for false as `first_zero`.
-#[tactic(auto, using(crate::proofs::StretchLemmas::position_in))]
 pub fn first_in<R: BitRegister, O: BitOrder<R>>(
     words: &[R],
     place: usize,
@@ -30,18 +28,53 @@ pub fn first_in<R: BitRegister, O: BitOrder<R>>(
     requires lies { Lies R.BITS words.now place len }
     ensures { result ≡ position (is_bit bit) (piece (memory (read_by R.BitRegister O.position) words.now) place len) }
 {
-    match first_place::<R, O>(words, place, len, bit) {
+    if len > NEAR_WORDS * bits_of::<R>() {
+        return first_of_many::<R, O>(words, place, len, bit);
+    }
+    first_by::<R, O>(words, place, len, bit, false)
+}
+
+// The same of bits in many words: out of line, so that a search among few is a short function.
+#[inline(never)]
+fn first_of_many<R: BitRegister, O: BitOrder<R>>(
+    words: &[R],
+    place: usize,
+    len: usize,
+    bit: bool,
+) -> Option<usize>
+    requires lies { Lies R.BITS words.now place len }
+    ensures { result ≡ position (is_bit bit) (piece (memory (read_by R.BitRegister O.position) words.now) place len) }
+{
+    first_by::<R, O>(words, place, len, bit, true)
+}
+
+// The same, by rounds of words behind the first ones if the words are many.
+#[inline(always)]
+#[tactic(auto, using(crate::proofs::StretchLemmas::position_in))]
+fn first_by<R: BitRegister, O: BitOrder<R>>(
+    words: &[R],
+    place: usize,
+    len: usize,
+    bit: bool,
+    are_many: bool,
+) -> Option<usize>
+    requires lies { Lies R.BITS words.now place len }
+    ensures { result ≡ position (is_bit bit) (piece (memory (read_by R.BitRegister O.position) words.now) place len) }
+{
+    match first_place::<R, O>(words, place, len, bit, are_many) {
         Some(at) => Some(at - place),
         None => None,
     }
 }
 
 // The place of the first of some bits that is `bit`: in the first word, in the words between or in the last word.
+#[inline(always)]
 fn first_place<R: BitRegister, O: BitOrder<R>>(
     words: &[R],
     place: usize,
     len: usize,
     bit: bool,
+    are_many: bool,
 ) -> Option<usize>
     requires lies { Lies R.BITS words.now place len }
     ensures { IsFirst (bit_found (read_by R.BitRegister O.position) words.now bit) place (place + len) result }
@@ -56,14 +89,40 @@ fn first_place<R: BitRegister, O: BitOrder<R>>(
     if let Some(at) = first_at::<R, O>(words, cut.first, cut.from, R::BITS, bit) {
         return Some(at);
     }
-    let next = next_word::<R, O>(words, cut.first + 1, cut.last, bit);
+    let next = next_word::<R, O>(words, cut.first + 1, cut.last, bit, are_many);
     let upto = if next == cut.last { cut.upto } else { R::BITS };
     first_at::<R, O>(words, next, 0, upto, bit)
 }
 
 // The first word from one number up to before another that has the bit, or the second number.
-#[tactic(auto, using(crate::proofs::StretchLemmas::nowhere_join))]
+#[inline(always)]
 fn next_word<R: BitRegister, O: BitOrder<R>>(
+    words: &[R],
+    from: usize,
+    upto: usize,
+    bit: bool,
+    are_many: bool,
+) -> usize
+    requires order { from ≤ upto }
+    requires within { upto ≤ length words.now }
+    ensures least { from ≤ result }
+    ensures most { result ≤ upto }
+    ensures none { Nowhere (bit_found (read_by R.BitRegister O.position) words.now bit)
+        (from * R.BITS) (result * R.BITS) }
+    ensures some { result < upto → ¬ Nowhere (bit_found (read_by R.BitRegister O.position) words.now bit)
+        (result * R.BITS) ((result + 1) * R.BITS) }
+{
+    if are_many {
+        next_of_many::<R, O>(words, from, upto, bit)
+    } else {
+        next_near::<R, O>(words, from, upto, bit)
+    }
+}
+
+// `next_word`, word by word, and by rounds of words behind the first ones.
+#[inline(always)]
+#[tactic(auto, using(crate::proofs::StretchLemmas::nowhere_join))]
+fn next_of_many<R: BitRegister, O: BitOrder<R>>(
     words: &[R],
     from: usize,
     upto: usize,
@@ -86,8 +145,8 @@ fn next_word<R: BitRegister, O: BitOrder<R>>(
     next_far::<R, O>(words, near, upto, bit)
 }
 
-// `next_word`, by rounds of words: out of line, since most searches end before.
-#[inline(never)]
+// `next_word`, by rounds of words.
+#[inline(always)]
 fn next_far<R: BitRegister, O: BitOrder<R>>(
     words: &[R],
     from: usize,
@@ -129,7 +188,9 @@ fn next_near<R: BitRegister, O: BitOrder<R>>(
     ensures some { result < upto → ¬ Nowhere (bit_found (read_by R.BitRegister O.position) words.now bit)
         (result * R.BITS) ((result + 1) * R.BITS) }
 {
-    for k in from..upto {
+    // Counted from 0, a round takes two instructions less.
+    for i in 0..upto - from {
+        let k = from + i;
         if !lacks::<R, O>(words[k], bit) {
             return k;
         }

@@ -1,8 +1,7 @@
 //! Bits flipped.
 
 ghost use Rattle.std.specs.Prelude.{◌+◌, not};
-ghost use Rattle.bit_addressing_memory.specs.Lies.{Lies};
-ghost use Rattle.bit_addressing_memory.specs.Memory.{entry, read_by, Overwrites};
+ghost use Rattle.bit_addressing_memory.specs.Prelude.{Lies, entry, read_by, Overwrites};
 
 use crate::change::change_in;
 use bit_addressing_memory::{BitOrder, BitRegister};

@@ -1,8 +1,7 @@
 //! The last bit of a kind, by words.
 
 ghost use Rattle.std.specs.Prelude.{◌≡◌, ◌+◌, ◌*◌, ◌^◌, ◌<◌, ◌≤◌, length};
-ghost use Rattle.bit_addressing_memory.specs.Lies.{Lies};
-ghost use Rattle.bit_addressing_memory.specs.Memory.{indexed, memory, piece, read_by};
+ghost use Rattle.bit_addressing_memory.specs.Prelude.{Lies, indexed, memory, piece, read_by};
 ghost use Rattle.bit_slice_words.specs.Found.{is_bit, last_position};
 ghost use Rattle.bit_slice_words.specs.Stretch.{bit_found, IsLast, Nowhere};
 

@@ -1,8 +1,7 @@
 //! Bits moved inside one memory.
 
 ghost use Rattle.std.specs.Prelude.{◌≤◌};
-ghost use Rattle.bit_addressing_memory.specs.Lies.{Lies};
-ghost use Rattle.bit_addressing_memory.specs.Memory.{read_by, touched};
+ghost use Rattle.bit_addressing_memory.specs.Prelude.{Lies, read_by, touched};
 ghost use Rattle.bit_addressing_memory.specs.Moves.{Moves, changed};
 
 use bit_addressing_memory::{BitOrder, BitRegister, Sweep, move_in, way_for};

@@ -1,8 +1,8 @@
 //! The first and the last bit of a kind in a part of a word whose positions go straight, which is looked at as one number.
 
 ghost use Rattle.std.specs.Prelude.{◌≡◌, ℕ, ◌+◌, ◌-◌, ◌*◌, ◌^◌, ◌<◌, ◌≤◌, false, length};
-ghost use Rattle.bit_addressing_memory.specs.declared.direction.Direction.{Direction};
 ghost use Rattle.bit_addressing_memory.specs.Memory.{read_by};
+ghost use Rattle.bit_addressing_memory.specs.declared.direction.Direction.{Direction};
 ghost use Rattle.bit_addressing_memory.specs.Straight.{straight};
 ghost use Rattle.bit_slice_paths.specs.Chunk.{chunk_bit};
 ghost use Rattle.bit_slice_words.specs.Found.{is_bit};

@@ -3,10 +3,9 @@
 //! No method has a body here. An order whose positions go straight with the indices calls `by_words`, a step for each 64
 //! bits; one whose `SPAN` is 1 calls the functions of the same names in `by_bits`.
 
-ghost use Rattle.std.specs.Prelude.{◌≡◌, ℕ, ◌+◌, ◌*◌, ◌^◌, ◌<◌, ◌≤◌, ◌↔◌, ◌&&◌, ◌||◌};
-ghost use Rattle.std.specs.Prelude.{length, IsTrue, true, false};
-ghost use Rattle.std.specs.Bool.{xor};
+ghost use Rattle.std.specs.Prelude.{◌≡◌, ℕ, ◌+◌, ◌*◌, ◌^◌, ◌<◌, ◌≤◌, ◌↔◌, ◌&&◌, ◌||◌, length, IsTrue, true, false};
 ghost use Rattle.bit_addressing_memory.specs.Memory.{entry, read_by, Copies, Overwrites};
+ghost use Rattle.std.specs.Bool.{xor};
 ghost use Rattle.bit_slice_paths.specs.Steps.{groups, Takes};
 
 use bit_addressing_memory::{BitOrder, BitRegister, Direction, Lsb0, Msb0, Straight};

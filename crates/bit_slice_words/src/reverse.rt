@@ -1,8 +1,7 @@
 //! Bits in reverse.
 
 ghost use Rattle.std.specs.Prelude.{◌+◌, ◌-◌};
-ghost use Rattle.bit_addressing_memory.specs.Lies.{Lies};
-ghost use Rattle.bit_addressing_memory.specs.Memory.{entry, read_by, Overwrites};
+ghost use Rattle.bit_addressing_memory.specs.Prelude.{Lies, entry, read_by, Overwrites};
 
 use bit_addressing_memory::{BitOrder, BitRegister, BulkOp, bit_loop_limit, swap_entries};
 use bit_slice_paths::{direction_for, mirror};

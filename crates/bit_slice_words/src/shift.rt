@@ -1,8 +1,7 @@
 //! Bits shifted: those that leave a stretch at one end are gone, and zeros come in at the other.
 
 ghost use Rattle.std.specs.Prelude.{◌+◌, ◌-◌, false, nat_lt, if◌then◌else◌};
-ghost use Rattle.bit_addressing_memory.specs.Lies.{Lies};
-ghost use Rattle.bit_addressing_memory.specs.Memory.{entry, read_by, Overwrites};
+ghost use Rattle.bit_addressing_memory.specs.Prelude.{Lies, entry, read_by, Overwrites};
 
 use crate::fill::fill_in;
 use crate::moves::move_words;

@@ -1,6 +1,5 @@
-use Rattle.std.proofs.Common.{ap, ◌∙◌}
+use Rattle.bit_addressing_memory.proofs.Common.{ap, ◌∙◌, entry, read_by}
 use Rattle.bit_addressing_memory.proofs.CopyLemmas.{copies_more}
-use Rattle.bit_addressing_memory.specs.Memory.{entry, read_by}
 use Rattle.bit_addressing_memory.specs.Place.{place_of}
 use Rattle.bit_addressing_memory.proofs.copies.copy_between_at.Goals as goal
 

@@ -1,6 +1,5 @@
-use Rattle.std.proofs.Common.{◌<◌, ap, ◌∙◌, arith}
+use Rattle.bit_addressing_memory.proofs.Common.{◌<◌, ap, ◌∙◌, arith, entry, read_by}
 use Rattle.bit_addressing_memory.proofs.CopyLemmas.{copies_more, copies_more_down, not_yet_up, not_yet_down}
-use Rattle.bit_addressing_memory.specs.Memory.{entry, read_by}
 use Rattle.bit_addressing_memory.specs.Place.{place_of}
 use Rattle.bit_addressing_memory.proofs.copies.copy_within_at.Goals as goal
 

@@ -1,5 +1,4 @@
-use Rattle.std.proofs.Common.{◌+◌, ◌-◌}
-use Rattle.bit_addressing_memory.specs.Memory.{read_by, Copies}
+use Rattle.bit_addressing_memory.proofs.Common.{◌+◌, ◌-◌, read_by, Copies}
 use Rattle.bit_addressing_memory.specs.Place.{place_of}
 use Rattle.bit_addressing_memory.proofs.copies.copy_within_at.Given as goal
 

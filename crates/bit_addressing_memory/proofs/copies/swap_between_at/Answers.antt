@@ -1,6 +1,5 @@
-use Rattle.std.proofs.Common.{ap, ◌∙◌, ◌+◌, arith}
+use Rattle.bit_addressing_memory.proofs.Common.{ap, ◌∙◌, ◌+◌, arith, entry, read_by}
 use Rattle.bit_addressing_memory.proofs.CopyLemmas.{copies_more}
-use Rattle.bit_addressing_memory.specs.Memory.{entry, read_by}
 use Rattle.bit_addressing_memory.specs.Place.{place_of}
 use Rattle.bit_addressing_memory.proofs.copies.swap_between_at.Goals as goal
 

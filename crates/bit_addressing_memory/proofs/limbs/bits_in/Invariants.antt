@@ -1,6 +1,5 @@
-use Rattle.std.proofs.Common.{◌-◌, ◌*◌, min}
+use Rattle.bit_addressing_memory.proofs.Common.{◌-◌, ◌*◌, min, read_by}
 use Rattle.bit_addressing_memory.specs.Limbs.{HasEntries}
-use Rattle.bit_addressing_memory.specs.Memory.{read_by}
 use Rattle.bit_addressing_memory.proofs.limbs.bits_in.Given as goal
 
 abbrev pub invariant-loop-n : goal.invariant-loop-n

@@ -1,7 +1,6 @@
-use Rattle.std.proofs.Common.{◌≡◌, ◌+◌, ◌-◌, ◌*◌, ◌/◌, ◌==◌, min, ap, sym, ◌∙◌, inl, inr, arith}
-use Rattle.std.proofs.lemmas.Bool.{cases_lt}
+use Rattle.bit_addressing_memory.proofs.Common.{◌≡◌, ◌+◌, ◌-◌, ◌*◌, ◌/◌, ◌==◌, min, ap, sym, ◌∙◌, inl, inr, arith}
+use Rattle.bit_addressing_memory.proofs.Common.{cases_lt, indexed}
 use Rattle.std.proofs.lemmas.Nat.Bits.{bit_at_above, bit_at-zero}
-use Rattle.bit_addressing_memory.specs.Memory.{indexed}
 use Rattle.bit_addressing_memory.proofs.LimbLemmas.{blocks_are, wrapped}
 use Rattle.bit_addressing_memory.proofs.limbs.limb_of.Goals as goal
 

@@ -1,6 +1,5 @@
-use Rattle.std.proofs.Common.{◌≡◌, ◌+◌, ◌-◌, ◌*◌, ◌<◌, min, ap, arith}
+use Rattle.bit_addressing_memory.proofs.Common.{◌≡◌, ◌+◌, ◌-◌, ◌*◌, ◌<◌, min, ap, arith, read_by}
 use Rattle.bit_addressing_order.specs.Bits.{digit_at}
-use Rattle.bit_addressing_memory.specs.Memory.{read_by}
 use Rattle.bit_addressing_memory.proofs.OverwriteLemmas.{overwrites_join}
 use Rattle.bit_addressing_memory.proofs.PlaceLemmas.{begins_before, begins_behind}
 use Rattle.bit_addressing_memory.proofs.limbs.put_bits_in.Goals as goal

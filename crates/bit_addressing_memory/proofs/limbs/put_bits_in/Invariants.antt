@@ -1,6 +1,5 @@
-use Rattle.std.proofs.Common.{◌-◌, ◌*◌, min}
+use Rattle.bit_addressing_memory.proofs.Common.{◌-◌, ◌*◌, min, read_by, Overwrites}
 use Rattle.bit_addressing_order.specs.Bits.{digit_at}
-use Rattle.bit_addressing_memory.specs.Memory.{read_by, Overwrites}
 use Rattle.bit_addressing_memory.proofs.limbs.put_bits_in.Given as goal
 
 abbrev pub invariant-loop-n : goal.invariant-loop-n

@@ -1,5 +1,4 @@
-use Rattle.std.proofs.Common.{min, arith}
-use Rattle.bit_addressing_memory.specs.Memory.{read_by}
+use Rattle.bit_addressing_memory.proofs.Common.{min, arith, read_by}
 use Rattle.bit_addressing_memory.proofs.LimbLemmas.{limb_mixed}
 use Rattle.bit_addressing_memory.proofs.limbs.with_bits.Goals as goal
 

@@ -1,6 +1,5 @@
-use Rattle.std.proofs.Common.{◌≡◌, ℕ, ◌*◌, ◌<◌, ◌≤◌, false}
+use Rattle.bit_addressing_memory.proofs.Common.{◌≡◌, ℕ, ◌*◌, ◌<◌, ◌≤◌, false, indexed}
 use Rattle.bit_addressing_order.specs.Bits.{digit_at}
-use Rattle.bit_addressing_memory.specs.Memory.{indexed}
 use Rattle.bit_addressing_memory.proofs.limbs.word_of.Given as goal
 
 -- the digits so far are the limb's, and zeros are behind them

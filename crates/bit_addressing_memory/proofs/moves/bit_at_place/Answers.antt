@@ -1,6 +1,5 @@
-use Rattle.std.proofs.Common.{◌<◌, ◌/◌, ◌%◌, ◌∙◌, ap, arith}
+use Rattle.bit_addressing_memory.proofs.Common.{◌<◌, ◌/◌, ◌%◌, ◌∙◌, ap, arith, read_by}
 use Rattle.std.proofs.lemmas.Bool.Decides.{nat_tests}
-use Rattle.bit_addressing_memory.specs.Memory.{read_by}
 use Rattle.bit_addressing_memory.proofs.EntryLemmas.{entry_read_place}
 use Rattle.bit_addressing_memory.specs.Sweep.{sweep_words}
 use Rattle.bit_addressing_memory.proofs.moves.bit_at_place.Goals as goal

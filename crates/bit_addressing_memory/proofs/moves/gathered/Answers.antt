@@ -1,5 +1,4 @@
-use Rattle.std.proofs.Common.{◌≡◌, ◌+◌, ◌-◌, ◌*◌, min, ap, arith}
-use Rattle.bit_addressing_memory.specs.Memory.{read_by}
+use Rattle.bit_addressing_memory.proofs.Common.{◌≡◌, ◌+◌, ◌-◌, ◌*◌, min, ap, arith, read_by}
 use Rattle.bit_addressing_memory.proofs.Gathers.{gathered_of}
 use Rattle.bit_addressing_memory.proofs.moves.gathered.Goals as goal
 

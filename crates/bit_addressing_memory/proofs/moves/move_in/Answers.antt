@@ -1,5 +1,4 @@
-use Rattle.std.proofs.Common.{arith, ◌+◌, ◌-◌, ◌/◌, ◌<◌, refl}
-use Rattle.bit_addressing_memory.specs.Memory.{read_by}
+use Rattle.bit_addressing_memory.proofs.Common.{arith, ◌+◌, ◌-◌, ◌/◌, ◌<◌, refl, read_by}
 use Rattle.bit_addressing_memory.proofs.Sweeps.{moved_all}
 use Rattle.bit_addressing_memory.proofs.moves.move_in.Goals as goal
 

@@ -1,6 +1,5 @@
-use Rattle.std.proofs.Common.{arith, ◌≡◌, ◌+◌, ◌-◌, ◌/◌, ◌<◌, ◌≤◌, length}
+use Rattle.bit_addressing_memory.proofs.Common.{arith, ◌≡◌, ◌+◌, ◌-◌, ◌/◌, ◌<◌, ◌≤◌, length, read_by}
 use Rattle.std.proofs.lemmas.Grind.{common_steps}
-use Rattle.bit_addressing_memory.specs.Memory.{read_by}
 use Rattle.bit_addressing_memory.proofs.Puts.{puts_down, puts_one, puts_up}
 use Rattle.bit_addressing_memory.proofs.WayLemmas.{way_up, way_down}
 use Rattle.bit_addressing_memory.proofs.moves.put_gathered.Goals as goal

@@ -1,5 +1,4 @@
-use Rattle.std.proofs.Common.{◌≡◌, ◌+◌, ◌-◌, ap, ◌∙◌, arith}
-use Rattle.bit_addressing_memory.specs.Memory.{entry, read_by}
+use Rattle.bit_addressing_memory.proofs.Common.{◌≡◌, ◌+◌, ◌-◌, ap, ◌∙◌, arith, entry, read_by}
 use Rattle.bit_addressing_memory.specs.Sweep.{sweep_words}
 use Rattle.bit_addressing_memory.proofs.SpreadLemmas.{stored_next}
 use Rattle.bit_addressing_memory.proofs.Sweeps.{reads_again}

@@ -1,6 +1,4 @@
-use Rattle.std.proofs.Common.{◌≡◌, ◌+◌, ◌-◌, ◌^◌, min}
-use Rattle.bit_addressing_memory.specs.Memory.{entry, read_by}
-use Rattle.bit_addressing_memory.specs.Partial.{IsStored}
+use Rattle.bit_addressing_memory.proofs.Common.{◌≡◌, ◌+◌, ◌-◌, ◌^◌, min, entry, read_by, IsStored}
 use Rattle.bit_addressing_memory.specs.Sweep.{reads_of, SameButReads, sweep_lender, sweep_words}
 use Rattle.bit_addressing_memory.proofs.moves.taken_singly.Given as goal
 

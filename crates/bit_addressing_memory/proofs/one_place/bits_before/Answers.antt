@@ -1,5 +1,4 @@
-use Rattle.std.proofs.Common.{◌*◌, ◌<◌, ◌∙◌, arith}
-use Rattle.bit_addressing_memory.specs.Memory.{read_by}
+use Rattle.bit_addressing_memory.proofs.Common.{◌*◌, ◌<◌, ◌∙◌, arith, read_by}
 use Rattle.bit_addressing_memory.specs.Sweep.{sweep_words}
 use Rattle.bit_addressing_memory.proofs.OnePlaceLemmas.{before_digits, before_own, some_word}
 use Rattle.bit_addressing_memory.proofs.one_place.bits_before.Goals as goal

@@ -1,5 +1,4 @@
-use Rattle.std.proofs.Common.{◌+◌, ◌-◌, ◌/◌, ◌≤◌, refl, arith}
-use Rattle.bit_addressing_memory.specs.Memory.{read_by}
+use Rattle.bit_addressing_memory.proofs.Common.{◌+◌, ◌-◌, ◌/◌, ◌≤◌, refl, arith, read_by}
 use Rattle.bit_addressing_memory.proofs.Puts.{puts_all, puts_up}
 use Rattle.bit_addressing_memory.proofs.one_place.move_down_by_one.Goals as goal
 

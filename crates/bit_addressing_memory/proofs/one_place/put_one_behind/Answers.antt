@@ -1,5 +1,4 @@
-use Rattle.std.proofs.Common.{◌≡◌, ◌+◌, ◌-◌, ◌*◌, ◌<◌, length, refl, ap, ◌∙◌, arith}
-use Rattle.bit_addressing_memory.specs.Memory.{entry, read_by}
+use Rattle.bit_addressing_memory.proofs.Common.{◌≡◌, ◌+◌, ◌-◌, ◌*◌, ◌<◌, length, refl, ap, ◌∙◌, arith, entry, read_by}
 use Rattle.bit_addressing_memory.specs.Sweep.{sweep_words}
 use Rattle.bit_addressing_memory.proofs.Puts.{puts_one}
 use Rattle.bit_addressing_memory.proofs.ShiftedWords.{beside_word, less_words}

@@ -1,6 +1,5 @@
-use Rattle.std.proofs.Common.{◌≡◌, ◌+◌, ◌-◌, ◌*◌, ◌/◌, ◌%◌, ◌<◌, ◌≤◌, length, arith}
+use Rattle.bit_addressing_memory.proofs.Common.{◌≡◌, ◌+◌, ◌-◌, ◌*◌, ◌/◌, ◌%◌, ◌<◌, ◌≤◌, length, arith, read_by}
 use Rattle.std.proofs.lemmas.Nat.{mod_below}
-use Rattle.bit_addressing_memory.specs.Memory.{read_by}
 use Rattle.bit_addressing_memory.proofs.PlaceLemmas.{touched_words}
 use Rattle.bit_addressing_memory.proofs.ShiftedWords.{begins_aligned, begins_inside, place_at, word_within}
 use Rattle.bit_addressing_memory.proofs.shifted.bits_from.Goals as goal

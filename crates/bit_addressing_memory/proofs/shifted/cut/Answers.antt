@@ -1,5 +1,4 @@
-use Rattle.std.proofs.Common.{◌≡◌, ◌+◌, ◌*◌, ◌<◌, ◌≤◌, length, refl, arith}
-use Rattle.bit_addressing_memory.specs.Memory.{read_by}
+use Rattle.bit_addressing_memory.proofs.Common.{◌≡◌, ◌+◌, ◌*◌, ◌<◌, ◌≤◌, length, refl, arith, read_by}
 use Rattle.bit_addressing_memory.proofs.ShiftedWords.{begins_across, begins_aligned}
 use Rattle.bit_addressing_memory.proofs.shifted.cut.Goals as goal
 

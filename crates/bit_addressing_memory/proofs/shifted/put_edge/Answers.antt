@@ -1,5 +1,4 @@
-use Rattle.std.proofs.Common.{arith, ◌<◌}
-use Rattle.bit_addressing_memory.specs.Memory.{read_by}
+use Rattle.bit_addressing_memory.proofs.Common.{arith, ◌<◌, read_by}
 use Rattle.bit_addressing_memory.proofs.Puts.{puts_one}
 use Rattle.bit_addressing_memory.proofs.shifted.put_edge.Goals as goal
 

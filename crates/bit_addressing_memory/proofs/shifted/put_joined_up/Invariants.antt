@@ -1,5 +1,4 @@
-use Rattle.std.proofs.Common.{◌+◌, ◌*◌, ◌≤◌}
-use Rattle.bit_addressing_memory.specs.Memory.{read_by}
+use Rattle.bit_addressing_memory.proofs.Common.{◌+◌, ◌*◌, ◌≤◌, read_by}
 use Rattle.bit_addressing_memory.specs.MoveSteps.{PutsWords}
 use Rattle.bit_addressing_memory.specs.Sweep.{edge_of, reads_of}
 use Rattle.bit_addressing_memory.proofs.shifted.put_joined_up.Given as goal

@@ -1,5 +1,4 @@
-use Rattle.std.proofs.Common.{arith, ◌+◌, ◌-◌, ◌/◌, refl}
-use Rattle.bit_addressing_memory.specs.Memory.{read_by}
+use Rattle.bit_addressing_memory.proofs.Common.{arith, ◌+◌, ◌-◌, ◌/◌, refl, read_by}
 use Rattle.bit_addressing_memory.proofs.Puts.{puts_all, puts_down, puts_up}
 use Rattle.bit_addressing_memory.proofs.WayLemmas.{way_up, way_down}
 use Rattle.bit_addressing_memory.proofs.shifted.put_shifted.Goals as goal

@@ -1,5 +1,4 @@
-use Rattle.std.proofs.Common.{◌+◌, ◌-◌, ◌*◌, refl}
-use Rattle.bit_addressing_memory.specs.Memory.{read_by}
+use Rattle.bit_addressing_memory.proofs.Common.{◌+◌, ◌-◌, ◌*◌, refl, read_by}
 use Rattle.bit_addressing_memory.proofs.ShiftedWords.{edge_word}
 use Rattle.bit_addressing_memory.proofs.shifted.shifted.Goals as goal
 

@@ -1,5 +1,4 @@
-use Rattle.std.proofs.Common.{◌+◌, ◌-◌, arith}
-use Rattle.bit_addressing_memory.specs.Memory.{indexed}
+use Rattle.bit_addressing_memory.proofs.Common.{◌+◌, ◌-◌, arith, indexed}
 use Rattle.bit_addressing_memory.proofs.SpreadLemmas.{stored_next}
 use Rattle.bit_addressing_memory.proofs.spreads.spread.Goals as goal
 

@@ -1,6 +1,4 @@
-use Rattle.std.proofs.Common.{◌+◌, ◌-◌}
-use Rattle.bit_addressing_memory.specs.Memory.{indexed, read_by}
-use Rattle.bit_addressing_memory.specs.Partial.{IsStored}
+use Rattle.bit_addressing_memory.proofs.Common.{◌+◌, ◌-◌, indexed, read_by, IsStored}
 use Rattle.bit_addressing_memory.proofs.spreads.spread.Given as goal
 
 abbrev pub invariant-loop-i : goal.invariant-loop-i

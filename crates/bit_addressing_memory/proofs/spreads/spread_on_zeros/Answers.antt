@@ -1,6 +1,5 @@
-use Rattle.std.proofs.Common.{◌≡◌, ℕ, ◌+◌, ◌-◌, Bool, sym, ap, ◌∙◌, inl, inr, arith}
-use Rattle.std.proofs.lemmas.Bool.{cases_lt}
-use Rattle.bit_addressing_memory.specs.Memory.{indexed}
+use Rattle.bit_addressing_memory.proofs.Common.{◌≡◌, ℕ, ◌+◌, ◌-◌, Bool, sym, ap, ◌∙◌, inl, inr, arith, cases_lt}
+use Rattle.bit_addressing_memory.proofs.Common.{indexed}
 use Rattle.bit_addressing_memory.proofs.SpreadLemmas.{stored_next}
 use Rattle.bit_addressing_memory.proofs.spreads.spread_on_zeros.Goals.{then-read_bit, else-read_bit}
 use Rattle.bit_addressing_memory.proofs.spreads.spread_on_zeros.Goals as goal

@@ -1,5 +1,4 @@
-use Rattle.std.proofs.Common.{◌+◌, ◌*◌, refl, arith}
-use Rattle.bit_addressing_memory.specs.Memory.{read_by}
+use Rattle.bit_addressing_memory.proofs.Common.{◌+◌, ◌*◌, refl, arith, read_by}
 use Rattle.bit_slice_chunks.proofs.TransferLemmas.{read_all, read_first}
 use Rattle.bit_slice_chunks.proofs.transfer.read_part.Goals as goal
 

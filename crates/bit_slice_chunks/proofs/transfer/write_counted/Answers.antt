@@ -1,6 +1,5 @@
-use Rattle.std.proofs.Common.{◌≡◌, ◌+◌, ◌-◌, ◌*◌, ◌<◌, ap, arith}
+use Rattle.bit_addressing_memory.proofs.Common.{◌≡◌, ◌+◌, ◌-◌, ◌*◌, ◌<◌, ap, arith, read_by}
 use Rattle.std.proofs.Math.Nat.{suc-mul}
-use Rattle.bit_addressing_memory.specs.Memory.{read_by}
 use Rattle.bit_addressing_memory.proofs.PlaceLemmas.{begins_behind, begins_before}
 use Rattle.bit_slice_chunks.proofs.TransferLemmas.{write_more}
 use Rattle.bit_slice_chunks.proofs.transfer.write_counted.Goals as goal

@@ -1,5 +1,4 @@
-use Rattle.std.proofs.Common.{◌≡◌, ◌-◌, ◌*◌, min}
-use Rattle.bit_addressing_memory.specs.Memory.{read_by, Overwrites}
+use Rattle.bit_addressing_memory.proofs.Common.{◌≡◌, ◌-◌, ◌*◌, min, read_by, Overwrites}
 use Rattle.bit_slice_chunks.specs.Chunk.{chunk_bit}
 use Rattle.bit_slice_chunks.proofs.transfer.write_counted.Given as goal
 

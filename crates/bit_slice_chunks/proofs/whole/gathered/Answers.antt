@@ -1,5 +1,4 @@
-use Rattle.std.proofs.Common.{◌≡◌, ◌+◌, ◌*◌, ◌/◌, ◌<◌, length, refl, ap, ◌∙◌, arith}
-use Rattle.bit_addressing_memory.specs.Memory.{read_by}
+use Rattle.bit_addressing_memory.proofs.Common.{◌≡◌, ◌+◌, ◌*◌, ◌/◌, ◌<◌, length, refl, ap, ◌∙◌, arith, read_by}
 use Rattle.bit_slice_chunks.proofs.TransferLemmas.{read_more}
 use Rattle.bit_slice_chunks.proofs.WholeLemmas.{words_of_64, word_of_chunk, read_whole}
 use Rattle.bit_slice_chunks.proofs.whole.gathered.Goals as goal

@@ -1,5 +1,4 @@
-use Rattle.std.proofs.Common.{◌≡◌, ◌+◌, ◌*◌, ◌/◌, ◌<◌, length, refl, ap, ◌∙◌, arith}
-use Rattle.bit_addressing_memory.specs.Memory.{read_by}
+use Rattle.bit_addressing_memory.proofs.Common.{◌≡◌, ◌+◌, ◌*◌, ◌/◌, ◌<◌, length, refl, ap, ◌∙◌, arith, read_by}
 use Rattle.bit_slice_chunks.specs.Chunk.{chunk_bit}
 use Rattle.bit_slice_chunks.proofs.WholeLemmas.{words_of_64, word_of_chunk, word_begins, scattered_more, overwrites_of}
 use Rattle.bit_slice_chunks.proofs.whole.scattered.Goals as goal

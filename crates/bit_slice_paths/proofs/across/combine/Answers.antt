@@ -1,5 +1,4 @@
-use Rattle.std.proofs.Common.{◌+◌, ◌-◌, refl, arith}
-use Rattle.bit_addressing_memory.specs.Memory.{read_by}
+use Rattle.bit_addressing_memory.proofs.Common.{◌+◌, ◌-◌, refl, arith, read_by}
 use Rattle.bit_slice_chunks.specs.Combined.{combined_bit}
 use Rattle.bit_slice_paths.proofs.WalkLemmas.{combines_more}
 use Rattle.bit_slice_paths.proofs.across.combine.Goals as goal

@@ -1,5 +1,4 @@
-use Rattle.std.proofs.Common.{◌≡◌, ◌+◌, ◌-◌, ◌*◌, refl, arith}
-use Rattle.bit_addressing_memory.specs.Memory.{read_by}
+use Rattle.bit_addressing_memory.proofs.Common.{◌≡◌, ◌+◌, ◌-◌, ◌*◌, refl, arith, read_by}
 use Rattle.bit_slice_paths.proofs.AcrossLemmas.{agrees_more}
 use Rattle.bit_slice_paths.proofs.WalkLemmas.{equal_more}
 use Rattle.bit_slice_paths.proofs.across.mismatch_by_blocks.Goals as goal

@@ -1,5 +1,4 @@
-use Rattle.std.proofs.Common.{◌*◌}
-use Rattle.bit_addressing_memory.specs.Memory.{read_by, Swaps}
+use Rattle.bit_addressing_memory.proofs.Common.{◌*◌, read_by, Swaps}
 use Rattle.bit_slice_paths.proofs.exchange.exchange.Given as goal
 
 abbrev pub invariant-loop-k : goal.invariant-loop-k

@@ -1,6 +1,4 @@
-use Rattle.std.proofs.Common.{◌≡◌, ◌+◌, ◌-◌, ◌*◌, ◌/◌, ◌∙◌, sym, arith}
-use Rattle.std.proofs.lemmas.Bool.{false≢true}
-use Rattle.bit_addressing_memory.specs.Memory.{entry, read_by}
+use Rattle.bit_addressing_memory.proofs.Common.{◌≡◌, ◌+◌, ◌-◌, ◌*◌, ◌/◌, ◌∙◌, sym, arith, false≢true, entry, read_by}
 use Rattle.bit_slice_paths.proofs.WholeWordLemmas.{same_words_more, same_words_part}
 use Rattle.bit_slice_paths.proofs.match_words.match_words.Goals as goal
 

@@ -1,5 +1,4 @@
-use Rattle.std.proofs.Common.{◌≡◌, ℕ, ◌+◌, ◌*◌, ◌<◌}
-use Rattle.bit_addressing_memory.specs.Memory.{entry, read_by}
+use Rattle.bit_addressing_memory.proofs.Common.{◌≡◌, ℕ, ◌+◌, ◌*◌, ◌<◌, entry, read_by}
 use Rattle.bit_slice_paths.proofs.match_words.match_words.Given as goal
 
 abbrev pub invariant-loop-round : goal.invariant-loop-round

@@ -1,5 +1,4 @@
-use Rattle.std.proofs.Common.{◌≡◌, ◌+◌, ◌-◌, ◌*◌, ◌/◌, ◌%◌, refl, arith}
-use Rattle.bit_addressing_memory.specs.Memory.{read_by}
+use Rattle.bit_addressing_memory.proofs.Common.{◌≡◌, ◌+◌, ◌-◌, ◌*◌, ◌/◌, ◌%◌, refl, arith, read_by}
 use Rattle.bit_slice_paths.proofs.MirrorLemmas.{mirrored_more, mirrored_all, mirrored_rest}
 use Rattle.bit_slice_paths.proofs.mirror.reverse.Goals as goal
 

@@ -1,5 +1,4 @@
-use Rattle.std.proofs.Common.{◌≡◌, ◌+◌, ◌*◌, ◌/◌, ◌%◌, arith}
-use Rattle.bit_addressing_memory.specs.Memory.{read_by}
+use Rattle.bit_addressing_memory.proofs.Common.{◌≡◌, ◌+◌, ◌*◌, ◌/◌, ◌%◌, arith, read_by}
 use Rattle.bit_slice_paths.proofs.RotationLemmas.{rotated_more}
 use Rattle.bit_slice_paths.proofs.rotation.move_down.Goals as goal
 

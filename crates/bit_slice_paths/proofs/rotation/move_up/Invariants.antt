@@ -1,5 +1,4 @@
-use Rattle.std.proofs.Common.{◌-◌, ◌*◌}
-use Rattle.bit_addressing_memory.specs.Memory.{read_by}
+use Rattle.bit_addressing_memory.proofs.Common.{◌-◌, ◌*◌, read_by}
 use Rattle.bit_slice_paths.proofs.RotationLemmas.{Rotates}
 use Rattle.bit_slice_paths.proofs.rotation.move_up.Given as goal
 

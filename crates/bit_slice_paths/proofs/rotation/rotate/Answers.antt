@@ -1,5 +1,4 @@
-use Rattle.std.proofs.Common.{◌≡◌, ◌+◌, ◌-◌, ◌∙◌, refl, arith}
-use Rattle.bit_addressing_memory.specs.Memory.{read_by}
+use Rattle.bit_addressing_memory.proofs.Common.{◌≡◌, ◌+◌, ◌-◌, ◌∙◌, refl, arith, read_by}
 use Rattle.bit_slice_paths.proofs.RotationLemmas.{exchanged_front, exchanged_back}
 use Rattle.bit_slice_paths.proofs.rotation.rotate.Goals as goal
 

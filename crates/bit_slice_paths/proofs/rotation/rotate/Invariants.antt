@@ -1,5 +1,4 @@
-use Rattle.std.proofs.Common.{◌≡◌, ◌+◌, ◌≤◌, length}
-use Rattle.bit_addressing_memory.specs.Memory.{read_by}
+use Rattle.bit_addressing_memory.proofs.Common.{◌≡◌, ◌+◌, ◌≤◌, length, read_by}
 use Rattle.bit_slice_paths.proofs.RotationLemmas.{Rotates}
 use Rattle.bit_slice_paths.proofs.rotation.rotate.Given as goal
 

@@ -1,5 +1,4 @@
-use Rattle.std.proofs.Common.{◌+◌, min, arith}
-use Rattle.bit_addressing_memory.specs.Memory.{read_by}
+use Rattle.bit_addressing_memory.proofs.Common.{◌+◌, min, arith, read_by}
 use Rattle.bit_slice_paths.proofs.SeekLemmas.{shown_chunk, shown_other}
 use Rattle.bit_slice_paths.proofs.seek.shows.Goals as goal
 

@@ -1,5 +1,4 @@
-use Rattle.std.proofs.Common.{◌+◌, ◌*◌, min, arith}
-use Rattle.bit_addressing_memory.specs.Memory.{read_by}
+use Rattle.bit_addressing_memory.proofs.Common.{◌+◌, ◌*◌, min, arith, read_by}
 use Rattle.bit_slice_paths.proofs.SeekLemmas.{seeks_before, seeks_more}
 use Rattle.bit_slice_paths.proofs.seek.start.Goals as goal
 

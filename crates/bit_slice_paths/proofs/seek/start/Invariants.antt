@@ -1,5 +1,4 @@
-use Rattle.std.proofs.Common.{ℕ, ◌+◌, ◌*◌, ◌<◌, min}
-use Rattle.bit_addressing_memory.specs.Memory.{read_by}
+use Rattle.bit_addressing_memory.proofs.Common.{ℕ, ◌+◌, ◌*◌, ◌<◌, min, read_by}
 use Rattle.bit_slice_paths.specs.Stands.{Stands}
 use Rattle.bit_slice_paths.proofs.seek.start.Given as goal
 

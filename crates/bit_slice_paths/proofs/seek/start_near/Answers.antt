@@ -1,5 +1,4 @@
-use Rattle.std.proofs.Common.{refl}
-use Rattle.bit_addressing_memory.specs.Memory.{read_by}
+use Rattle.bit_addressing_memory.proofs.Common.{refl, read_by}
 use Rattle.bit_slice_paths.proofs.SeekLemmas.{seeks_next}
 use Rattle.bit_slice_paths.proofs.seek.start_near.Goals as goal
 

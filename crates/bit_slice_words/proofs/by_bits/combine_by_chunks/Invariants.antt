@@ -1,5 +1,4 @@
-use Rattle.std.proofs.Common.{◌*◌, min}
-use Rattle.bit_addressing_memory.specs.Memory.{read_by}
+use Rattle.bit_addressing_memory.proofs.Common.{◌*◌, min, read_by}
 use Rattle.bit_slice_paths.specs.Combined.{combined_bit, Combines}
 use Rattle.bit_slice_paths.specs.Steps.{Takes}
 use Rattle.bit_slice_words.proofs.by_bits.combine_by_chunks.Given as goal

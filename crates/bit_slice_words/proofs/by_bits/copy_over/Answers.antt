@@ -1,5 +1,4 @@
-use Rattle.std.proofs.Common.{◌+◌, ◌-◌, ◌<◌, ◌≤◌, refl, ◌∙◌, arith}
-use Rattle.bit_addressing_memory.specs.Memory.{read_by}
+use Rattle.bit_addressing_memory.proofs.Common.{◌+◌, ◌-◌, ◌<◌, ◌≤◌, refl, ◌∙◌, arith, read_by}
 use Rattle.bit_addressing_memory.proofs.CopyLemmas.{copies_more_down, not_yet_down}
 use Rattle.bit_slice_words.proofs.PathLemmas.{takes_more_down}
 use Rattle.bit_slice_words.proofs.by_bits.copy_over.Goals as goal

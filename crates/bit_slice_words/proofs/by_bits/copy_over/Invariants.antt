@@ -1,5 +1,4 @@
-use Rattle.std.proofs.Common.{◌+◌, ◌-◌}
-use Rattle.bit_addressing_memory.specs.Memory.{read_by, Copies}
+use Rattle.bit_addressing_memory.proofs.Common.{◌+◌, ◌-◌, read_by, Copies}
 use Rattle.bit_slice_paths.specs.Steps.{Takes}
 use Rattle.bit_slice_words.proofs.by_bits.copy_over.Given as goal
 

@@ -1,6 +1,4 @@
-use Rattle.std.proofs.Common.{◌≡◌, ◌+◌, ◌*◌, min, sym, ap, ◌∙◌, arith}
-use Rattle.std.proofs.lemmas.Bool.{false≢true}
-use Rattle.bit_addressing_memory.specs.Memory.{entry, read_by}
+use Rattle.bit_addressing_memory.proofs.Common.{◌≡◌, ◌+◌, ◌*◌, min, sym, ap, ◌∙◌, arith, false≢true, entry, read_by}
 use Rattle.bit_slice_paths.proofs.StepLemmas.{takes_more}
 use Rattle.bit_slice_paths.proofs.WalkLemmas.{equal_more}
 use Rattle.bit_slice_words.proofs.by_bits.equal_by_chunks.Goals as goal

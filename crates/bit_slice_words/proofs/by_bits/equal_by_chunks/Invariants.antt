@@ -1,5 +1,4 @@
-use Rattle.std.proofs.Common.{◌≡◌, ℕ, ◌+◌, ◌*◌, ◌<◌, min}
-use Rattle.bit_addressing_memory.specs.Memory.{entry, read_by}
+use Rattle.bit_addressing_memory.proofs.Common.{◌≡◌, ℕ, ◌+◌, ◌*◌, ◌<◌, min, entry, read_by}
 use Rattle.bit_slice_paths.specs.Steps.{Takes}
 use Rattle.bit_slice_words.proofs.by_bits.equal_by_chunks.Given as goal
 

@@ -1,5 +1,4 @@
-use Rattle.std.proofs.Common.{◌+◌, refl, ◌∙◌, arith}
-use Rattle.bit_addressing_memory.specs.Memory.{read_by}
+use Rattle.bit_addressing_memory.proofs.Common.{◌+◌, refl, ◌∙◌, arith, read_by}
 use Rattle.bit_addressing_memory.proofs.CopyLemmas.{copies_more}
 use Rattle.bit_slice_paths.proofs.StepLemmas.{takes_more}
 use Rattle.bit_slice_words.proofs.by_bits.swap.Goals as goal

@@ -1,5 +1,4 @@
-use Rattle.std.proofs.Common.{arith}
-use Rattle.bit_addressing_memory.specs.Memory.{read_by}
+use Rattle.bit_addressing_memory.proofs.Common.{arith, read_by}
 use Rattle.bit_addressing_memory.proofs.PlaceLemmas.{touched_words}
 use Rattle.bit_slice_paths.specs.Combined.{combined_bit}
 use Rattle.bit_slice_words.proofs.ChangeLemmas.{changes_cut}

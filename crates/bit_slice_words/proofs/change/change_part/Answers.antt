@@ -1,5 +1,4 @@
-use Rattle.std.proofs.Common.{◌≡◌, ◌+◌, ◌-◌, ◌*◌, ◌≤◌, Bool, ap, ap₂, refl, arith}
-use Rattle.bit_addressing_memory.specs.Memory.{read_by}
+use Rattle.bit_addressing_memory.proofs.Common.{◌≡◌, ◌+◌, ◌-◌, ◌*◌, ◌≤◌, Bool, ap, ap₂, refl, arith, read_by}
 use Rattle.bit_slice_paths.specs.Combined.{combined_bit}
 use Rattle.bit_slice_words.proofs.ChangeLemmas.{changes_as, changes_part}
 use Rattle.bit_slice_words.proofs.change.change_part.Goals as goal

@@ -1,5 +1,4 @@
-use Rattle.std.proofs.Common.{◌+◌, arith}
-use Rattle.bit_addressing_memory.specs.Memory.{memory, piece, read_by}
+use Rattle.bit_addressing_memory.proofs.Common.{◌+◌, arith, memory, piece, read_by}
 use Rattle.bit_addressing_memory.proofs.WindowLemmas.{length-window}
 use Rattle.bit_slice_words.proofs.SameLemmas.{answers_no, answers_yes, holds_here, holds_none, none_more, windows_equal}
 use Rattle.bit_slice_words.proofs.contains.contains_from.Goals as goal

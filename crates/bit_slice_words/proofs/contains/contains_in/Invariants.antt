@@ -1,5 +1,4 @@
-use Rattle.std.proofs.Common.{◌≢◌, ℕ, ◌+◌, ◌<◌}
-use Rattle.bit_addressing_memory.specs.Memory.{memory, piece, read_by}
+use Rattle.bit_addressing_memory.proofs.Common.{◌≢◌, ℕ, ◌+◌, ◌<◌, memory, piece, read_by}
 use Rattle.bit_slice_words.proofs.contains.contains_in.Given as goal
 
 -- none of the pieces so far is the other list

@@ -1,5 +1,4 @@
-use Rattle.std.proofs.Common.{◌<◌, length, arith}
-use Rattle.bit_addressing_memory.specs.Memory.{read_by}
+use Rattle.bit_addressing_memory.proofs.Common.{◌<◌, length, arith, read_by}
 use Rattle.bit_slice_words.proofs.CountLemmas.{trues_one, trues_cut, trues_fit}
 use Rattle.bit_slice_words.proofs.count.count_ones_in.Goals as goal
 

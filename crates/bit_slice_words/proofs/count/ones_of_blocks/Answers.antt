@@ -1,5 +1,4 @@
-use Rattle.std.proofs.Common.{◌≡◌, ◌+◌, ◌*◌, ◌/◌, ◌%◌, ◌<◌, refl, arith}
-use Rattle.bit_addressing_memory.specs.Memory.{read_by}
+use Rattle.bit_addressing_memory.proofs.Common.{◌≡◌, ◌+◌, ◌*◌, ◌/◌, ◌%◌, ◌<◌, refl, arith, read_by}
 use Rattle.bit_slice_words.proofs.BlockOnes.{chunk_at, ones_and_more, ones_fit}
 use Rattle.bit_slice_words.proofs.count.ones_of_blocks.Goals as goal
 

@@ -1,5 +1,4 @@
-use Rattle.std.proofs.Common.{◌≡◌, ◌*◌, count_by}
-use Rattle.bit_addressing_memory.specs.Memory.{memory, piece, read_by}
+use Rattle.bit_addressing_memory.proofs.Common.{◌≡◌, ◌*◌, count_by, memory, piece, read_by}
 use Rattle.bit_slice_words.proofs.count.ones_word_by_word.Given as goal
 
 -- the ones of the words so far

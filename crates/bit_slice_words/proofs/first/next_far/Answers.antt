@@ -1,5 +1,4 @@
-use Rattle.std.proofs.Common.{◌+◌, ◌*◌}
-use Rattle.bit_addressing_memory.specs.Memory.{read_by}
+use Rattle.bit_addressing_memory.proofs.Common.{◌+◌, ◌*◌, read_by}
 use Rattle.bit_slice_words.specs.Stretch.{bit_found}
 use Rattle.bit_slice_words.proofs.StretchLemmas.{nowhere_join, nowhere_opposite}
 use Rattle.bit_slice_words.proofs.first.next_far.Goals as goal

@@ -1,6 +1,5 @@
-use Rattle.std.proofs.Common.{◌≡◌, ◌+◌, Bool, true, false, not, refl}
+use Rattle.bit_addressing_memory.proofs.Common.{◌≡◌, ◌+◌, Bool, true, false, not, refl, entry, read_by}
 use mathlib.Core.Bool.{xor}
-use Rattle.bit_addressing_memory.specs.Memory.{entry, read_by}
 use Rattle.bit_addressing_memory.proofs.PartsLemmas.{stores_as}
 use Rattle.bit_slice_words.proofs.invert.not_in.Goals as goal
 

@@ -1,5 +1,4 @@
-use Rattle.std.proofs.Common.{◌-◌, ◌≤◌}
-use Rattle.bit_addressing_memory.specs.Memory.{indexed}
+use Rattle.bit_addressing_memory.proofs.Common.{◌-◌, ◌≤◌, indexed}
 use Rattle.bit_slice_words.specs.Found.{is_bit}
 use Rattle.bit_slice_words.specs.Stretch.{Nowhere}
 use Rattle.bit_slice_words.proofs.last.last_index.Given as goal

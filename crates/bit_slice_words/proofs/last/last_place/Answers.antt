@@ -1,5 +1,4 @@
-use Rattle.std.proofs.Common.{◌+◌, arith}
-use Rattle.bit_addressing_memory.specs.Memory.{read_by}
+use Rattle.bit_addressing_memory.proofs.Common.{◌+◌, arith, read_by}
 use Rattle.bit_slice_words.specs.Stretch.{bit_found}
 use Rattle.bit_slice_words.proofs.StretchLemmas.{last_of_cut}
 use Rattle.bit_slice_words.proofs.last.last_place.Goals as goal

@@ -1,5 +1,4 @@
-use Rattle.std.proofs.Common.{◌+◌, ◌*◌, refl, arith}
-use Rattle.bit_addressing_memory.specs.Memory.{read_by}
+use Rattle.bit_addressing_memory.proofs.Common.{◌+◌, ◌*◌, refl, arith, read_by}
 use Rattle.bit_slice_words.specs.Stretch.{bit_found}
 use Rattle.bit_slice_words.proofs.ChunkedLemmas.{last_earlier}
 use Rattle.bit_slice_words.proofs.StretchLemmas.{nowhere_part}

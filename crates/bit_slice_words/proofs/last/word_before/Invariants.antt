@@ -1,5 +1,4 @@
-use Rattle.std.proofs.Common.{◌+◌, ◌-◌, ◌*◌, ◌<◌, ◌≤◌}
-use Rattle.bit_addressing_memory.specs.Memory.{read_by}
+use Rattle.bit_addressing_memory.proofs.Common.{◌+◌, ◌-◌, ◌*◌, ◌<◌, ◌≤◌, read_by}
 use Rattle.bit_slice_words.specs.Stretch.{bit_found, Nowhere}
 use Rattle.bit_slice_words.proofs.last.word_before.Given as goal
 

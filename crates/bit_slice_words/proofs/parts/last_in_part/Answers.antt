@@ -1,5 +1,4 @@
-use Rattle.std.proofs.Common.{◌≡◌, ◌+◌, ◌-◌, ◌*◌, ap, arith}
-use Rattle.bit_addressing_memory.specs.Memory.{read_by}
+use Rattle.bit_addressing_memory.proofs.Common.{◌≡◌, ◌+◌, ◌-◌, ◌*◌, ap, arith, read_by}
 use Rattle.bit_slice_words.proofs.ChunkedLemmas.{back_rest, back_last, back_none}
 use Rattle.bit_slice_words.proofs.parts.last_in_part.Goals as goal
 

@@ -1,5 +1,4 @@
-use Rattle.std.proofs.Common.{◌-◌, refl, arith}
-use Rattle.bit_addressing_memory.specs.Memory.{read_by}
+use Rattle.bit_addressing_memory.proofs.Common.{◌-◌, refl, arith, read_by}
 use Rattle.bit_slice_words.proofs.ShiftLemmas.{shifted_left}
 use Rattle.bit_slice_words.proofs.shift.shift_left_in.Goals as goal
 

@@ -1,6 +1,4 @@
-use Rattle.std.proofs.Common.{◌+◌, sym, ◌∙◌, arith}
-use Rattle.std.proofs.lemmas.Bool.{false≢true}
-use Rattle.bit_addressing_memory.specs.Memory.{read_by}
+use Rattle.bit_addressing_memory.proofs.Common.{◌+◌, sym, ◌∙◌, arith, false≢true, read_by}
 use Rattle.bit_slice_paths.proofs.AcrossLemmas.{agrees_test}
 use Rattle.bit_slice_paths.proofs.FitLemmas.{matched_more, matched_part}
 use Rattle.bit_slice_paths.proofs.two_memories.MatchingStretch.part.Goals as goal

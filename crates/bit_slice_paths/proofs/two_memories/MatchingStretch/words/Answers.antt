@@ -1,5 +1,4 @@
-use Rattle.std.proofs.Common.{◌*◌, arith}
-use Rattle.bit_addressing_memory.specs.Memory.{read_by}
+use Rattle.bit_addressing_memory.proofs.Common.{◌*◌, arith, read_by}
 use Rattle.bit_slice_paths.proofs.FitLemmas.{fit_on, matched_more, matched_part}
 use Rattle.bit_slice_paths.proofs.two_memories.MatchingStretch.words.Goals as goal
 

@@ -1,5 +1,4 @@
-use Rattle.std.proofs.Common.{◌*◌}
-use Rattle.bit_addressing_memory.specs.Memory.{read_by}
+use Rattle.bit_addressing_memory.proofs.Common.{◌*◌, read_by}
 use Rattle.bit_slice_chunks.specs.Combined.{combined_bit}
 use Rattle.bit_slice_paths.proofs.FitLemmas.{fit_on, merged_more}
 use Rattle.bit_slice_paths.proofs.two_memories.MergingStretch.words.Goals as goal

@@ -1,5 +1,4 @@
-use Rattle.std.proofs.Common.{◌≡◌, ◌+◌, ◌*◌, ◌<◌, length, sym, ap, ◌∙◌, arith}
-use Rattle.bit_addressing_memory.specs.Memory.{entry, read_by}
+use Rattle.bit_addressing_memory.proofs.Common.{◌≡◌, ◌+◌, ◌*◌, ◌<◌, length, sym, ap, ◌∙◌, arith, entry, read_by}
 use Rattle.bit_addressing_memory.proofs.EntryLemmas.{entry_at}
 use Rattle.bit_slice_paths.proofs.WholeWordLemmas.{alike_digit}
 use Rattle.bit_slice_paths.proofs.word_source.AlignedWordSource.word.Goals as goal

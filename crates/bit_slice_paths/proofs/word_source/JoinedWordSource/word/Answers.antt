@@ -1,6 +1,5 @@
-use Rattle.std.proofs.Common.{◌≡◌, ◌+◌, ◌*◌, ◌<◌, length, get_or, ap, ◌∙◌, arith}
+use Rattle.bit_addressing_memory.proofs.Common.{◌≡◌, ◌+◌, ◌*◌, ◌<◌, length, get_or, ap, ◌∙◌, arith, entry, read_by}
 use Rattle.std.proofs.lemmas.List.{get_or_default}
-use Rattle.bit_addressing_memory.specs.Memory.{entry, read_by}
 use Rattle.bit_addressing_memory.proofs.ShiftedWords.{begins_across}
 use Rattle.bit_slice_paths.proofs.WholeWordLemmas.{alike_digit}
 use Rattle.bit_slice_paths.proofs.word_source.JoinedWordSource.word.Goals as goal

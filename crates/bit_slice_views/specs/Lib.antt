@@ -13,3 +13,4 @@ pub use Rattle.bit_addressing_memory.specs.Memory
 pub use Rattle.bit_addressing_span.specs.declared.span.TheConstants as SpanLimits
 pub use Rattle.bit_addressing_span.specs.declared.span_error.BitSpanError.TheVariants as SpanFaults
 pub use Rattle.bit_slice_words.specs.Found
+pub use Rattle.bit_slice_words.specs.Rotations

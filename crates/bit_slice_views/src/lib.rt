@@ -12,6 +12,7 @@ mod sized;
 mod store;
 mod text;
 mod view;
+pub mod words;
 
 pub use bit_addressing_span::{BitSpanError, MAX_BITS};
 pub use bit_domain::{BitDomain, into_bit_domain};

@@ -6,7 +6,7 @@ pub mod Parts
 pub mod Combined
 pub mod Pair
 -- what public clauses cite of the crates below
-pub use Rattle.bit_slice_words.specs.Rotations
+pub use Rattle.bit_slice_views.specs.Rotations
 pub use Rattle.bit_slice_views.specs.BitRef
 pub use Rattle.bit_slice_views.specs.Parts as DomainParts
 pub use Rattle.bit_slice_views.specs.View

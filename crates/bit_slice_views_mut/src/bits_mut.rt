@@ -17,7 +17,7 @@ use crate::paths::copy_path;
 use crate::windows::{copy_window, fill_window, move_window};
 use bit_addressing_memory::{BitRegister, write_entry};
 use bit_slice_views::Bits;
-use bit_slice_words::{
+use bit_slice_views::words::{
     WordPaths, not_in, reverse_in, rotate_left_in, shift_left_in, shift_right_in,
 };
 
@@ -126,7 +126,7 @@ pub trait BitsMut: Bits {
     }
 
     /// Makes each bit `bit`.
-    #[tactic(auto, using(crate::proofs::FrameLemmas::frames, bit_slice_words::proofs::ListLemmas::filled_list))]
+    #[tactic(auto, using(crate::proofs::FrameLemmas::frames, crate::proofs::WordLists::filled_list))]
     final fn fill(&mut self, bit: bool)
         ensures bits { Self.bits self.new ≡ replicate (length (Self.bits self.old)) bit }
         ensures len { length (Self.bits self.new) ≡ length (Self.bits self.old) }
@@ -138,7 +138,7 @@ pub trait BitsMut: Bits {
     }
 
     /// Flips each bit: what `!` does.
-    #[tactic(auto, using(crate::proofs::FrameLemmas::frames, bit_slice_words::proofs::ListLemmas::inverted_list))]
+    #[tactic(auto, using(crate::proofs::FrameLemmas::frames, crate::proofs::WordLists::inverted_list))]
     final fn invert(&mut self)
         ensures bits { Self.bits self.new ≡ map not (Self.bits self.old) }
         ensures len { length (Self.bits self.new) ≡ length (Self.bits self.old) }
@@ -150,7 +150,7 @@ pub trait BitsMut: Bits {
     }
 
     /// Turns the bits round: the last becomes the first.
-    #[tactic(auto, using(crate::proofs::FrameLemmas::frames, bit_slice_words::proofs::ListLemmas::reversed_list))]
+    #[tactic(auto, using(crate::proofs::FrameLemmas::frames, crate::proofs::WordLists::reversed_list))]
     final fn reverse(&mut self)
         ensures bits { Self.bits self.new ≡ reverse (Self.bits self.old) }
         ensures len { length (Self.bits self.new) ≡ length (Self.bits self.old) }
@@ -162,7 +162,7 @@ pub trait BitsMut: Bits {
     }
 
     /// Moves each bit `by` places towards the first one; the first `by` become the last.
-    #[tactic(auto, using(crate::proofs::FrameLemmas::frames, bit_slice_words::proofs::ListLemmas::rotated_left_list))]
+    #[tactic(auto, using(crate::proofs::FrameLemmas::frames, crate::proofs::WordLists::rotated_left_list))]
     final fn rotate_left(&mut self, by: usize)
         requires { by ≤ length (Self.bits self.old) }
         ensures bits { Self.bits self.new ≡ drop by (Self.bits self.old) ++ take by (Self.bits self.old) }
@@ -187,7 +187,7 @@ pub trait BitsMut: Bits {
     }
 
     /// Moves each bit `by` places towards the first one: the first `by` are gone, and zeros come in at the end.
-    #[tactic(auto, using(crate::proofs::FrameLemmas::frames, bit_slice_words::proofs::ListLemmas::shifted_left_list))]
+    #[tactic(auto, using(crate::proofs::FrameLemmas::frames, crate::proofs::WordLists::shifted_left_list))]
     final fn shift_left(&mut self, by: usize)
         ensures bits { Self.bits self.new
             ≡ drop by (Self.bits self.old) ++ replicate (min by (length (Self.bits self.old))) false }
@@ -200,7 +200,7 @@ pub trait BitsMut: Bits {
     }
 
     /// Moves each bit `by` places towards the last one: the last `by` are gone, and zeros come in at the beginning.
-    #[tactic(auto, using(crate::proofs::FrameLemmas::frames, bit_slice_words::proofs::ListLemmas::shifted_right_list))]
+    #[tactic(auto, using(crate::proofs::FrameLemmas::frames, crate::proofs::WordLists::shifted_right_list))]
     final fn shift_right(&mut self, by: usize)
         ensures bits { Self.bits self.new ≡ replicate (min by (length (Self.bits self.old))) false
             ++ take (length (Self.bits self.old) - by) (Self.bits self.old) }
@@ -235,7 +235,7 @@ pub trait BitsMut: Bits {
     // ---- copy
 
     /// Makes the bits those of another list as long, whatever its words and their order.
-    #[tactic(auto, using(crate::proofs::FrameLemmas::frames, bit_slice_words::proofs::ListLemmas::copied_list))]
+    #[tactic(auto, using(crate::proofs::FrameLemmas::frames, crate::proofs::WordLists::copied_list))]
     final fn clone_from_bitslice<V: Bits>(&mut self, other: &V)
         requires { length (V.bits other.now) ≡ length (Self.bits self.old) }
         ensures bits { Self.bits self.new ≡ V.bits other.now }

@@ -9,7 +9,7 @@ ghost use Rattle.bit_slice_views_mut.specs.Frame.{KeepsBeside};
 
 use bit_addressing_memory::{BitOrder, BitRegister};
 use bit_slice_views::BitSlice;
-use bit_slice_words::{and_in, fill_in, or_in, xor_in};
+use bit_slice_views::words::{and_in, fill_in, or_in, xor_in};
 
 // Makes each bit of a window what it and the other's bit are both; those past the other's end are cleared.
 pub(crate) fn and_window<R: BitRegister, O: BitOrder<R>, Q: BitRegister, P: BitOrder<Q>>(

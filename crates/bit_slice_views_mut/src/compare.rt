@@ -11,8 +11,8 @@ ghost use Rattle.bit_slice_views_mut.specs.ViewMut.{lent_bits};
 
 use crate::view_mut::BitSliceMut;
 use bit_addressing_memory::{BitOrder, BitRegister};
+use bit_slice_views::words::WordPaths;
 use bit_slice_views::{Bits, write_bits, write_groups};
-use bit_slice_words::WordPaths;
 use std::cmp::Ordering;
 use std::fmt;
 use std::hash::{Hash, Hasher};

@@ -16,8 +16,8 @@ mod view_mut;
 mod windows;
 
 pub use beside::MayWriteBeside;
+pub use bit_slice_views::words::{copy_in, exchange_in, rotate_left_in};
 pub use bit_slice_views::{BitDomain, BitRange, BitRef, BitSlice, BitSliceIndex, Bits};
-pub use bit_slice_words::{copy_in, exchange_in, rotate_left_in};
 pub use bit_view::BitView;
 pub use bits_mut::BitsMut;
 pub use bits_window::{BitsShown, BitsWindow};

@@ -11,8 +11,8 @@ use crate::bits_mut::BitsMut;
 use crate::paths::{and_path, or_path, xor_path};
 use crate::view_mut::BitSliceMut;
 use bit_addressing_memory::{BitOrder, BitRegister};
+use bit_slice_views::words::WordPaths;
 use bit_slice_views::{BitSlice, Bits};
-use bit_slice_words::WordPaths;
 use std::ops::{BitAndAssign, BitOrAssign, BitXorAssign, Not};
 
 /// Each bit becomes what it and the other's bit are both; those past the other's end are cleared.

@@ -7,7 +7,7 @@ ghost use Rattle.bit_slice_views_mut.specs.Combined.{combined};
 ghost use Rattle.bit_slice_views_mut.specs.Frame.{KeepsBeside};
 
 use bit_addressing_memory::BitRegister;
-use bit_slice_words::{Steps, WordPaths, fill_in};
+use bit_slice_views::words::{Steps, WordPaths, fill_in};
 
 // Makes the bits of a window those of another memory from a place on.
 #[tactic(auto, using(crate::proofs::FrameLemmas::frames))]

@@ -7,10 +7,10 @@ ghost use Rattle.bit_addressing_memory.specs.Moves.{changed};
 ghost use Rattle.bit_slice_views_mut.specs.Frame.{KeepsBeside};
 
 use bit_addressing_memory::{BitOrder, BitRegister};
-use bit_slice_words::{copy_in, fill_in, move_words};
+use bit_slice_views::words::{copy_in, fill_in, move_words};
 
 // Makes each bit of a window `bit`.
-#[tactic(auto, using(crate::proofs::FrameLemmas::frames, bit_slice_words::proofs::ListLemmas::filled_list))]
+#[tactic(auto, using(crate::proofs::FrameLemmas::frames, crate::proofs::WordLists::filled_list))]
 pub(crate) fn fill_window<R: BitRegister, O: BitOrder<R>>(
     words: &mut [R],
     place: usize,
@@ -26,7 +26,7 @@ pub(crate) fn fill_window<R: BitRegister, O: BitOrder<R>>(
 }
 
 // Makes the bits of a window those of another memory from a place on.
-#[tactic(auto, using(crate::proofs::FrameLemmas::frames, bit_slice_words::proofs::ListLemmas::copied_list))]
+#[tactic(auto, using(crate::proofs::FrameLemmas::frames, crate::proofs::WordLists::copied_list))]
 pub(crate) fn copy_window<R: BitRegister, O: BitOrder<R>, Q: BitRegister, P: BitOrder<Q>>(
     words: &mut [R],
     place: usize,

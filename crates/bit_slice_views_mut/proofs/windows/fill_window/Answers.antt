@@ -1,6 +1,6 @@
 use Rattle.std.proofs.Common.{arith}
 use Rattle.bit_addressing_memory.specs.Memory.{read_by}
-use Rattle.bit_slice_words.proofs.ListLemmas.{filled_list}
+use Rattle.bit_slice_views.proofs.ListLemmas.{filled_list}
 use Rattle.bit_slice_views_mut.proofs.windows.fill_window.Goals as goal
 
 pub returns-clause-list : goal.returns-clause-list

@@ -660,6 +660,26 @@ def path_heads():
                         yield path_at(word, order, head, rng.choice((0, 13, 63, 64, 100)), length, call, rng)
 
 
+def own_sweep():
+    """Each path of a straight order of a user's own, whose positions are those of `msb0`, at all lengths to 200."""
+    rng = random.Random(83)
+    for word in ("u8", "u16", "u32", "u64", "u128"):
+        memory, others = (Memory(word, "msb0", filled(WORDS[word], 240 // WORDS[word] + 2, rng)) for _ in range(2))
+        place, from_ = rng.choice((0, 3, 7, 13)), rng.choice((0, 5, 13))
+        alike = others.put(from_, memory.piece(place, 200))
+        other = alike.put(from_ + 100, [1 - memory.list()[place + 100]])
+        for name in ("copy", "over", "and", "or", "xor", "swap"):
+            yield own(path_lengths(memory, place, others, from_, f"path_{name}"))
+        for near in (alike, other):
+            yield own(path_lengths(memory, place, near, from_, "path_equal"))
+
+
+def own(case):
+    """A case under `msb0` as one under the order of a user's own."""
+    line, answer = case
+    return line.replace(" msb0 ", " own ", 1), answer
+
+
 def path_lengths(memory, place, others, from_, name):
     """A path at all lengths to 200: a digest of the answers."""
     digest = 0xCBF29CE484222325
@@ -759,7 +779,7 @@ def number_sweep():
 
 def main():
     cases = [*ROWS, *sweep(), *part_sweep(), *piece_sweep(), *single_sweep(), *path_sweep(), *move_sweep(), *number_sweep()]
-    cases += [*path_heads(), *path_steps(), *compare_sweep()]
+    cases += [*path_heads(), *path_steps(), *compare_sweep(), *own_sweep()]
     with open("stdin", "w") as file:
         file.write("".join(line + "\n" for line, _ in cases))
     with open("stdout", "w") as file:

@@ -56,3 +56,10 @@ pub use Rattle.bit_addressing_memory.specs.Memory
 pub use Rattle.bit_addressing_memory.specs.Moves
 pub use Rattle.bit_addressing_memory.specs.Sweep
 pub use Rattle.bit_addressing_memory.specs.Ways as SweepWays
+pub use Rattle.bit_addressing_memory.specs.Straight
+pub use Rattle.bit_addressing_span.specs.BitPart
+pub use Rattle.bit_addressing_span.specs.PartialElement
+pub use Rattle.bit_addressing_span.specs.PartialElementMut
+pub use Rattle.bit_addressing.specs.Pointer
+pub use Rattle.bit_addressing.specs.PointerRange
+pub use Rattle.bit_addressing.specs.Runs

@@ -7,6 +7,7 @@ use crate::lent::write_pieces;
 use crate::looks::look;
 use crate::memory::{OTHERS_FROM, has_window, put_bits};
 use crate::numbers::hold_number;
+use crate::order::Downwards;
 use crate::paths::go_path;
 use crate::pieces::cut;
 use crate::shares::{make, share};
@@ -83,6 +84,7 @@ fn in_words<R: BitRegister>(
         "msb0" => in_turn::<R, Msb0>(alloc, case),
         "fifth" => in_order::<R, FifthStep>(alloc, case),
         "hilo" => in_paths::<R, HiLo>(alloc, case),
+        "own" => go_path::<R, Downwards>(alloc, case),
         _ => "no such order".to_string(alloc),
     }
 }

@@ -8,6 +8,7 @@ mod lent;
 mod looks;
 mod memory;
 mod numbers;
+mod order;
 mod paths;
 mod pieces;
 mod shares;

@@ -6,7 +6,7 @@ ghost use Rattle.bit_slice_paths.specs.Agrees.{Agrees};
 ghost use Rattle.std.specs.Cmp.Lexicographic.{slice_cmp};
 ghost use Rattle.std.specs.Ordering.{bool_cmp};
 
-use crate::agree::{BLOCK, agree_by_chunks, agree_rest, agree_singly, few_before_block};
+use crate::agree::{BLOCK, agree_by_chunks, agree_rest, few_before_block};
 use bit_addressing_memory::{BitOrder, BitRegister, read_entry};
 use std::cmp::Ordering;
 
@@ -15,6 +15,7 @@ use std::cmp::Ordering;
 ///
 /// The two may have different words and orders. It answers what `partial_cmp` of two slices in bitvec 1.1.1 has in its
 /// `Some`.
+#[tactic(auto, using(crate::proofs::CompareLemmas::windows_compare_ends))]
 pub fn compare_in<R: BitRegister, O: BitOrder<R>, Q: BitRegister, P: BitOrder<Q>>(
     words: &[R],
     place: usize,
@@ -31,34 +32,44 @@ pub fn compare_in<R: BitRegister, O: BitOrder<R>, Q: BitRegister, P: BitOrder<Q>
     let shorter = len.min(other_len);
     let few = few_before_block::<R, O, Q, P>(shorter);
     // Lists that differ early are answered here.
-    let same = agree_singly::<R, O, Q, P>(words, place, others, other_place, few);
-    if same < few || few == shorter {
-        return compare_at::<R, O, Q, P>(words, place, len, others, other_place, other_len, same);
+    for k in 0..few {
+        let bit = read_entry::<R, O>(words, place + k);
+        let other = read_entry::<Q, P>(others, other_place + k);
+        if bit != other {
+            return bit.cmp(&other);
+        }
     }
-    // A whole block costs less than a part of one, so the first bits are read again with it.
-    if few < BLOCK && BLOCK <= shorter {
-        return compare_block::<R, O, Q, P>(words, place, len, others, other_place, other_len);
+    if few == shorter {
+        return len.cmp(&other_len);
     }
-    compare_rest::<R, O, Q, P>(words, place, len, others, other_place, other_len, few)
+    compare_behind::<R, O, Q, P>(words, place, len, others, other_place, other_len, few)
 }
 
-// The same of at least 64 bits, by the first 64 as one block.
+// The same where the first bits are the same, of at least 64 bits by the first 64 as one block: it costs less than a part
+// of one, so those are read again with it. Out of line, so that lists that differ early are compared by a short function.
 #[inline(never)]
-fn compare_block<R: BitRegister, O: BitOrder<R>, Q: BitRegister, P: BitOrder<Q>>(
+fn compare_behind<R: BitRegister, O: BitOrder<R>, Q: BitRegister, P: BitOrder<Q>>(
     words: &[R],
     place: usize,
     len: usize,
     others: &[Q],
     other_place: usize,
     other_len: usize,
+    from: usize,
 ) -> Ordering
-    requires some { 64 ≤ min len other_len }
     requires lies { Lies R.BITS words.now place len }
     requires other_lies { Lies Q.BITS others.now other_place other_len }
+    requires least { from ≤ len }
+    requires other_least { from ≤ other_len }
+    requires same { (k : ℕ) → k < from → entry (read_by R.BitRegister O.position) words.now (place + k)
+        ≡ entry (read_by Q.BitRegister P.position) others.now (other_place + k) }
     ensures { result ≡ slice_cmp bool_cmp (piece (memory (read_by R.BitRegister O.position) words.now) place len)
         (piece (memory (read_by Q.BitRegister P.position) others.now) other_place other_len) }
 {
     let shorter = len.min(other_len);
+    if BLOCK <= from || shorter < BLOCK {
+        return compare_rest::<R, O, Q, P>(words, place, len, others, other_place, other_len, from);
+    }
     let same = agree_by_chunks::<R, O, Q, P>(words, place, others, other_place, BLOCK);
     if same == BLOCK && BLOCK < shorter {
         return compare_rest::<R, O, Q, P>(words, place, len, others, other_place, other_len, BLOCK);
@@ -66,7 +77,7 @@ fn compare_block<R: BitRegister, O: BitOrder<R>, Q: BitRegister, P: BitOrder<Q>>
     compare_at::<R, O, Q, P>(words, place, len, others, other_place, other_len, same)
 }
 
-// The same where the first bits are the same.
+// The same by blocks behind the first bits, which are the same.
 #[inline(never)]
 fn compare_rest<R: BitRegister, O: BitOrder<R>, Q: BitRegister, P: BitOrder<Q>>(
     words: &[R],

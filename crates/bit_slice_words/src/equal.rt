@@ -31,29 +31,33 @@ pub fn equal_in<R: BitRegister, O: BitOrder<R>, Q: BitRegister, P: BitOrder<Q>>(
     if few == len {
         return true;
     }
-    // A whole block costs less than a part of one, so the first bits are read again with it.
-    if few < BLOCK && BLOCK <= len {
-        return equal_block::<R, O, Q, P>(words, place, others, other_place, len);
-    }
-    equal_rest::<R, O, Q, P>(words, place, others, other_place, len, few)
+    equal_behind::<R, O, Q, P>(words, place, others, other_place, len, few)
 }
 
-// The same of at least 64 bits, by the first 64 as one block.
+// The same where the first `few` bits are the same, of at least 64 bits by the first 64 as one block: it costs less than a
+// part of one, so those are read again with it. Out of line, so that lists that differ early are compared by a short
+// function.
 #[inline(never)]
 #[tactic(auto, using(crate::proofs::SameLemmas::answers_no, crate::proofs::SameLemmas::answers_yes, crate::proofs::SameLemmas::windows_equal, crate::proofs::SameLemmas::windows_part))]
-fn equal_block<R: BitRegister, O: BitOrder<R>, Q: BitRegister, P: BitOrder<Q>>(
+fn equal_behind<R: BitRegister, O: BitOrder<R>, Q: BitRegister, P: BitOrder<Q>>(
     words: &[R],
     place: usize,
     others: &[Q],
     other_place: usize,
     len: usize,
+    few: usize,
 ) -> bool
-    requires some { 64 ≤ len }
+    requires few { few ≤ len }
     requires lies { Lies R.BITS words.now place len }
     requires other_lies { Lies Q.BITS others.now other_place len }
+    requires same { (k : ℕ) → k < few → entry (read_by R.BitRegister O.position) words.now (place + k)
+        ≡ entry (read_by Q.BitRegister P.position) others.now (other_place + k) }
     ensures { IsTrue result ↔ (piece (memory (read_by R.BitRegister O.position) words.now) place len
         ≡ piece (memory (read_by Q.BitRegister P.position) others.now) other_place len) }
 {
+    if BLOCK <= few || len < BLOCK {
+        return equal_rest::<R, O, Q, P>(words, place, others, other_place, len, few);
+    }
     if agree_by_chunks::<R, O, Q, P>(words, place, others, other_place, BLOCK) < BLOCK {
         return false;
     }
@@ -63,8 +67,7 @@ fn equal_block<R: BitRegister, O: BitOrder<R>, Q: BitRegister, P: BitOrder<Q>>(
     equal_rest::<R, O, Q, P>(words, place, others, other_place, len, BLOCK)
 }
 
-// The same where the first `few` bits are the same. Out of line, so that lists that differ early are compared by a short
-// function.
+// The same by blocks behind the first `few` bits, which are the same.
 #[inline(never)]
 #[tactic(auto, using(crate::proofs::SameLemmas::windows_agree))]
 fn equal_rest<R: BitRegister, O: BitOrder<R>, Q: BitRegister, P: BitOrder<Q>>(

@@ -1,5 +1,5 @@
 use Rattle.bit_addressing_memory.proofs.Common.{arith}
-use Rattle.bit_slice_words.proofs.compare.compare_block.Goals as goal
+use Rattle.bit_slice_words.proofs.compare.compare_behind.Goals as goal
 
 pub compare_at-requires-clause-agrees : goal.compare_at-requires-clause-agrees
 compare_at-requires-clause-agrees g c =

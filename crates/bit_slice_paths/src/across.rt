@@ -309,10 +309,10 @@ fn match_many<R: BitRegister, O: BitOrder<R>, Q: BitRegister, P: BitOrder<Q>>(
     }
 }
 
-// `match_bits` by rounds of whole words, or by blocks if words of both memories are not alike.
+/// `match_bits` by rounds of whole words, or by blocks if the bits are few or words of both memories are not alike.
 #[inline(always)]
 #[tactic(auto, using(crate::proofs::AcrossLemmas::matches_near))]
-fn match_behind<R: BitRegister, O: BitOrder<R>, Q: BitRegister, P: BitOrder<Q>>(
+pub fn match_behind<R: BitRegister, O: BitOrder<R>, Q: BitRegister, P: BitOrder<Q>>(
     words: &[R],
     place: usize,
     others: &[Q],

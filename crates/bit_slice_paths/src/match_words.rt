@@ -9,8 +9,13 @@ use crate::word_source::{Joined, WordSource};
 use bit_addressing_memory::{BitOrder, BitRegister, Straight};
 use std::marker::PhantomData;
 
-/// How many words are compared at once, before it is asked whether one differs.
-pub const ROUND: usize = 32;
+/// How many words are compared at once, before it is asked whether one differs: 64 bytes or more.
+#[inline(always)]
+pub fn round_words<R: BitRegister>() -> usize
+    ensures { 0 < result }
+{
+    if R::BITS == 8 { 64 } else { 32 }
+}
 
 #[derive(Drop)]
 struct Compare<'a, R> {
@@ -81,14 +86,15 @@ pub fn match_words<R: BitRegister, O: BitOrder<R>, S: WordSource<R, O>>(
     ensures differ { result < n → ((k : ℕ) → k < n * R.BITS
         → entry (read_by R.BitRegister O.position) words.now (first * R.BITS + k) ≡ S.bit source.now k) → ⊥ }
 {
-    let rounds = n / ROUND;
+    let size = round_words::<R>();
+    let rounds = n / size;
     for round in 0..rounds {
-        let done = ROUND * round;
-        if !same_words::<R, O, S>(words, first + done, source, done, ROUND) {
+        let done = size * round;
+        if !same_words::<R, O, S>(words, first + done, source, done, size) {
             return done;
         }
     }
-    let done = ROUND * rounds;
+    let done = size * rounds;
     if same_words::<R, O, S>(words, first + done, source, done, n - done) {
         n
     } else {

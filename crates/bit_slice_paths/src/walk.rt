@@ -2,7 +2,7 @@
 
 ghost use Rattle.std.specs.Prelude.{◌≡◌, ℕ, ◌+◌, ◌*◌, ◌/◌, ◌^◌, ◌<◌, ◌≤◌, true, false};
 
-use crate::match_words::ROUND;
+use crate::match_words::round_words;
 use bit_addressing_memory::mem::bits_of;
 use bit_addressing_memory::{BitOrder, BitRegister, bits_to_next_word};
 
@@ -32,7 +32,7 @@ pub trait Stretch<R: BitRegister, O: BitOrder<R>> {
         ensures stopped { result ≡ false → (s : Self) → Done s self.old done → IsStopped s };
 
     /// Does whole words behind the bits that are done, which end where a word does, and returns how many: `n`, or fewer
-    /// if it stops within the next `ROUND` words.
+    /// if it stops within the next `round_words`.
     fn words(&mut self, done: usize, n: usize) -> usize
         requires narrow { R.BITS ≤ 64 }
         requires whole { (at self.old + done) / R.BITS * R.BITS ≡ at self.old + done }
@@ -84,7 +84,7 @@ pub fn walk<R: BitRegister, O: BitOrder<R>, K: Stretch<R, O>>(
     let words = stretch.words(head, n);
     let done = head + words * bits;
     if words < n {
-        let round = words + (n - words).min(ROUND);
+        let round = words + (n - words).min(round_words::<R>());
         return Reached {
             done,
             seen: head + round * bits,

@@ -1,7 +1,8 @@
 -- The first and the last bit of a kind in a chunk of a memory, and in stretches of chunks end to end.
-use Rattle.bit_addressing_memory.proofs.Common.{◌≡◌, ℕ, ◌+◌, ◌-◌, ◌^◌, ◌==◌, ◌<◌, ◌≤◌, ◌≢◌, Bool, true, false, not}
-use Rattle.bit_addressing_memory.proofs.Common.{List, Option, Some, None, refl, sym, ap, ◌∙◌, inl, inr, arith}
-use Rattle.bit_addressing_memory.proofs.Common.{cases_lt, Reading, entry}
+use Rattle.bit_addressing_memory.proofs.Common.{◌≡◌, ℕ, ◌+◌, ◌-◌, ◌*◌, ◌^◌, ◌==◌, ◌<◌, ◌≤◌, ◌≢◌, Bool, true, false}
+use Rattle.bit_addressing_memory.proofs.Common.{not, List, Option, Some, None, length, position, refl, sym, ap, ◌∙◌, inl, inr, arith}
+use Rattle.bit_addressing_memory.proofs.Common.{cases_lt, Reading, entry, memory, piece}
+use Rattle.std.specs.Option.{option_map}
 use Rattle.std.proofs.lemmas.Nat.Bits.{bit_at_ones}
 use Rattle.bit_addressing_memory.specs.declared.direction.Direction.{Direction}
 use Rattle.bit_addressing_memory.specs.declared.direction.Direction.TheVariants.{Ascending, Descending}
@@ -10,7 +11,7 @@ use Rattle.bit_addressing_memory.specs.Straight.{straight}
 use Rattle.bit_slice_paths.specs.Chunk.{chunk_bit, IsChunk, IsRaised, AgreeTo}
 use Rattle.bit_slice_words.specs.Found.{is_bit}
 use Rattle.bit_slice_words.specs.Stretch.{bit_found, FirstAt, LastAt, IsFirst, IsLast, Nowhere}
-use Rattle.bit_slice_words.proofs.StretchLemmas.{nowhere_join}
+use Rattle.bit_slice_words.proofs.StretchLemmas.{nowhere_join, position_in}
 
 -- ---- a number without a bit
 
@@ -60,6 +61,17 @@ pub chunk_none : {R : Type 0} (reading : Reading R) (words : List R) (bit : Bool
     → Nowhere (bit_found reading words bit) place (place + n)
 chunk_none reading words bit place n direction chunk without at late had lacks agree =
     none_before reading words bit place n n direction chunk without at (omega arith) late had lacks agree
+
+-- a chunk that is such a number has the bit nowhere
+pub chunk_without : {R : Type 0} (reading : Reading R) (words : List R) (bit : Bool) (place : ℕ)
+    (direction : Direction) (chunk without : ℕ) → chunk ≡ without → IsChunk reading words place 64 direction chunk
+    → Lacks bit direction without → Nowhere (bit_found reading words bit) place (place + 64)
+chunk_without reading words bit place direction chunk without same had lacks p low high =
+    let i : ℕ = p - place in
+    let there : place + i ≡ p = omega arith in
+    ap (bit_found reading words bit) (sym there)
+    ∙ ap (is_bit bit) (sym (had.inside i (omega arith)) ∙ ap (λ c. chunk_bit direction c i) same)
+    ∙ lacks i (omega arith)
 
 -- the first of them is where the chunk differs
 pub chunk_first : {R : Type 0} (reading : Reading R) (words : List R) (bit : Bool) (place n : ℕ)
@@ -151,6 +163,17 @@ first_later passes from again mid upto (Some q) later early front found =
       here = found.here;
       before = nowhere_join passes from again q (λ p low high. front p low (omega arith)) found.before;
     }
+
+-- the first place behind some that have the bit nowhere, counted from the start of the stretch
+pub position_behind : {R : Type 0} (reading : Reading R) (words : List R) (bit : Bool) (place len done : ℕ)
+    (r : Option ℕ) → 0 < reading.bits → place + len ≤ length words * reading.bits → done ≤ len
+    → Nowhere (bit_found reading words bit) place (place + done)
+    → IsFirst (bit_found reading words bit) (place + done) (place + done + (len - done)) r
+    → option_map (λ p. p - place) r ≡ position (is_bit bit) (piece (memory reading words) place len)
+position_behind reading words bit place len done r some fits order front found =
+    let end : place + done + (len - done) ≡ place + len = omega arith in
+    position_in reading words bit place len r some fits (first_later (bit_found reading words bit) place (place + done)
+    (place + done) (place + len) r (omega arith) (omega arith) front (rw end at found))
 
 -- nowhere from a place on, and the last up to before that place or one behind it
 pub last_earlier : (passes : ℕ → Bool) (from mid again upto : ℕ) (r : Option ℕ) → mid ≤ again → again ≤ upto

@@ -1,9 +1,9 @@
 -- The true bits of words and of memories.
 --
 -- Pieces: `trues_join`, `trues_empty`, `trues_short`. One word: `trues_part`, `ones_digits`, `ones_part`. Word by word:
--- `ones_more`, `ones_bound`, `trues_all`. A stretch: `trues_one`, `trues_cut` (cut at its edges), `trues_fit`,
--- `falses_are`.
-use Rattle.bit_addressing_memory.proofs.Common.{◌≡◌, ℕ, ◌+◌, ◌-◌, ◌*◌, ◌^◌, ◌<◌, ◌≤◌, Bool, false, not, List, ◌++◌}
+-- `ones_more`, `ones_bound`, `trues_all`, `trues_orders`. A stretch: `trues_one`, `trues_cut` (cut at its edges),
+-- `trues_fit`, `falses_are`.
+use Rattle.bit_addressing_memory.proofs.Common.{◌≡◌, ℕ, ◌+◌, ◌-◌, ◌*◌, ◌^◌, ◌<◌, ◌≤◌, Bool, false, not, List, [], ◌∷◌, ◌++◌}
 use Rattle.bit_addressing_memory.proofs.Common.{Option, length, take, drop, get_or, count_by, refl, sym, ap, ◌∙◌}
 use Rattle.bit_addressing_memory.proofs.Common.{arith, Reading, reading_in, digits, memory, piece, IsMasked}
 use Rattle.std.specs.Int.RustNames.{count_ones}
@@ -160,6 +160,29 @@ trues_all reading words j ones all is =
     let size : length (memory reading words) ≡ j * reading.bits =
     length-memory reading words ∙ ap (λ k. k * reading.bits) (sym all) in
     is ∙ ap trues (piece_all (memory reading words) (j * reading.bits) size)
+
+-- words have as many true bits in one lawful order as in another
+pub trues_orders : {R : Type 0} (b : ℕ) (number : R → ℕ) (at its select its_select : ℕ → ℕ)
+    (mask its_mask : Option ℕ → Option ℕ → ℕ) (words : List R) → IsLawful b at select mask
+    → IsLawful b its its_select its_mask → ((x : R) → number x < 2 ^ b)
+    → trues (memory (reading_in b number at) words) ≡ trues (memory (reading_in b number its) words)
+unfolding memory
+trues_orders b number at its select its_select mask its_mask [] law its_law fits = refl
+trues_orders b number at its select its_select mask its_mask (x ∷ xs) law its_law fits =
+    let mine = reading_in b number at in
+    let other = reading_in b number its in
+    let sum : trues (digits mine x ++ memory mine xs) ≡ trues (digits mine x) + trues (memory mine xs) =
+    trues-append (digits mine x) (memory mine xs) in
+    let its_sum : trues (digits other x ++ memory other xs) ≡ trues (digits other x) + trues (memory other xs) =
+    trues-append (digits other x) (memory other xs) in
+    omega (
+      arith,
+      sum,
+      its_sum,
+      ones_digits b number at select mask x law (fits x),
+      ones_digits b number its its_select its_mask x its_law (fits x),
+      trues_orders b number at its select its_select mask its_mask xs law its_law fits,
+    )
 
 -- ---- a stretch
 

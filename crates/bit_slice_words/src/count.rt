@@ -5,7 +5,8 @@ ghost use Rattle.bit_addressing_memory.specs.Prelude.{Lies, digits, memory, piec
 
 use bit_addressing_memory::mem::bits_of;
 use bit_addressing_memory::{
-    BitEnd, BitIdx, BitOrder, BitRegister, COUNTED_BY_BLOCKS, Straight, between, edges_of, masked,
+    BitEnd, BitIdx, BitOrder, BitRegister, COUNTED_BY_BLOCKS, Direction, Lsb0, Straight, between,
+    edges_of, masked,
 };
 use bit_slice_paths::{read_bits, read_nth_chunk};
 
@@ -68,18 +69,18 @@ fn ones_of_part<R: BitRegister, O: BitOrder<R>>(word: R, from: u8, upto: u8) -> 
     ))
 }
 
-// How many bits of whole words are 1: of many narrow words 64 bits at a time.
+// How many bits of whole words are 1: of many narrow words 64 bits at a time, in the order of `Lsb0`, as there are as many
+// in any order.
 #[tactic(auto, using(crate::proofs::CountLemmas::trues_all))]
 fn ones_of_words<R: BitRegister, O: BitOrder<R>>(body: &[R]) -> usize
     requires { length body.now * R.BITS < 2 ^ 64 }
     ensures { result ≡ count_by (λ b. b) (memory (read_by R.BitRegister O.position) body.now) }
 {
-    match Straight::<R, O>::find() {
-        Some(straight) if R::BITS < 64 && body.len() >= COUNTED_BY_BLOCKS => {
-            ones_of_blocks::<R, O>(straight, body, body.len() * bits_of::<R>())
-        }
-        _ => ones_word_by_word::<R, O>(body),
+    if R::BITS < 64 && body.len() >= COUNTED_BY_BLOCKS {
+        let straight = Straight::new(Direction::Ascending);
+        return ones_of_blocks::<R, Lsb0>(straight, body, body.len() * bits_of::<R>());
     }
+    ones_word_by_word::<R, O>(body)
 }
 
 // How many of the first `len` bits are 1, by blocks of 64.

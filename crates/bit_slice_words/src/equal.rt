@@ -4,7 +4,9 @@ ghost use Rattle.std.specs.Prelude.{◌≡◌, ℕ, ◌+◌, ◌<◌, ◌≤◌,
 ghost use Rattle.bit_addressing_memory.specs.Prelude.{Lies, entry, memory, piece, read_by};
 
 use crate::agree::{BLOCK, agree_by_chunks, agree_rest, agree_singly, few_before_block};
-use bit_addressing_memory::{BitOrder, BitRegister};
+use bit_addressing_memory::mem::bits_of;
+use bit_addressing_memory::{BitOrder, BitRegister, FROM_BORDER, WHOLE_WORDS};
+use bit_slice_paths::across;
 
 /// Whether the `len` bits of the memory `words` from a place on are those of the memory `others` from another place
 /// on, in order. No bits are equal to no bits.
@@ -64,12 +66,18 @@ fn equal_behind<R: BitRegister, O: BitOrder<R>, Q: BitRegister, P: BitOrder<Q>>(
     if len == BLOCK {
         return true;
     }
-    equal_rest::<R, O, Q, P>(words, place, others, other_place, len, BLOCK)
+    // Of many bits those behind the last border of words in the block are compared again, so that words begin there.
+    let again = if R::BITS <= 64 && len >= FROM_BORDER {
+        place % bits_of::<R>()
+    } else {
+        0
+    };
+    equal_rest::<R, O, Q, P>(words, place, others, other_place, len, BLOCK - again)
 }
 
-// The same by blocks behind the first `few` bits, which are the same.
+// The same behind the first `few` bits, which are the same: by rounds of whole words, or of fewer bits by blocks.
 #[inline(never)]
-#[tactic(auto, using(crate::proofs::SameLemmas::windows_agree))]
+#[tactic(auto, using(crate::proofs::SameLemmas::windows_agree, crate::proofs::SameLemmas::windows_match))]
 fn equal_rest<R: BitRegister, O: BitOrder<R>, Q: BitRegister, P: BitOrder<Q>>(
     words: &[R],
     place: usize,
@@ -86,5 +94,10 @@ fn equal_rest<R: BitRegister, O: BitOrder<R>, Q: BitRegister, P: BitOrder<Q>>(
     ensures { IsTrue result ↔ (piece (memory (read_by R.BitRegister O.position) words.now) place len
         ≡ piece (memory (read_by Q.BitRegister P.position) others.now) other_place len) }
 {
+    let rest = len - few;
+    if rest >= WHOLE_WORDS {
+        let (at, other_at) = (place + few, other_place + few);
+        return across::match_behind::<R, O, Q, P>(words, at, others, other_at, rest).done == rest;
+    }
     agree_rest::<R, O, Q, P>(words, place, others, other_place, len, few) == len
 }

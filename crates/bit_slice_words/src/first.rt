@@ -6,12 +6,13 @@ ghost use Rattle.bit_slice_words.specs.Found.{is_bit};
 ghost use Rattle.bit_slice_words.specs.Stretch.{bit_found, IsFirst, Nowhere};
 
 use crate::lacking::lacks;
-use crate::parts::first_in_part;
+use crate::parts::{chunk_without, first_in_part};
 use bit_addressing_memory::mem::bits_of;
 use bit_addressing_memory::{
-    BitIdx, BitOrder, BitRegister, NEAR_WORDS, Straight, edges_of, read_bit,
+    BitIdx, BitOrder, BitRegister, Direction, Lsb0, NEAR_WORDS, Straight, edges_of, read_bit,
 };
 use bit_slice_paths::match_words::match_words;
+use bit_slice_paths::read_nth_chunk;
 use bit_slice_paths::word_source::Constant;
 
 /// The index of the first of the `len` bits from a place on that is `bit`, counted from that place; `None` where
@@ -19,6 +20,7 @@ use bit_slice_paths::word_source::Constant;
 ///
 /// A whole word that has no such bit is passed over by one comparison; where the order goes straight, a part of a word is
 /// looked at as one number. It answers as `first_one` of a slice in bitvec 1.1.1, and for false as `first_zero`.
+#[tactic(auto, using(crate::proofs::StretchLemmas::position_in))]
 pub fn first_in<R: BitRegister, O: BitOrder<R>>(
     words: &[R],
     place: usize,
@@ -28,53 +30,46 @@ pub fn first_in<R: BitRegister, O: BitOrder<R>>(
     requires lies { Lies R.BITS words.now place len }
     ensures { result ≡ position (is_bit bit) (piece (memory (read_by R.BitRegister O.position) words.now) place len) }
 {
-    if len > NEAR_WORDS * bits_of::<R>() {
-        return first_of_many::<R, O>(words, place, len, bit);
+    let near = len.min(NEAR_WORDS * bits_of::<R>());
+    if let Some(at) = first_place::<R, O>(words, place, near, bit, usize::MAX) {
+        return Some(at - place);
     }
-    first_by::<R, O>(words, place, len, bit, false)
+    if near == len {
+        return None;
+    }
+    first_behind::<R, O>(words, place, len, bit, near)
 }
 
-// The same of bits in many words: out of line, so that a search among few is a short function.
+// `first_in` where none of the first `done` bits is `bit`. Out of line, so that a search among few is a short function.
 #[inline(never)]
-fn first_of_many<R: BitRegister, O: BitOrder<R>>(
+#[tactic(auto, using(crate::proofs::ChunkedLemmas::position_behind))]
+fn first_behind<R: BitRegister, O: BitOrder<R>>(
     words: &[R],
     place: usize,
     len: usize,
     bit: bool,
+    done: usize,
 ) -> Option<usize>
     requires lies { Lies R.BITS words.now place len }
+    requires done { done ≤ len }
+    requires none { Nowhere (bit_found (read_by R.BitRegister O.position) words.now bit) place (place + done) }
     ensures { result ≡ position (is_bit bit) (piece (memory (read_by R.BitRegister O.position) words.now) place len) }
 {
-    first_by::<R, O>(words, place, len, bit, true)
-}
-
-// The same, by rounds of words behind the first ones if the words are many.
-#[inline(always)]
-#[tactic(auto, using(crate::proofs::StretchLemmas::position_in))]
-fn first_by<R: BitRegister, O: BitOrder<R>>(
-    words: &[R],
-    place: usize,
-    len: usize,
-    bit: bool,
-    are_many: bool,
-) -> Option<usize>
-    requires lies { Lies R.BITS words.now place len }
-    ensures { result ≡ position (is_bit bit) (piece (memory (read_by R.BitRegister O.position) words.now) place len) }
-{
-    match first_place::<R, O>(words, place, len, bit, are_many) {
+    match first_place::<R, O>(words, place + done, len - done, bit, 0) {
         Some(at) => Some(at - place),
         None => None,
     }
 }
 
-// The place of the first of some bits that is `bit`: in the first word, in the words between or in the last word.
+// The place of the first of some bits that is `bit`: in the first word, in the words between or in the last word. The first
+// `near_words` of those between are looked at one by one.
 #[inline(always)]
 fn first_place<R: BitRegister, O: BitOrder<R>>(
     words: &[R],
     place: usize,
     len: usize,
     bit: bool,
-    are_many: bool,
+    near_words: usize,
 ) -> Option<usize>
     requires lies { Lies R.BITS words.now place len }
     ensures { IsFirst (bit_found (read_by R.BitRegister O.position) words.now bit) place (place + len) result }
@@ -89,22 +84,25 @@ fn first_place<R: BitRegister, O: BitOrder<R>>(
     if let Some(at) = first_at::<R, O>(words, cut.first, cut.from, R::BITS, bit) {
         return Some(at);
     }
-    let next = next_word::<R, O>(words, cut.first + 1, cut.last, bit, are_many);
+    let next = next_word::<R, O>(words, cut.first + 1, cut.last, bit, near_words);
     let upto = if next == cut.last { cut.upto } else { R::BITS };
     first_at::<R, O>(words, next, 0, upto, bit)
 }
 
-// The first word from one number up to before another that has the bit, or the second number.
+// The first word from one number up to before another that has the bit, or the second number: of the first `near_words` one
+// by one, of the others by rounds.
 #[inline(always)]
+#[tactic(auto, using(crate::proofs::StretchLemmas::nowhere_join))]
 fn next_word<R: BitRegister, O: BitOrder<R>>(
     words: &[R],
     from: usize,
     upto: usize,
     bit: bool,
-    are_many: bool,
+    near_words: usize,
 ) -> usize
     requires order { from ≤ upto }
     requires within { upto ≤ length words.now }
+    requires ends { upto * R.BITS < 2 ^ 64 }
     ensures least { from ≤ result }
     ensures most { result ≤ upto }
     ensures none { Nowhere (bit_found (read_by R.BitRegister O.position) words.now bit)
@@ -112,32 +110,7 @@ fn next_word<R: BitRegister, O: BitOrder<R>>(
     ensures some { result < upto → ¬ Nowhere (bit_found (read_by R.BitRegister O.position) words.now bit)
         (result * R.BITS) ((result + 1) * R.BITS) }
 {
-    if are_many {
-        next_of_many::<R, O>(words, from, upto, bit)
-    } else {
-        next_near::<R, O>(words, from, upto, bit)
-    }
-}
-
-// `next_word`, word by word, and by rounds of words behind the first ones.
-#[inline(always)]
-#[tactic(auto, using(crate::proofs::StretchLemmas::nowhere_join))]
-fn next_of_many<R: BitRegister, O: BitOrder<R>>(
-    words: &[R],
-    from: usize,
-    upto: usize,
-    bit: bool,
-) -> usize
-    requires order { from ≤ upto }
-    requires within { upto ≤ length words.now }
-    ensures least { from ≤ result }
-    ensures most { result ≤ upto }
-    ensures none { Nowhere (bit_found (read_by R.BitRegister O.position) words.now bit)
-        (from * R.BITS) (result * R.BITS) }
-    ensures some { result < upto → ¬ Nowhere (bit_found (read_by R.BitRegister O.position) words.now bit)
-        (result * R.BITS) ((result + 1) * R.BITS) }
-{
-    let near = from + (upto - from).min(NEAR_WORDS);
+    let near = from + (upto - from).min(near_words);
     let next = next_near::<R, O>(words, from, near, bit);
     if next < near || near == upto {
         return next;
@@ -155,6 +128,7 @@ fn next_far<R: BitRegister, O: BitOrder<R>>(
 ) -> usize
     requires order { from ≤ upto }
     requires within { upto ≤ length words.now }
+    requires ends { upto * R.BITS < 2 ^ 64 }
     ensures least { from ≤ result }
     ensures most { result ≤ upto }
     ensures none { Nowhere (bit_found (read_by R.BitRegister O.position) words.now bit)
@@ -170,9 +144,9 @@ fn next_far<R: BitRegister, O: BitOrder<R>>(
     next_near::<R, O>(words, from + without, upto, bit)
 }
 
-// `next_word`, word by word.
+// `next_word`, word by word, behind the blocks of narrow words that are without the bit.
 #[inline(always)]
-#[tactic(auto, using(crate::proofs::StretchLemmas::nowhere_join, crate::proofs::StretchLemmas::nowhere_word))]
+#[tactic(auto, using(crate::proofs::StretchLemmas::nowhere_join, crate::proofs::StretchLemmas::nowhere_orders, crate::proofs::StretchLemmas::nowhere_word))]
 fn next_near<R: BitRegister, O: BitOrder<R>>(
     words: &[R],
     from: usize,
@@ -181,6 +155,7 @@ fn next_near<R: BitRegister, O: BitOrder<R>>(
 ) -> usize
     requires order { from ≤ upto }
     requires within { upto ≤ length words.now }
+    requires ends { upto * R.BITS < 2 ^ 64 }
     ensures least { from ≤ result }
     ensures most { result ≤ upto }
     ensures none { Nowhere (bit_found (read_by R.BitRegister O.position) words.now bit)
@@ -188,14 +163,44 @@ fn next_near<R: BitRegister, O: BitOrder<R>>(
     ensures some { result < upto → ¬ Nowhere (bit_found (read_by R.BitRegister O.position) words.now bit)
         (result * R.BITS) ((result + 1) * R.BITS) }
 {
+    let start = if R::BITS < 64 {
+        blocks_without::<R>(words, from, upto, bit)
+    } else {
+        from
+    };
     // Counted from 0, a round takes two instructions less.
-    for i in 0..upto - from {
-        let k = from + i;
+    for i in 0..upto - start {
+        let k = start + i;
         if !lacks::<R, O>(words[k], bit) {
             return k;
         }
     }
     upto
+}
+
+// Behind as many whole blocks of 64 bits as are without the bit: the number of a word. A block has it in any order or in
+// none, so it is read in that of `Lsb0`.
+#[inline(always)]
+#[tactic(auto, using(crate::proofs::ChunkedLemmas::chunk_without, crate::proofs::StretchLemmas::nowhere_join))]
+fn blocks_without<R: BitRegister>(words: &[R], from: usize, upto: usize, bit: bool) -> usize
+    requires order { from ≤ upto }
+    requires within { upto ≤ length words.now }
+    requires ends { upto * R.BITS < 2 ^ 64 }
+    ensures least { from ≤ result }
+    ensures most { result ≤ upto }
+    ensures none { Nowhere (bit_found (read_by R.BitRegister (λ i. i)) words.now bit)
+        (from * R.BITS) (result * R.BITS) }
+{
+    let bits = bits_of::<R>();
+    let straight = Straight::<R, Lsb0>::new(Direction::Ascending);
+    let without = chunk_without(bit);
+    let blocks = (upto - from) * bits / 64;
+    for k in 0..blocks {
+        if read_nth_chunk::<R, Lsb0>(straight, words, from * bits, k) != without {
+            return from + 64 * k / bits;
+        }
+    }
+    from + 64 * blocks / bits
 }
 
 // The place of the first bit that is `bit` in a part of a word.

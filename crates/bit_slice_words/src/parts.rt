@@ -73,7 +73,7 @@ pub(crate) fn last_in_part<R: BitRegister, O: BitOrder<R>>(
 // The number no bit of which is `bit`.
 #[inline(always)]
 #[tactic(auto, using(crate::proofs::ChunkedLemmas::lacks_zeros))]
-fn chunk_without(bit: bool) -> u64
+pub(crate) fn chunk_without(bit: bool) -> u64
     ensures { (direction : Direction) → (i : ℕ) → i < 64 → is_bit bit (chunk_bit direction result i) ≡ false }
 {
     if bit { 0 } else { u64::MAX }

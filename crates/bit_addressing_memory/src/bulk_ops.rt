@@ -128,7 +128,8 @@ pub const JOINED_WORDS: usize = 768;
 /// early, and then a round costs more than it saves.
 pub const NEAR_BITS: usize = 8_192;
 
-/// How many words are searched one by one for a bit before rounds of them are: a bit that is near is found sooner so.
+/// How many words are searched for a bit before rounds of them are, one by one or by blocks of 64 bits: a bit that is near is
+/// found sooner so.
 pub const NEAR_WORDS: usize = 256;
 
 /// From how many bits on blocks begin at a word of the first memory, so that each lies in as few words as it can.

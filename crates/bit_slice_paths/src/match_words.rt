@@ -9,12 +9,12 @@ use crate::word_source::{Joined, WordSource};
 use bit_addressing_memory::{BitOrder, BitRegister, Straight};
 use std::marker::PhantomData;
 
-/// How many words are compared at once, before it is asked whether one differs: 64 bytes or more.
+/// How many words are compared at once, before it is asked whether one differs: 64 to 512 bytes.
 #[inline(always)]
 pub fn round_words<R: BitRegister>() -> usize
     ensures { 0 < result }
 {
-    if R::BITS == 8 { 64 } else { 32 }
+    if R::BITS == 8 { 128 } else { 32 }
 }
 
 #[derive(Drop)]

@@ -62,17 +62,6 @@ pub chunk_none : {R : Type 0} (reading : Reading R) (words : List R) (bit : Bool
 chunk_none reading words bit place n direction chunk without at late had lacks agree =
     none_before reading words bit place n n direction chunk without at (omega arith) late had lacks agree
 
--- a chunk that is such a number has the bit nowhere
-pub chunk_without : {R : Type 0} (reading : Reading R) (words : List R) (bit : Bool) (place : ℕ)
-    (direction : Direction) (chunk without : ℕ) → chunk ≡ without → IsChunk reading words place 64 direction chunk
-    → Lacks bit direction without → Nowhere (bit_found reading words bit) place (place + 64)
-chunk_without reading words bit place direction chunk without same had lacks p low high =
-    let i : ℕ = p - place in
-    let there : place + i ≡ p = omega arith in
-    ap (bit_found reading words bit) (sym there)
-    ∙ ap (is_bit bit) (sym (had.inside i (omega arith)) ∙ ap (λ c. chunk_bit direction c i) same)
-    ∙ lacks i (omega arith)
-
 -- the first of them is where the chunk differs
 pub chunk_first : {R : Type 0} (reading : Reading R) (words : List R) (bit : Bool) (place n : ℕ)
     (direction : Direction) (chunk without at : ℕ) → n ≤ 64 → at < n → IsChunk reading words place n direction chunk
@@ -174,6 +163,22 @@ position_behind reading words bit place len done r some fits order front found =
     let end : place + done + (len - done) ≡ place + len = omega arith in
     position_in reading words bit place len r some fits (first_later (bit_found reading words bit) place (place + done)
     (place + done) (place + len) r (omega arith) (omega arith) front (rw end at found))
+
+-- the first place in a part of a stretch that has the bit nowhere before the part
+pub position_within : {R : Type 0} (reading : Reading R) (words : List R) (bit : Bool) (place len again done upto q : ℕ)
+    → 0 < reading.bits → place + len ≤ length words * reading.bits → place ≤ again → again ≤ place + done
+    → upto ≤ place + len → Nowhere (bit_found reading words bit) place (place + done)
+    → IsFirst (bit_found reading words bit) again upto (Some q)
+    → Some (q - place) ≡ position (is_bit bit) (piece (memory reading words) place len)
+position_within reading words bit place len again done upto q some fits least most within front found =
+    let most_q = found.high in
+    position_in reading words bit place len (Some q) some fits (first_later (bit_found reading words bit) place again
+    (place + done) (place + len) (Some q) least most front (record {
+      low = found.low;
+      high = omega arith;
+      here = found.here;
+      before = found.before;
+    }))
 
 -- nowhere from a place on, and the last up to before that place or one behind it
 pub last_earlier : (passes : ℕ → Bool) (from mid again upto : ℕ) (r : Option ℕ) → mid ≤ again → again ≤ upto

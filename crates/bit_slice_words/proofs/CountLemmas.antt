@@ -3,7 +3,8 @@
 -- Pieces: `trues_join`, `trues_empty`, `trues_short`. One word: `trues_part`, `ones_digits`, `ones_part`. Word by word:
 -- `ones_more`, `ones_bound`, `trues_all`, `trues_orders`. A stretch: `trues_one`, `trues_cut` (cut at its edges),
 -- `trues_fit`, `falses_are`.
-use Rattle.bit_addressing_memory.proofs.Common.{◌≡◌, ℕ, ◌+◌, ◌-◌, ◌*◌, ◌^◌, ◌<◌, ◌≤◌, Bool, false, not, List, [], ◌∷◌, ◌++◌}
+use Rattle.bit_addressing_memory.proofs.Common.{◌≡◌, ℕ, ◌+◌, ◌-◌, ◌*◌, ◌^◌, ◌<◌, ◌≤◌, Bool, false}
+use Rattle.bit_addressing_memory.proofs.Common.{not, List, [], ◌∷◌, ◌++◌}
 use Rattle.bit_addressing_memory.proofs.Common.{Option, length, take, drop, get_or, count_by, refl, sym, ap, ◌∙◌}
 use Rattle.bit_addressing_memory.proofs.Common.{arith, Reading, reading_in, digits, memory, piece, IsMasked}
 use Rattle.std.specs.Int.RustNames.{count_ones}

@@ -40,14 +40,6 @@ takes_no_more old new n had =
     let b = had.at_most in
     record { at_least = omega arith; at_most = omega (arith, groups_64 n, groups_one n) }
 
--- one step more, the last one
-pub takes_last : (old now new k most : ℕ) → k < most → new ≡ min (now + 1) most_steps → Takes old now k k
-    → Takes old new 1 most
-takes_last old now new k most h is had =
-    let a = had.at_least in
-    let b = had.at_most in
-    record { at_least = omega arith; at_most = omega arith }
-
 -- a step a bit, and then one for each 64 others
 pub takes_behind : (old now new few rest n : ℕ) → few + rest ≡ n → Takes old now few few
     → Takes now new (groups rest 64) (groups rest 64) → Takes old new (groups n 64) (groups n 1)

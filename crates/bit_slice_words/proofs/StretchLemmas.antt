@@ -1,16 +1,13 @@
 -- Where a bit is found in a stretch of a memory, word by word.
 --
--- One word: `lacks_is`, `digit_found`, `nowhere_word`, `word_nowhere`, `nowhere_part`, `first_part`, `last_part`. Words in
--- another order: `nowhere_orders`.
+-- One word: `lacks_is`, `digit_found`, `nowhere_word`, `word_nowhere`, `nowhere_part`, `first_part`, `last_part`.
 -- Words of the other bit: `nowhere_opposite`. Joined: `nowhere_join`, `first_of_cut`, `last_of_cut`.
 -- As an index of the list: `position_in`, `last_position_in`.
-use Rattle.bit_addressing_memory.proofs.Common.{◌≡◌, ℕ, ◌+◌, ◌-◌, ◌*◌, ◌/◌, ◌%◌, ◌^◌, ◌<◌, ◌≤◌, ◌↔◌, Bool, true, false}
-use Rattle.bit_addressing_memory.proofs.Common.{List, [], ◌∷◌, Option, Some, None, length, get_or, not, position, refl, sym, ap}
-use Rattle.bit_addressing_memory.proofs.Common.{◌∙◌, inl, inr, arith, cases_lt, Reading, reading_in, entry, indexed, memory, piece}
+use Rattle.bit_addressing_memory.proofs.Common.{◌≡◌, ℕ, ◌+◌, ◌-◌, ◌*◌, ◌^◌, ◌<◌, ◌≤◌, ◌↔◌, Bool, true, false, List}
+use Rattle.bit_addressing_memory.proofs.Common.{Option, Some, None, length, get_or, not, position, refl, sym, ap, ◌∙◌}
+use Rattle.bit_addressing_memory.proofs.Common.{inl, inr, arith, cases_lt, Reading, entry, indexed, memory, piece}
 use Rattle.std.specs.Option.{option_map}
 use Rattle.std.proofs.Math.Nat.{mul-le-mul_right}
-use Rattle.std.proofs.lemmas.List.{get_or_default}
-use Rattle.std.proofs.lemmas.Nat.{div_below, mod_below, div-add-mod'}
 use Rattle.bit_addressing_memory.specs.BitOrder.{IsLawful}
 use Rattle.bit_addressing_memory.specs.Bits.{digit_at}
 use Rattle.bit_addressing_memory.proofs.EntryLemmas.{entry_read}
@@ -106,43 +103,6 @@ last_part reading words bit j from upto i x low is within found =
           ∙ sym (digit_found reading words bit j k x (omega arith) low is)
           ∙ found.after k (omega arith) (omega arith);
     }
-
--- ---- words in another order
-
--- whole words that have a bit nowhere in the order of `Lsb0` have it nowhere in any lawful order
-pub nowhere_orders : {R : Type 0} (b : ℕ) (number : R → ℕ) (at select : ℕ → ℕ) (mask : Option ℕ → Option ℕ → ℕ)
-    (words : List R) (bit : Bool) (from upto : ℕ) → 0 < b → IsLawful b at select mask → upto ≤ length words
-    → Nowhere (bit_found (reading_in b number (λ i. i)) words bit) (from * b) (upto * b)
-    → Nowhere (bit_found (reading_in b number at) words bit) (from * b) (upto * b)
-nowhere_orders b number at select mask [] bit from upto some law within none p low high =
-    let empty : upto * b ≤ 0 * b = mul-le-mul_right b within in
-    absurd (omega arith)
-nowhere_orders b number at select mask (w ∷ ws) bit from upto some law within none p low high =
-    let mine = reading_in b number at in
-    let words = w ∷ ws in
-    let j : ℕ = p / b in
-    let i : ℕ = p % b in
-    let x = get_or words j w in
-    let small : i < b = mod_below p b some in
-    let less : j < upto = div_below p b upto some high in
-    let fits : j < length words = omega arith in
-    let is : x ≡ get_or words j x = get_or_default words j w x fits in
-    let there : j * b + i ≡ p = div-add-mod' p b in
-    let index : at i < b = law.in_range i small in
-    let begins : from * b ≤ j * b = elim (cases_lt j from) [
-      | inl early ↦
-          let row : (j + 1) * b ≤ from * b = mul-le-mul_right b (next_le j from early) in
-          omega arith
-      | inr later ↦ mul-le-mul_right b later
-    ] in
-    let ends : (j + 1) * b ≤ upto * b = mul-le-mul_right b (next_le j upto less) in
-    ap (bit_found mine words bit) (sym there)
-    ∙ sym (digit_found mine words bit j i x small fits is)
-    ∙ digit_found (reading_in b number (λ i. i)) words bit j (at i) x index fits is
-    ∙ none (j * b + at i) (omega arith) (omega arith)
-  where
-    next_le : (n m : ℕ) → n < m → n + 1 ≤ m
-    next_le n m low = omega arith
 
 -- ---- joined
 

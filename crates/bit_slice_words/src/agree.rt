@@ -110,7 +110,7 @@ fn agree_behind<R: BitRegister, O: BitOrder<R>, Q: BitRegister, P: BitOrder<Q>>(
     if same < few || few == len {
         return same;
     }
-    let rest = agree_by_chunks::<R, O, Q, P>(
+    let rest = across::difference::<R, O, Q, P>(
         words,
         place + few,
         others,
@@ -118,21 +118,4 @@ fn agree_behind<R: BitRegister, O: BitOrder<R>, Q: BitRegister, P: BitOrder<Q>>(
         len - few,
     );
     few + rest
-}
-
-// The same, by chunks.
-#[inline(always)]
-pub(crate) fn agree_by_chunks<R: BitRegister, O: BitOrder<R>, Q: BitRegister, P: BitOrder<Q>>(
-    words: &[R],
-    place: usize,
-    others: &[Q],
-    other_place: usize,
-    len: usize,
-) -> usize
-    requires lies { Lies R.BITS words.now place len }
-    requires other_lies { Lies Q.BITS others.now other_place len }
-    ensures { Agrees (read_by R.BitRegister O.position) words.now place
-        (read_by Q.BitRegister P.position) others.now other_place len result }
-{
-    across::difference::<R, O, Q, P>(words, place, others, other_place, len)
 }

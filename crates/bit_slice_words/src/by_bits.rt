@@ -1,5 +1,5 @@
 //! Word paths of at most one step a bit: what an order whose `SPAN` is 1 calls. A few bits go bit by bit, and all where the
-//! order turns no word quickly, one step for each; of others up to 64 are compared or combined in one step.
+//! order turns no word quickly, one step for each; others are compared or combined as by `by_words`.
 
 ghost use Rattle.std.specs.Prelude.{◌≡◌, ℕ, ◌+◌, ◌*◌, ◌^◌, ◌<◌, ◌≤◌, ◌↔◌, ◌&&◌, ◌||◌, length, IsTrue, true, false};
 ghost use Rattle.bit_addressing_memory.specs.Prelude.{Lies, entry, read_by, Copies, Overwrites};
@@ -7,16 +7,13 @@ ghost use Rattle.std.specs.Bool.{xor};
 ghost use Rattle.bit_slice_paths.specs.Combined.{combined_bit, Combines};
 ghost use Rattle.bit_slice_paths.specs.Steps.{groups, Takes};
 
-use crate::agree::{agree_by_chunks, few_to_compare};
+use crate::agree::few_to_compare;
 use crate::combine::combined;
 use bit_addressing_memory::{
     BitOrder, BitRegister, BulkOp, bit_loop_limit, read_entry, write_entry,
 };
 use bit_slice_paths::combining::{AndOp, Combining, CopyOp, OrOp, XorOp};
-use bit_slice_paths::{Steps, across};
-
-// How many bits are worked on at once, at most.
-const CHUNK: usize = 64;
+use bit_slice_paths::{Steps, by_words};
 
 /// `WordPaths::equal`, in at most one step a bit.
 #[tactic(auto, using(crate::proofs::PathLemmas::takes_behind, crate::proofs::PathLemmas::takes_behind_some))]
@@ -50,7 +47,7 @@ pub fn equal<R: BitRegister, O: BitOrder<R>>(
     if few == len {
         return true;
     }
-    equal_by_chunks::<R, O>(
+    by_words::equal::<R, O>(
         words,
         place + few,
         others,
@@ -58,42 +55,6 @@ pub fn equal<R: BitRegister, O: BitOrder<R>>(
         len - few,
         steps,
     )
-}
-
-// The same, by chunks, one step for each that is compared.
-#[tactic(auto, using(crate::proofs::PathLemmas::count_each, crate::proofs::PathLemmas::takes_last))]
-fn equal_by_chunks<R: BitRegister, O: BitOrder<R>>(
-    words: &[R],
-    place: usize,
-    others: &[R],
-    other_place: usize,
-    len: usize,
-    steps: &mut Steps,
-) -> bool
-    requires lies { Lies R.BITS words.now place len }
-    requires other_lies { Lies R.BITS others.now other_place len }
-    ensures value { IsTrue result ↔ ((k : ℕ) → k < len
-        → entry (read_by R.BitRegister O.position) words.now (place + k)
-        ≡ entry (read_by R.BitRegister O.position) others.now (other_place + k)) }
-    ensures same { result ≡ true → Takes steps.old steps.new (groups len 64) (groups len 64) }
-    ensures other { result ≡ false → Takes steps.old steps.new 1 (groups len 64) }
-{
-    for k in 0..len.div_ceil(CHUNK) {
-        let done = CHUNK * k;
-        let count = CHUNK.min(len - done);
-        let same = agree_by_chunks::<R, O, R, O>(
-            words,
-            place + done,
-            others,
-            other_place + done,
-            count,
-        );
-        steps.step();
-        if same < count {
-            return false;
-        }
-    }
-    true
 }
 
 /// `WordPaths::copy`, in at most one step a bit.
@@ -241,7 +202,7 @@ pub fn xor<R: BitRegister, O: BitOrder<R>>(
 }
 
 // Makes each of `len` bits what a combination makes of it and of one of another memory.
-#[tactic(auto, using(crate::proofs::PathLemmas::takes_bits, crate::proofs::PathLemmas::takes_no_more))]
+#[tactic(auto, using(crate::proofs::PathLemmas::count_each, crate::proofs::PathLemmas::takes_bits, crate::proofs::PathLemmas::takes_no_more, crate::proofs::ChangedStretchLemmas::stretch_none))]
 fn combine<H: Combining, R: BitRegister, O: BitOrder<R>>(
     words: &mut [R],
     place: usize,
@@ -256,57 +217,14 @@ fn combine<H: Combining, R: BitRegister, O: BitOrder<R>>(
         (combined_bit H.HOW) (read_by R.BitRegister O.position) others.now other_place }
     ensures steps { Takes steps.old steps.new (groups len 64) (groups len 1) }
 {
-    if len <= bit_loop_limit::<R, O>(BulkOp::Copy) {
-        combine_singly::<H, R, O>(words, place, others, other_place, len, steps);
-    } else {
-        combine_by_chunks::<H, R, O>(words, place, others, other_place, len, steps);
+    if len > bit_loop_limit::<R, O>(BulkOp::Copy) {
+        by_words::combine::<H, R, O>(words, place, others, other_place, len, steps);
+        return;
     }
-}
-
-// The same, bit by bit, one step for each.
-#[tactic(auto, using(crate::proofs::PathLemmas::count_each, crate::proofs::ChangedStretchLemmas::stretch_none))]
-fn combine_singly<H: Combining, R: BitRegister, O: BitOrder<R>>(
-    words: &mut [R],
-    place: usize,
-    others: &[R],
-    other_place: usize,
-    len: usize,
-    steps: &mut Steps,
-)
-    requires lies { Lies R.BITS words.old place len }
-    requires other_lies { Lies R.BITS others.now other_place len }
-    ensures combined { Combines (read_by R.BitRegister O.position) words.old words.new place len
-        (combined_bit H.HOW) (read_by R.BitRegister O.position) others.now other_place }
-    ensures steps { Takes steps.old steps.new len len }
-{
     for k in 0..len {
         let bit = read_entry::<R, O>(words, place + k);
         let other = read_entry::<R, O>(others, other_place + k);
         write_entry::<R, O>(words, place + k, combined(H::HOW, bit, other));
-        steps.step();
-    }
-}
-
-// The same, by chunks, one step for each.
-#[tactic(auto, using(crate::proofs::PathLemmas::count_each))]
-fn combine_by_chunks<H: Combining, R: BitRegister, O: BitOrder<R>>(
-    words: &mut [R],
-    place: usize,
-    others: &[R],
-    other_place: usize,
-    len: usize,
-    steps: &mut Steps,
-)
-    requires lies { Lies R.BITS words.old place len }
-    requires other_lies { Lies R.BITS others.now other_place len }
-    ensures combined { Combines (read_by R.BitRegister O.position) words.old words.new place len
-        (combined_bit H.HOW) (read_by R.BitRegister O.position) others.now other_place }
-    ensures steps { Takes steps.old steps.new (groups len 64) (groups len 64) }
-{
-    for k in 0..len.div_ceil(CHUNK) {
-        let done = CHUNK * k;
-        let count = CHUNK.min(len - done);
-        across::combine::<H, R, O, R, O>(words, place + done, others, other_place + done, count);
         steps.step();
     }
 }

@@ -6,8 +6,9 @@ ghost use Rattle.bit_slice_paths.specs.Agrees.{Agrees};
 ghost use Rattle.std.specs.Cmp.Lexicographic.{slice_cmp};
 ghost use Rattle.std.specs.Ordering.{bool_cmp};
 
-use crate::agree::{BLOCK, agree_by_chunks, agree_rest, few_before_block};
+use crate::agree::{BLOCK, agree_rest, few_before_block};
 use bit_addressing_memory::{BitOrder, BitRegister, read_entry};
+use bit_slice_paths::across;
 use std::cmp::Ordering;
 
 /// How the `len` bits of the memory `words` from a place on compare with the `other_len` bits of the memory `others`
@@ -70,7 +71,7 @@ fn compare_behind<R: BitRegister, O: BitOrder<R>, Q: BitRegister, P: BitOrder<Q>
     if BLOCK <= from || shorter < BLOCK {
         return compare_rest::<R, O, Q, P>(words, place, len, others, other_place, other_len, from);
     }
-    let same = agree_by_chunks::<R, O, Q, P>(words, place, others, other_place, BLOCK);
+    let same = across::difference::<R, O, Q, P>(words, place, others, other_place, BLOCK);
     if same == BLOCK && BLOCK < shorter {
         return compare_rest::<R, O, Q, P>(words, place, len, others, other_place, other_len, BLOCK);
     }

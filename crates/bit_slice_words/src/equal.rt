@@ -3,7 +3,7 @@
 ghost use Rattle.std.specs.Prelude.{◌≡◌, ℕ, ◌+◌, ◌<◌, ◌≤◌, ◌↔◌, IsTrue};
 ghost use Rattle.bit_addressing_memory.specs.Prelude.{Lies, entry, memory, piece, read_by};
 
-use crate::agree::{BLOCK, agree_by_chunks, agree_rest, agree_singly, few_before_block};
+use crate::agree::{BLOCK, agree_rest, agree_singly, few_before_block};
 use bit_addressing_memory::mem::bits_of;
 use bit_addressing_memory::{BitOrder, BitRegister, FROM_BORDER, WHOLE_WORDS};
 use bit_slice_paths::across;
@@ -60,7 +60,7 @@ fn equal_behind<R: BitRegister, O: BitOrder<R>, Q: BitRegister, P: BitOrder<Q>>(
     if BLOCK <= few || len < BLOCK {
         return equal_rest::<R, O, Q, P>(words, place, others, other_place, len, few);
     }
-    if agree_by_chunks::<R, O, Q, P>(words, place, others, other_place, BLOCK) < BLOCK {
+    if across::difference::<R, O, Q, P>(words, place, others, other_place, BLOCK) < BLOCK {
         return false;
     }
     if len == BLOCK {

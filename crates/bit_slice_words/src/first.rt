@@ -6,20 +6,20 @@ ghost use Rattle.bit_slice_words.specs.Found.{is_bit};
 ghost use Rattle.bit_slice_words.specs.Stretch.{bit_found, IsFirst, Nowhere};
 
 use crate::lacking::lacks;
-use crate::parts::{chunk_without, first_in_part};
+use crate::parts::{first_in_block, first_in_part};
 use bit_addressing_memory::mem::bits_of;
 use bit_addressing_memory::{
-    BitIdx, BitOrder, BitRegister, Direction, Lsb0, NEAR_WORDS, Straight, edges_of, read_bit,
+    BitIdx, BitOrder, BitRegister, NEAR_WORDS, Straight, edges_of, read_bit,
 };
 use bit_slice_paths::match_words::match_words;
-use bit_slice_paths::read_nth_chunk;
 use bit_slice_paths::word_source::Constant;
 
 /// The index of the first of the `len` bits from a place on that is `bit`, counted from that place; `None` where
 /// none is.
 ///
 /// A whole word that has no such bit is passed over by one comparison; where the order goes straight, a part of a word is
-/// looked at as one number. It answers as `first_one` of a slice in bitvec 1.1.1, and for false as `first_zero`.
+/// looked at as one number, and so are 64 bits of narrow words. It answers as `first_one` of a slice in bitvec 1.1.1, and for
+/// false as `first_zero`.
 #[tactic(auto, using(crate::proofs::StretchLemmas::position_in))]
 pub fn first_in<R: BitRegister, O: BitOrder<R>>(
     words: &[R],
@@ -30,18 +30,82 @@ pub fn first_in<R: BitRegister, O: BitOrder<R>>(
     requires lies { Lies R.BITS words.now place len }
     ensures { result ≡ position (is_bit bit) (piece (memory (read_by R.BitRegister O.position) words.now) place len) }
 {
-    let near = len.min(NEAR_WORDS * bits_of::<R>());
-    if let Some(at) = first_place::<R, O>(words, place, near, bit, usize::MAX) {
-        return Some(at - place);
+    if R::BITS < 64 && len >= 64 {
+        if let Some(straight) = Straight::<R, O>::find() {
+            if let Some(at) = first_in_block::<R, O>(straight, words, place, 0, bit) {
+                return Some(at - place);
+            }
+            return first_behind_block::<R, O>(words, place, len, bit);
+        }
     }
-    if near == len {
-        return None;
+    if len > NEAR_WORDS * bits_of::<R>() {
+        return first_of_many::<R, O>(words, place, len, bit);
     }
-    first_behind::<R, O>(words, place, len, bit, near)
+    match first_place::<R, O>(words, place, len, bit, false) {
+        Some(at) => Some(at - place),
+        None => None,
+    }
 }
 
-// `first_in` where none of the first `done` bits is `bit`. Out of line, so that a search among few is a short function.
+// The same of bits in many words. Out of line, so that a search among few is a short function.
 #[inline(never)]
+#[tactic(auto, using(crate::proofs::ChunkedLemmas::position_behind, crate::proofs::StretchLemmas::position_in))]
+fn first_of_many<R: BitRegister, O: BitOrder<R>>(
+    words: &[R],
+    place: usize,
+    len: usize,
+    bit: bool,
+) -> Option<usize>
+    requires many { NEAR_WORDS * R.BITS < len }
+    requires lies { Lies R.BITS words.now place len }
+    ensures { result ≡ position (is_bit bit) (piece (memory (read_by R.BitRegister O.position) words.now) place len) }
+{
+    let near = NEAR_WORDS * bits_of::<R>();
+    match first_place::<R, O>(words, place, near, bit, false) {
+        Some(at) => Some(at - place),
+        None => first_behind::<R, O>(words, place, len, bit, near),
+    }
+}
+
+// The same behind the first 64 bits, none of which is `bit`, of narrow words that go straight: by blocks that begin at the
+// last word border in those. Of a few words the last block ends with them. Out of line too, so it finds the direction for
+// itself.
+#[inline(never)]
+#[tactic(auto, using(crate::proofs::ChunkedLemmas::position_within))]
+fn first_behind_block<R: BitRegister, O: BitOrder<R>>(
+    words: &[R],
+    place: usize,
+    len: usize,
+    bit: bool,
+) -> Option<usize>
+    requires narrow { R.BITS ≤ 64 }
+    requires many { 64 ≤ len }
+    requires lies { Lies R.BITS words.now place len }
+    requires none { Nowhere (bit_found (read_by R.BitRegister O.position) words.now bit) place (place + 64) }
+    ensures { result ≡ position (is_bit bit) (piece (memory (read_by R.BitRegister O.position) words.now) place len) }
+{
+    let Some(straight) = Straight::<R, O>::find() else {
+        return first_behind::<R, O>(words, place, len, bit, 64);
+    };
+    let near = len.min(NEAR_WORDS * bits_of::<R>());
+    let done = 64 - place % bits_of::<R>();
+    let blocks = (near - done) / 64;
+    for k in 0..blocks {
+        if let Some(at) = first_in_block::<R, O>(straight, words, place + done, k, bit) {
+            return Some(at - place);
+        }
+    }
+    if near < len {
+        return first_behind::<R, O>(words, place, len, bit, done + 64 * blocks);
+    }
+    match first_in_block::<R, O>(straight, words, place + (len - 64), 0, bit) {
+        Some(at) => Some(at - place),
+        None => None,
+    }
+}
+
+// The same where none of the first `done` bits is `bit`: by rounds of words.
+#[inline(always)]
 #[tactic(auto, using(crate::proofs::ChunkedLemmas::position_behind))]
 fn first_behind<R: BitRegister, O: BitOrder<R>>(
     words: &[R],
@@ -55,21 +119,21 @@ fn first_behind<R: BitRegister, O: BitOrder<R>>(
     requires none { Nowhere (bit_found (read_by R.BitRegister O.position) words.now bit) place (place + done) }
     ensures { result ≡ position (is_bit bit) (piece (memory (read_by R.BitRegister O.position) words.now) place len) }
 {
-    match first_place::<R, O>(words, place + done, len - done, bit, 0) {
+    match first_place::<R, O>(words, place + done, len - done, bit, true) {
         Some(at) => Some(at - place),
         None => None,
     }
 }
 
-// The place of the first of some bits that is `bit`: in the first word, in the words between or in the last word. The first
-// `near_words` of those between are looked at one by one.
+// The place of the first of some bits that is `bit`: in the first word, in the words between, which go one by one or by
+// rounds, or in the last word.
 #[inline(always)]
 fn first_place<R: BitRegister, O: BitOrder<R>>(
     words: &[R],
     place: usize,
     len: usize,
     bit: bool,
-    near_words: usize,
+    by_rounds: bool,
 ) -> Option<usize>
     requires lies { Lies R.BITS words.now place len }
     ensures { IsFirst (bit_found (read_by R.BitRegister O.position) words.now bit) place (place + len) result }
@@ -84,25 +148,26 @@ fn first_place<R: BitRegister, O: BitOrder<R>>(
     if let Some(at) = first_at::<R, O>(words, cut.first, cut.from, R::BITS, bit) {
         return Some(at);
     }
-    let next = next_word::<R, O>(words, cut.first + 1, cut.last, bit, near_words);
+    let next = if by_rounds {
+        next_far::<R, O>(words, cut.first + 1, cut.last, bit)
+    } else {
+        next_near::<R, O>(words, cut.first + 1, cut.last, bit)
+    };
     let upto = if next == cut.last { cut.upto } else { R::BITS };
     first_at::<R, O>(words, next, 0, upto, bit)
 }
 
-// The first word from one number up to before another that has the bit, or the second number: of the first `near_words` one
-// by one, of the others by rounds.
+// The first word from one number up to before another that has the bit, or the second number: word by word.
 #[inline(always)]
-#[tactic(auto, using(crate::proofs::StretchLemmas::nowhere_join))]
-fn next_word<R: BitRegister, O: BitOrder<R>>(
+#[tactic(auto, using(crate::proofs::StretchLemmas::nowhere_join, crate::proofs::StretchLemmas::nowhere_word))]
+fn next_near<R: BitRegister, O: BitOrder<R>>(
     words: &[R],
     from: usize,
     upto: usize,
     bit: bool,
-    near_words: usize,
 ) -> usize
     requires order { from ≤ upto }
     requires within { upto ≤ length words.now }
-    requires ends { upto * R.BITS < 2 ^ 64 }
     ensures least { from ≤ result }
     ensures most { result ≤ upto }
     ensures none { Nowhere (bit_found (read_by R.BitRegister O.position) words.now bit)
@@ -110,15 +175,17 @@ fn next_word<R: BitRegister, O: BitOrder<R>>(
     ensures some { result < upto → ¬ Nowhere (bit_found (read_by R.BitRegister O.position) words.now bit)
         (result * R.BITS) ((result + 1) * R.BITS) }
 {
-    let near = from + (upto - from).min(near_words);
-    let next = next_near::<R, O>(words, from, near, bit);
-    if next < near || near == upto {
-        return next;
+    // Counted from 0, a round takes two instructions less.
+    for i in 0..upto - from {
+        let k = from + i;
+        if !lacks::<R, O>(words[k], bit) {
+            return k;
+        }
     }
-    next_far::<R, O>(words, near, upto, bit)
+    upto
 }
 
-// `next_word`, by rounds of words.
+// The same by rounds of words.
 #[inline(always)]
 fn next_far<R: BitRegister, O: BitOrder<R>>(
     words: &[R],
@@ -128,7 +195,6 @@ fn next_far<R: BitRegister, O: BitOrder<R>>(
 ) -> usize
     requires order { from ≤ upto }
     requires within { upto ≤ length words.now }
-    requires ends { upto * R.BITS < 2 ^ 64 }
     ensures least { from ≤ result }
     ensures most { result ≤ upto }
     ensures none { Nowhere (bit_found (read_by R.BitRegister O.position) words.now bit)
@@ -142,65 +208,6 @@ fn next_far<R: BitRegister, O: BitOrder<R>>(
     };
     let without = match_words::<R, O, Constant>(words, from, &source, upto - from);
     next_near::<R, O>(words, from + without, upto, bit)
-}
-
-// `next_word`, word by word, behind the blocks of narrow words that are without the bit.
-#[inline(always)]
-#[tactic(auto, using(crate::proofs::StretchLemmas::nowhere_join, crate::proofs::StretchLemmas::nowhere_orders, crate::proofs::StretchLemmas::nowhere_word))]
-fn next_near<R: BitRegister, O: BitOrder<R>>(
-    words: &[R],
-    from: usize,
-    upto: usize,
-    bit: bool,
-) -> usize
-    requires order { from ≤ upto }
-    requires within { upto ≤ length words.now }
-    requires ends { upto * R.BITS < 2 ^ 64 }
-    ensures least { from ≤ result }
-    ensures most { result ≤ upto }
-    ensures none { Nowhere (bit_found (read_by R.BitRegister O.position) words.now bit)
-        (from * R.BITS) (result * R.BITS) }
-    ensures some { result < upto → ¬ Nowhere (bit_found (read_by R.BitRegister O.position) words.now bit)
-        (result * R.BITS) ((result + 1) * R.BITS) }
-{
-    let start = if R::BITS < 64 {
-        blocks_without::<R>(words, from, upto, bit)
-    } else {
-        from
-    };
-    // Counted from 0, a round takes two instructions less.
-    for i in 0..upto - start {
-        let k = start + i;
-        if !lacks::<R, O>(words[k], bit) {
-            return k;
-        }
-    }
-    upto
-}
-
-// Behind as many whole blocks of 64 bits as are without the bit: the number of a word. A block has it in any order or in
-// none, so it is read in that of `Lsb0`.
-#[inline(always)]
-#[tactic(auto, using(crate::proofs::ChunkedLemmas::chunk_without, crate::proofs::StretchLemmas::nowhere_join))]
-fn blocks_without<R: BitRegister>(words: &[R], from: usize, upto: usize, bit: bool) -> usize
-    requires order { from ≤ upto }
-    requires within { upto ≤ length words.now }
-    requires ends { upto * R.BITS < 2 ^ 64 }
-    ensures least { from ≤ result }
-    ensures most { result ≤ upto }
-    ensures none { Nowhere (bit_found (read_by R.BitRegister (λ i. i)) words.now bit)
-        (from * R.BITS) (result * R.BITS) }
-{
-    let bits = bits_of::<R>();
-    let straight = Straight::<R, Lsb0>::new(Direction::Ascending);
-    let without = chunk_without(bit);
-    let blocks = (upto - from) * bits / 64;
-    for k in 0..blocks {
-        if read_nth_chunk::<R, Lsb0>(straight, words, from * bits, k) != without {
-            return from + 64 * k / bits;
-        }
-    }
-    from + 64 * blocks / bits
 }
 
 // The place of the first bit that is `bit` in a part of a word.

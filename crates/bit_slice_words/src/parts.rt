@@ -1,7 +1,7 @@
 //! The first and the last bit of a kind in a part of a word whose positions go straight, which is looked at as one number.
 
 ghost use Rattle.std.specs.Prelude.{◌≡◌, ℕ, ◌+◌, ◌-◌, ◌*◌, ◌^◌, ◌<◌, ◌≤◌, false, length};
-ghost use Rattle.bit_addressing_memory.specs.Memory.{read_by};
+ghost use Rattle.bit_addressing_memory.specs.Prelude.{Lies, read_by};
 ghost use Rattle.bit_addressing_memory.specs.declared.direction.Direction.{Direction};
 ghost use Rattle.bit_addressing_memory.specs.Straight.{straight};
 ghost use Rattle.bit_slice_paths.specs.Chunk.{chunk_bit};
@@ -10,7 +10,7 @@ ghost use Rattle.bit_slice_words.specs.Stretch.{bit_found, IsFirst, IsLast};
 
 use bit_addressing_memory::mem::bits_of;
 use bit_addressing_memory::{BitOrder, BitRegister, Direction, Straight};
-use bit_slice_paths::{first_difference, raised, read_part};
+use bit_slice_paths::{first_difference, raised, read_nth_chunk, read_part};
 
 // The place of the first bit that is `bit` in a part of a word, of up to 64 bits.
 #[inline(always)]
@@ -36,6 +36,29 @@ pub(crate) fn first_in_part<R: BitRegister, O: BitOrder<R>>(
     let before = first_difference(straight.direction, chunk, chunk_without(bit));
     if before < count as usize {
         Some(word * bits_of::<R>() + from as usize + before)
+    } else {
+        None
+    }
+}
+
+// The place of the first bit that is `bit` in the 64 bits `64 * k` behind a place.
+#[inline(always)]
+#[tactic(auto, using(crate::proofs::ChunkedLemmas::chunk_first, crate::proofs::ChunkedLemmas::chunk_none))]
+pub(crate) fn first_in_block<R: BitRegister, O: BitOrder<R>>(
+    straight: Straight<R, O>,
+    words: &[R],
+    place: usize,
+    k: usize,
+    bit: bool,
+) -> Option<usize>
+    requires lies { Lies R.BITS words.now (place + 64 * k) 64 }
+    ensures { IsFirst (bit_found (read_by R.BitRegister O.position) words.now bit)
+        (place + 64 * k) (place + 64 * k + 64) result }
+{
+    let chunk = read_nth_chunk::<R, O>(straight, words, place, k);
+    let before = first_difference(straight.direction, chunk, chunk_without(bit));
+    if before < 64 {
+        Some(place + 64 * k + before)
     } else {
         None
     }
@@ -73,7 +96,7 @@ pub(crate) fn last_in_part<R: BitRegister, O: BitOrder<R>>(
 // The number no bit of which is `bit`.
 #[inline(always)]
 #[tactic(auto, using(crate::proofs::ChunkedLemmas::lacks_zeros))]
-pub(crate) fn chunk_without(bit: bool) -> u64
+fn chunk_without(bit: bool) -> u64
     ensures { (direction : Direction) → (i : ℕ) → i < 64 → is_bit bit (chunk_bit direction result i) ≡ false }
 {
     if bit { 0 } else { u64::MAX }

@@ -8,4 +8,4 @@ returns g c =
     let all : c.agree_singly-same.result ≡ few = omega (arith, c.agree_singly-same.ensures.most, c.if-same-few.false) in
     agrees_more (read_by g.R.BitRegister g.O.Positions.position) (read_by g.Q.BitRegister g.P.Positions.position)
     c.args.words.now c.args.others.now c.args.place c.args.other_place few (c.args.len - few) c.args.len
-    c.agree_by_chunks-rest.result (omega arith) (λ low. omega arith) (rw all at c.agree_singly-same.ensures.same) c.agree_by_chunks-rest.ensures
+    c.difference-rest.result (omega arith) (λ low. omega arith) (rw all at c.agree_singly-same.ensures.same) c.difference-rest.ensures

@@ -7,5 +7,5 @@ returns-clause-value g c =
     let few = c.few_to_compare-few.result in
     let all : c.loop-k.k ≡ few = omega (arith, c.loop-k.auto.k-end) in
     equal_behind (read_by g.R.BitRegister g.O.Positions.position) c.args.words.now c.args.others.now c.args.place
-    c.args.other_place few (c.args.len - few) c.args.len c.equal_by_chunks.result
-    (omega (arith, c.few_to_compare-few.ensures)) (rw all at c.loop-k.invariant.same) c.equal_by_chunks.ensures.value
+    c.args.other_place few (c.args.len - few) c.args.len c.equal.result
+    (omega (arith, c.few_to_compare-few.ensures)) (rw all at c.loop-k.invariant.same) c.equal.ensures.value

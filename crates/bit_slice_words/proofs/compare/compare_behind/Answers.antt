@@ -3,7 +3,7 @@ use Rattle.bit_slice_words.proofs.compare.compare_behind.Goals as goal
 
 pub compare_at-requires-clause-agrees : goal.compare_at-requires-clause-agrees
 compare_at-requires-clause-agrees g c =
-    let agree = c.agree_by_chunks-same.ensures in
+    let agree = c.difference-same.ensures in
     record {
       most = omega (arith, agree.most);
       same = agree.same;

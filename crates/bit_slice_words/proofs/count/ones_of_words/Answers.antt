@@ -1,4 +1,4 @@
-use Rattle.bit_addressing_memory.proofs.Common.{◌*◌, length, refl, ◌∙◌, read_by}
+use Rattle.bit_addressing_memory.proofs.Common.{length, refl, ◌∙◌, read_by}
 use Rattle.bit_addressing_memory.specs.OrderLaws.{lsb0_lawful}
 use Rattle.bit_slice_words.proofs.CountLemmas.{trues_all, trues_orders}
 use Rattle.bit_slice_words.proofs.count.ones_of_words.Goals as goal

@@ -1,4 +1,4 @@
-use Rattle.bit_addressing_memory.proofs.Common.{◌-◌, arith, false≢true, read_by}
+use Rattle.bit_addressing_memory.proofs.Common.{arith, false≢true, read_by}
 use Rattle.bit_slice_words.proofs.StretchLemmas.{word_nowhere}
 use Rattle.bit_slice_words.proofs.last.word_before.Goals as goal
 

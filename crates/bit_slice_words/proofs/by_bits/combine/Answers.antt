@@ -2,7 +2,7 @@ use Rattle.bit_addressing_memory.specs.Memory.{read_by}
 use Rattle.bit_slice_paths.specs.Combined.{combined_bit}
 use Rattle.bit_slice_paths.proofs.StepLemmas.{takes_more}
 use Rattle.bit_slice_words.proofs.ChangedStretchLemmas.{combines_more}
-use Rattle.bit_slice_words.proofs.by_bits.combine_singly.Goals as goal
+use Rattle.bit_slice_words.proofs.by_bits.combine.Goals as goal
 
 pub loop-k-preserved : goal.loop-k-preserved
 loop-k-preserved g c =

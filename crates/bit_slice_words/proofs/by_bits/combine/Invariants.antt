@@ -1,7 +1,7 @@
 use Rattle.bit_addressing_memory.specs.Memory.{read_by}
 use Rattle.bit_slice_paths.specs.Combined.{combined_bit, Combines}
 use Rattle.bit_slice_paths.specs.Steps.{Takes}
-use Rattle.bit_slice_words.proofs.by_bits.combine_singly.Given as goal
+use Rattle.bit_slice_words.proofs.by_bits.combine.Given as goal
 
 abbrev pub invariant-loop-k : goal.invariant-loop-k
 invariant-loop-k g l =

@@ -1,0 +1,142 @@
+-- The digits of chunks moved, cut, and made of words.
+use Rattle.std.proofs.Common.{◌≡◌, ℕ, ◌+◌, ◌-◌, ◌*◌, ◌/◌, ◌%◌, ◌^◌, ◌==◌, ◌<◌, ◌≤◌, false, ap, ◌∙◌, arith}
+use Rattle.std.proofs.lemmas.Nat.Bits.{bit_at_above}
+use Rattle.std.specs.Int.{bit_at}
+use Rattle.bit_addressing_memory.specs.declared.direction.Direction.{Direction}
+use Rattle.bit_addressing_memory.specs.declared.direction.Direction.TheVariants.{Ascending, Descending}
+use Rattle.bit_addressing_memory.proofs.ShiftLemmas.{bit_at_shr, bit_at_cut, bit_at_shl_low, bit_at_shl_high}
+use Rattle.bit_blocks.specs.Chunk.{chunk_bit, IsLowered, IsRaised, IsCut, IsRest, IsPart, IsPlaced}
+
+-- ---- digits as truth values, at a place that is known by an equation
+
+up : (n m p q : ℕ) → bit_at n p ≡ bit_at m q → (bit_at n p == 1) ≡ (bit_at m q == 1)
+up n m p q e = ap (λ d. d == 1) e
+
+none : (n p : ℕ) → bit_at n p ≡ 0 → (bit_at n p == 1) ≡ false
+none n p e = ap (λ d. d == 1) e
+
+-- ---- one chunk
+
+-- moved towards bit 0
+pub lowered_up : (n s r : ℕ) → n < 2 ^ 64 → r ≡ n / 2 ^ s → IsLowered Ascending n s r
+lowered_up n s r fits is = record {
+  inside = λ i low. up r n i (i + s) (ap (λ m. bit_at m i) is ∙ bit_at_shr n s i);
+  past = λ i small far.
+      none r i (ap (λ m. bit_at m i) is ∙ bit_at_shr n s i ∙ bit_at_above n 64 (i + s) fits far);
+}
+
+pub lowered_down : (n s r : ℕ) → r ≡ n * 2 ^ s % 2 ^ 64 → IsLowered Descending n s r
+lowered_down n s r is = record {
+  inside = λ i low.
+      let at : 64 - 1 - i - s ≡ 64 - 1 - (i + s) = omega arith in
+      up r n (64 - 1 - i) (64 - 1 - (i + s)) (ap (λ m. bit_at m (64 - 1 - i)) is
+      ∙ bit_at_cut (n * 2 ^ s) 64 (64 - 1 - i) (omega arith)
+      ∙ bit_at_shl_high n s (64 - 1 - i) (omega arith)
+      ∙ ap (bit_at n) at);
+  past = λ i small far.
+      none r (64 - 1 - i) (ap (λ m. bit_at m (64 - 1 - i)) is
+      ∙ bit_at_cut (n * 2 ^ s) 64 (64 - 1 - i) (omega arith)
+      ∙ bit_at_shl_low n s (64 - 1 - i) (omega arith));
+}
+
+-- moved away from bit 0
+pub raised_up : (n s r : ℕ) → s < 64 → r ≡ n * 2 ^ s % 2 ^ 64 → IsRaised Ascending n s r
+raised_up n s r small is = record {
+  below = λ i low.
+      none r i (ap (λ m. bit_at m i) is ∙ bit_at_cut (n * 2 ^ s) 64 i (omega arith) ∙ bit_at_shl_low n s i low);
+  above = λ i high low.
+      up r n i (i - s) (ap (λ m. bit_at m i) is
+      ∙ bit_at_cut (n * 2 ^ s) 64 i low
+      ∙ bit_at_shl_high n s i high);
+}
+
+pub raised_down : (n s r : ℕ) → n < 2 ^ 64 → s < 64 → r ≡ n / 2 ^ s → IsRaised Descending n s r
+raised_down n s r fits small is = record {
+  below = λ i low.
+      none r (64 - 1 - i) (ap (λ m. bit_at m (64 - 1 - i)) is
+      ∙ bit_at_shr n s (64 - 1 - i)
+      ∙ bit_at_above n 64 (64 - 1 - i + s) fits (omega arith));
+  above = λ i high low.
+      let at : 64 - 1 - i + s ≡ 64 - 1 - (i - s) = omega arith in
+      up r n (64 - 1 - i) (64 - 1 - (i - s)) (ap (λ m. bit_at m (64 - 1 - i)) is
+      ∙ bit_at_shr n s (64 - 1 - i)
+      ∙ ap (bit_at n) at);
+}
+
+-- moved away and back
+pub cut_is : (direction : Direction) (n count above mid r : ℕ) → 0 < count → count ≤ 64 → above ≡ 64 - count
+    → IsRaised direction n above mid → IsLowered direction mid above r → IsCut direction n count r
+cut_is direction n count above mid r some few is had then = record {
+  inside = λ i low.
+      let back : i + above - above ≡ i = omega arith in
+      then.inside i (omega arith) ∙ had.above (i + above) (omega arith) (omega arith) ∙ ap (chunk_bit direction n) back;
+  past = λ i high small. then.past i small (omega arith);
+}
+
+-- moved there and away again
+pub rest_is : (direction : Direction) (n from mid r : ℕ) → IsLowered direction n from mid
+    → IsRaised direction mid from r → IsRest direction n from r
+rest_is direction n from mid r had then = record {
+  below = then.below;
+  above = λ i high low.
+      let back : i - from + from ≡ i = omega arith in
+      then.above i high low ∙ had.inside (i - from) (omega arith) ∙ ap (chunk_bit direction n) back;
+}
+
+-- ---- a chunk of a word
+
+pub part_up_is : (b n from r : ℕ) → n < 2 ^ b → r ≡ n / 2 ^ from % 2 ^ 64 → IsPart Ascending b n from r
+part_up_is b n from r fits is = record {
+  inside = λ i small low.
+      let at : i + from ≡ from + i = omega arith in
+      up r n i (from + i) (ap (λ m. bit_at m i) is
+      ∙ bit_at_cut (n / 2 ^ from) 64 i small
+      ∙ bit_at_shr n from i
+      ∙ ap (bit_at n) at);
+  past = λ i small far.
+      none r i (ap (λ m. bit_at m i) is
+      ∙ bit_at_cut (n / 2 ^ from) 64 i small
+      ∙ bit_at_shr n from i
+      ∙ bit_at_above n b (i + from) fits (omega arith));
+}
+
+pub part_down_is : (b n from s r : ℕ) → b ≤ 128 → from < b → s ≡ 128 - b + from → r ≡ n * 2 ^ s % 2 ^ 128 / 2 ^ 64
+    → IsPart Descending b n from r
+part_down_is b n from s r most index by is = record {
+  inside = λ i small low.
+      let at : 64 - 1 - i + 64 - s ≡ b - 1 - (from + i) = omega arith in
+      up r n (64 - 1 - i) (b - 1 - (from + i)) (digit i small
+      ∙ bit_at_shl_high n s (64 - 1 - i + 64) (omega arith)
+      ∙ ap (bit_at n) at);
+  past = λ i small far.
+      none r (64 - 1 - i) (digit i small ∙ bit_at_shl_low n s (64 - 1 - i + 64) (omega arith));
+}
+  where
+    digit : (i : ℕ) → i < 64 → bit_at r (64 - 1 - i) ≡ bit_at (n * 2 ^ s) (64 - 1 - i + 64)
+    digit i small =
+        ap (λ m. bit_at m (64 - 1 - i)) is
+        ∙ bit_at_shr (n * 2 ^ s % 2 ^ 128) 64 (64 - 1 - i)
+        ∙ bit_at_cut (n * 2 ^ s) 128 (64 - 1 - i + 64) (omega arith)
+
+-- ---- a word of a chunk
+
+pub placed_up_is : (b n from r : ℕ) → b ≤ 128 → r ≡ n * 2 ^ from % 2 ^ 128 % 2 ^ b → IsPlaced Ascending n from b r
+placed_up_is b n from r most is i high low near =
+    up r n i (i - from) (ap (λ m. bit_at m i) is
+    ∙ bit_at_cut (n * 2 ^ from % 2 ^ 128) b i low
+    ∙ bit_at_cut (n * 2 ^ from) 128 i (omega arith)
+    ∙ bit_at_shl_high n from i high)
+
+pub placed_down_is : (b n from t r : ℕ) → b ≤ 128 → from < b → t ≡ 128 - b
+    → r ≡ n * 2 ^ 64 % 2 ^ 128 / 2 ^ from / 2 ^ t % 2 ^ b → IsPlaced Descending n from b r
+placed_down_is b n from t r most index by is i high low near =
+    let x : ℕ = n * 2 ^ 64 % 2 ^ 128 in
+    let p : ℕ = b - 1 - i in
+    let at : p + t + from - 64 ≡ 64 - 1 - (i - from) = omega arith in
+    up r n (b - 1 - i) (64 - 1 - (i - from)) (ap (λ m. bit_at m p) is
+    ∙ bit_at_cut (x / 2 ^ from / 2 ^ t) b p (omega arith)
+    ∙ bit_at_shr (x / 2 ^ from) t p
+    ∙ bit_at_shr x from (p + t)
+    ∙ bit_at_cut (n * 2 ^ 64) 128 (p + t + from) (omega arith)
+    ∙ bit_at_shl_high n 64 (p + t + from) (omega arith)
+    ∙ ap (bit_at n) at)

@@ -1,0 +1,7 @@
+use Rattle.bit_addressing_memory.proofs.Common.{◌+◌, ◌-◌, ◌*◌, indexed, read_by, IsStored}
+use Rattle.bit_blocks.proofs.reorder.spread_blocks.Given as goal
+
+abbrev pub invariant-loop-t : goal.invariant-loop-t
+invariant-loop-t g l =
+    IsStored (read_by g.Q.BitRegister g.P.Positions.position) l.fn.target l.made l.from (l.from + 8 * l.t)
+    (λ i. indexed g.R.BitRegister.number g.O.Positions.position l.source (l.first + (i - l.from)))

@@ -1,0 +1,10 @@
+pub mod Moves
+pub mod MoveSteps
+pub mod Sweep
+pub mod Ways
+-- what public clauses cite of the crates below
+pub use Rattle.bit_addressing_memory.specs.BitOrder
+pub use Rattle.bit_addressing_memory.specs.BitRegister
+pub use Rattle.bit_addressing_memory.specs.Bits
+pub use Rattle.bit_addressing_memory.specs.Memory
+pub use Rattle.bit_addressing_memory.specs.Straight

@@ -1,0 +1,300 @@
+//! Bits that move inside one memory: each word of the target is gathered and then written once.
+
+ghost use Rattle.std.specs.Prelude.{◌≡◌, ◌+◌, ◌-◌, ◌*◌, ◌/◌, ◌^◌, ◌<◌, ◌≤◌, IfSome, length, min};
+ghost use Rattle.bit_addressing_memory.specs.Prelude.{Lies, read_by, entry, touched, IsStored};
+ghost use Rattle.bit_addressing_memory.specs.Straight.{IsStraight};
+ghost use Rattle.bit_moves.specs.Moves.{Moves, changed};
+ghost use Rattle.bit_moves.specs.MoveSteps.{IsGathered, PutsWords};
+ghost use Rattle.bit_moves.specs.Sweep.{IsFresh, SameButReads, sweep_lender, way_of, sweep_words, writes_of};
+ghost use Rattle.bit_moves.specs.Sweep.{reads_of};
+ghost use Rattle.bit_moves.specs.Ways.{way_for};
+
+use bit_addressing_memory::{BulkOp, bit_loop_limit};
+use bit_addressing_memory::Straight;
+use bit_addressing_memory::{read_bit, write_bit};
+use crate::one_place::{OneDown, OneUp};
+use crate::shifted::{Shifted, with_shifted};
+use crate::sweep::Sweep;
+use crate::words::{MovedWords, part_of_word, put_words};
+use bit_addressing_memory::mem::bits_of;
+use bit_addressing_memory::{BitIdx, BitOrder, BitRegister};
+
+/// Moves `len` bits of the words of a fresh sweep from the place `source` on to the place `target` on,
+/// in the order `O`; the two may overlap. A place is a number: word times `BITS`, plus the index there.
+///
+/// Afterwards the target's bits are what the source's were, and each other bit is as before. Every
+/// word is written once at most, and no more words than the target touches. `way_for` has the way of
+/// the sweep.
+///
+/// Where the positions go straight with the indices, up or down over the whole word, each word is made
+/// by shifts, and at most three words are read for each that the target touches.
+#[inline(always)]
+#[tactic(auto, using(crate::proofs::Changes::unchanged))]
+pub fn move_in<R: BitRegister, O: BitOrder<R>>(
+    sweep: &mut Sweep<'_, R>,
+    source: usize,
+    target: usize,
+    len: usize,
+)
+    requires fresh { IsFresh sweep.old (way_for source target) }
+    requires source_within { source + len ≤ length (sweep_words sweep.old) * R.BITS }
+    requires target_within { target + len ≤ length (sweep_words sweep.old) * R.BITS }
+    requires source_ends { source + len < 2 ^ 64 }
+    requires target_ends { target + len < 2 ^ 64 }
+    ensures moved { Moves (read_by R.BitRegister O.position) (sweep_words sweep.old) (sweep_words sweep.new)
+        source target len }
+
+    // Its writes: at most the words that the target touches, at least the words that became other ones.
+    ensures writes { writes_of sweep.new ≤ touched R.BITS target len }
+    ensures changed { changed R.number (sweep_words sweep.old) (sweep_words sweep.new) ≤ writes_of sweep.new }
+
+    // Its reads, where the positions go straight with the indices.
+    ensures reads { IsStraight R.BITS O.position → reads_of sweep.new ≤ 3 * touched R.BITS target len }
+
+    // What stays.
+    ensures way { way_of sweep.new ≡ way_of sweep.old }
+    ensures lender { sweep_lender sweep.new ≡ sweep_lender sweep.old }
+{
+    if len == 0 {
+        return;
+    }
+    let Some(straight) = Straight::<R, O>::find() else {
+        let moved = Turned::<R, O> {
+            source,
+            target,
+            len,
+            order: PhantomData,
+        };
+        put_words::<R, O, Turned<R, O>>(sweep, &moved, source, target, len);
+        return;
+    };
+    if source + 1 == target {
+        let moved = OneUp {
+            straight,
+            source,
+            target,
+            len,
+        };
+        put_words::<R, O, OneUp<R, O>>(sweep, &moved, source, target, len);
+    } else if target + 1 == source {
+        let moved = OneDown {
+            straight,
+            source,
+            target,
+            len,
+        };
+        put_words::<R, O, OneDown<R, O>>(sweep, &moved, source, target, len);
+    } else {
+        let moved = Shifted::new(straight, source, target, len);
+        put_words::<R, O, Shifted<R, O>>(sweep, &moved, source, target, len);
+    }
+}
+
+// A move in an order whose positions go neither up nor down.
+#[derive(Drop)]
+struct Turned<R: BitRegister, O: BitOrder<R>> {
+    source: usize,
+    target: usize,
+    len: usize,
+    order: PhantomData<(R, O)>,
+    ghost odd: { IsStraight R.BITS O.position → ⊥ },
+}
+
+impl<R: BitRegister, O: BitOrder<R>> MovedWords<R, O> for Turned<R, O> {
+    ghost source = { λ s. s.source };
+
+    ghost target = { λ s. s.target };
+
+    ghost len = { λ s. s.len };
+
+    #[inline(always)]
+    fn put_edge(&self, sweep: &mut Sweep<'_, R>, k: usize) {
+        put_edge::<R, O>(sweep, None, k, self.source, self.target, self.len);
+    }
+
+    #[inline(always)]
+    fn put_whole(&self, sweep: &mut Sweep<'_, R>, k: usize) {
+        put_edge::<R, O>(sweep, None, k, self.source, self.target, self.len);
+    }
+}
+
+// Puts the word `k` of a move with its own bits beside those of the target.
+#[inline(never)]
+pub(crate) fn put_edge<R: BitRegister, O: BitOrder<R>>(
+    sweep: &mut Sweep<'_, R>,
+    straight: Option<Straight<R, O>>,
+    k: usize,
+    source: usize,
+    target: usize,
+    len: usize,
+)
+    requires past { IsPast (way_of sweep.old) (edge_of sweep.old) k }
+    requires source_lies { Lies R.BITS (sweep_words sweep.old) source len }
+    requires target_lies { Lies R.BITS (sweep_words sweep.old) target len }
+    requires begins { k * R.BITS < target + len }
+    requires ends { target < k * R.BITS + R.BITS }
+    ensures put { PutsWords (read_by R.BitRegister O.position) sweep.old sweep.new source target len k (k + 1) }
+    ensures edge { edge_of sweep.new ≡ edge_after (way_of sweep.old) k }
+    ensures reads { IfSome straight (λ _. reads_of sweep.new ≤ reads_of sweep.old + 3) }
+{
+    let (from, upto) = part_of_word::<R>(k, target, len);
+    let own = sweep.read(k);
+    let place = source + (k * bits_of::<R>() + from - target);
+    let word = taken::<R, O>(sweep, straight, place, own, from as u8, upto as u8);
+    sweep.put(k, word);
+}
+
+/// A word with the bits of a sweep's words from a place on at its indices from one up to before another: by shifts where
+/// the positions go in a direction, else by limbs, or one by one. Its other bits stay. Each word that is read is counted
+/// where it is read: at least one, at most one for each bit, and in a direction those that the bits touch, each once.
+#[inline(always)]
+#[tactic(auto, using(crate::proofs::PlaceLemmas::touched_few, crate::proofs::PlaceLemmas::touched_some))]
+pub fn taken<R: BitRegister, O: BitOrder<R>>(
+    sweep: &mut Sweep<'_, R>,
+    straight: Option<Straight<R, O>>,
+    place: usize,
+    own: R,
+    from: u8,
+    upto: u8,
+) -> R
+    requires order { from < upto }
+    requires index { upto ≤ R.BITS }
+    requires lies { Lies R.BITS (sweep_words sweep.old) place (upto - from) }
+    ensures stored { IsStored (read_by R.BitRegister O.position) own result from upto
+        (λ i. entry (read_by R.BitRegister O.position) (sweep_words sweep.old) (place + (i - from))) }
+    ensures reads { reads_of sweep.new ≤ reads_of sweep.old + (upto - from) }
+    ensures some { min (reads_of sweep.old + 1) (2 ^ 64 - 1) ≤ reads_of sweep.new }
+    ensures straight { IfSome straight (λ _. reads_of sweep.new
+        ≡ min (reads_of sweep.old + touched R.BITS place (upto - from)) (2 ^ 64 - 1)) }
+    ensures same { SameButReads sweep.old sweep.new }
+    ensures lender { sweep_lender sweep.new ≡ sweep_lender sweep.old }
+{
+    match straight {
+        Some(straight) => with_shifted::<R, O>(sweep, straight, place, own, from, upto),
+        None => taken_turned::<R, O>(sweep, place, own, from, upto),
+    }
+}
+
+// The same in an order that goes neither way: by blocks, or one by one.
+#[inline(always)]
+fn taken_turned<R: BitRegister, O: BitOrder<R>>(
+    sweep: &mut Sweep<'_, R>,
+    place: usize,
+    own: R,
+    from: u8,
+    upto: u8,
+) -> R
+    requires order { from < upto }
+    requires index { upto ≤ R.BITS }
+    requires lies { Lies R.BITS (sweep_words sweep.old) place (upto - from) }
+    ensures stored { IsStored (read_by R.BitRegister O.position) own result from upto
+        (λ i. entry (read_by R.BitRegister O.position) (sweep_words sweep.old) (place + (i - from))) }
+    ensures reads { reads_of sweep.new ≤ reads_of sweep.old + (upto - from) }
+    ensures some { min (reads_of sweep.old + 1) (2 ^ 64 - 1) ≤ reads_of sweep.new }
+    ensures same { SameButReads sweep.old sweep.new }
+    ensures lender { sweep_lender sweep.new ≡ sweep_lender sweep.old }
+{
+    let count = (upto - from) as usize;
+    if count <= bit_loop_limit::<R, O>(BulkOp::Move) {
+        return taken_singly::<R, O>(sweep, place, own, from as usize, upto as usize);
+    }
+    taken_by_blocks::<R, O>(sweep, place, own, from, upto)
+}
+
+// The same by blocks. Out of line, so that a few bits are taken by a short function.
+#[inline(never)]
+fn taken_by_blocks<R: BitRegister, O: BitOrder<R>>(
+    sweep: &mut Sweep<'_, R>,
+    place: usize,
+    own: R,
+    from: u8,
+    upto: u8,
+) -> R
+    requires order { from < upto }
+    requires index { upto ≤ R.BITS }
+    requires lies { Lies R.BITS (sweep_words sweep.old) place (upto - from) }
+    ensures stored { IsStored (read_by R.BitRegister O.position) own result from upto
+        (λ i. entry (read_by R.BitRegister O.position) (sweep_words sweep.old) (place + (i - from))) }
+    ensures reads { reads_of sweep.new ≤ reads_of sweep.old + (upto - from) }
+    ensures some { min (reads_of sweep.old + 1) (2 ^ 64 - 1) ≤ reads_of sweep.new }
+    ensures same { SameButReads sweep.old sweep.new }
+    ensures lender { sweep_lender sweep.new ≡ sweep_lender sweep.old }
+{
+    if upto - from <= 64 {
+        return taken_block::<R, O>(sweep, place, own, from, upto);
+    }
+    let begun = taken_block::<R, O>(sweep, place, own, from, from + 64);
+
+    // As many as a `u64` counts.
+    let _read = sweep.reads();
+    taken_block::<R, O>(sweep, place + 64, begun, from + 64, upto)
+}
+
+// The same of at most 64 bits.
+#[inline(always)]
+#[tactic(auto, using(bit_addressing_memory::proofs::PlaceLemmas::touched_few, bit_addressing_memory::proofs::PlaceLemmas::touched_some))]
+fn taken_block<R: BitRegister, O: BitOrder<R>>(
+    sweep: &mut Sweep<'_, R>,
+    place: usize,
+    own: R,
+    from: u8,
+    upto: u8,
+) -> R
+    requires order { from < upto }
+    requires few { upto ≤ from + 64 }
+    requires index { upto ≤ R.BITS }
+    requires lies { Lies R.BITS (sweep_words sweep.old) place (upto - from) }
+    ensures stored { IsStored (read_by R.BitRegister O.position) own result from upto
+        (λ i. entry (read_by R.BitRegister O.position) (sweep_words sweep.old) (place + (i - from))) }
+    ensures reads { reads_of sweep.new ≤ reads_of sweep.old + (upto - from) }
+    ensures some { min (reads_of sweep.old + 1) (2 ^ 64 - 1) ≤ reads_of sweep.new }
+    ensures same { SameButReads sweep.old sweep.new }
+    ensures lender { sweep_lender sweep.new ≡ sweep_lender sweep.old }
+{
+    let blocks = Blocks::<R, O>::find();
+    let block = sweep.read_block::<O>(blocks, place, (upto - from) as usize);
+    stored_part::<R, O>(blocks, own, from, upto, block)
+}
+
+// The same bit by bit: each is read by itself.
+#[inline(always)]
+#[tactic(auto, using(crate::proofs::Sweeps::reads_none))]
+fn taken_singly<R: BitRegister, O: BitOrder<R>>(
+    sweep: &mut Sweep<'_, R>,
+    place: usize,
+    own: R,
+    from: usize,
+    upto: usize,
+) -> R
+    requires order { from ≤ upto }
+    requires index { upto ≤ R.BITS }
+    requires lies { Lies R.BITS (sweep_words sweep.old) place (upto - from) }
+    ensures stored { IsStored (read_by R.BitRegister O.position) own result from upto
+        (λ i. entry (read_by R.BitRegister O.position) (sweep_words sweep.old) (place + (i - from))) }
+    ensures reads { reads_of sweep.new ≡ min (reads_of sweep.old + (upto - from)) (2 ^ 64 - 1) }
+    ensures same { SameButReads sweep.old sweep.new }
+    ensures lender { sweep_lender sweep.new ≡ sweep_lender sweep.old }
+{
+    // As many as a `u64` counts.
+    let _read = sweep.reads();
+    let mut made = own;
+    for i in from..upto {
+        let bit = bit_at_place::<R, O>(sweep, place + (i - from));
+        made = write_bit::<R, O>(made, BitIdx::new_unchecked(i as u8), bit);
+    }
+    made
+}
+
+// The bit of the words at a place.
+fn bit_at_place<R: BitRegister, O: BitOrder<R>>(sweep: &mut Sweep<'_, R>, place: usize) -> bool
+    requires { place < length (sweep_words sweep.old) * R.BITS }
+    ensures value { result ≡ entry (read_by R.BitRegister O.position) (sweep_words sweep.old) place }
+    ensures reads { reads_of sweep.new ≡ min (reads_of sweep.old + 1) (2 ^ 64 - 1) }
+    ensures same { SameButReads sweep.old sweep.new }
+    ensures lender { sweep_lender sweep.new ≡ sweep_lender sweep.old }
+{
+    let _read = sweep.reads();
+    let bits = bits_of::<R>();
+    let index = BitIdx::new_unchecked((place % bits) as u8);
+    read_bit::<R, O>(sweep.read(place / bits), index)
+}

@@ -195,7 +195,7 @@ pub fn combine<H: Combining, R: BitRegister, O: BitOrder<R>, Q: BitRegister, P: 
 // round with a difference.
 #[inline(always)]
 #[tactic(auto, using(crate::proofs::FitLemmas::words_behind))]
-fn match_middle<R: BitRegister, O: BitOrder<R>, Q: BitRegister, P: BitOrder<Q>>(
+pub fn match_middle<R: BitRegister, O: BitOrder<R>, Q: BitRegister, P: BitOrder<Q>>(
     fit: Fit<Straight<Q, P>>,
     words: &[R],
     place: usize,

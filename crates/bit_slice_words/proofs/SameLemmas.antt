@@ -115,6 +115,38 @@ windows_match reading words its others place other_place len few rest done some 
   ],
 )
 
+-- behind first bits that are the same, words that are not all the same show that the lists are not equal
+pub windows_other : {R Q : Type 0} (reading : Reading R) (words : List R) (its : Reading Q) (others : List Q)
+    (place other_place len few n : ℕ) → 0 < reading.bits → 0 < its.bits → few + n ≤ len
+    → (Stands reading words (place + few) its others (other_place + few) n → ⊥)
+    → piece (memory reading words) place len ≢ piece (memory its others) other_place len
+windows_other reading words its others place other_place len few n some its_some inside differ same = differ (λ k low.
+    let here : place + few + k ≡ place + (few + k) = omega arith in
+    let its_here : other_place + few + k ≡ other_place + (few + k) = omega arith in
+    ap (entry reading words) here
+    ∙ windows_stand reading words its others place other_place len some its_some same (few + k) (omega arith)
+    ∙ ap (entry its others) (sym its_here))
+
+-- and if they are, the last bits tell it, from one that is known to be the same or follows those
+pub windows_last : {R Q : Type 0} (reading : Reading R) (words : List R) (its : Reading Q) (others : List Q)
+    (place other_place len few n before last done : ℕ) → 0 < reading.bits → 0 < its.bits
+    → place + len ≤ length words * reading.bits → other_place + len ≤ length others * its.bits
+    → before + last ≡ len → before ≤ few + n → Stands reading words place its others other_place few
+    → Stands reading words (place + few) its others (other_place + few) n
+    → Agrees reading words (place + before) its others (other_place + before) last done
+    → IsTrue (done == last) ↔ (piece (memory reading words) place len ≡ piece (memory its others) other_place len)
+windows_last reading words its others place other_place len few n before last done some its_some fits its_fit sum most
+    front mid agree =
+    windows_match reading words its others place other_place len before last done some its_some fits its_fit sum
+    (λ k low. elim (cases_lt k few) [
+      | inl early ↦ front k early
+      | inr later ↦
+          let here : place + few + (k - few) ≡ place + k = omega arith in
+          let its_here : other_place + few + (k - few) ≡ other_place + k = omega arith in
+          ap (entry reading words) (sym here) ∙ mid (k - few) (omega arith) ∙ ap (entry its others) its_here
+    ])
+    (record { most = agree.most; same = agree.same; differ = λ low all. agree.differ low (all done low) })
+
 -- they are not equal where fewer of them do not agree throughout
 pub windows_part : {R Q : Type 0} (reading : Reading R) (words : List R) (its : Reading Q) (others : List Q)
     (place other_place n len at : ℕ) → 0 < reading.bits → 0 < its.bits → n ≤ len → at ≢ n

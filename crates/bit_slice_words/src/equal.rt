@@ -5,8 +5,9 @@ ghost use Rattle.bit_addressing_memory.specs.Prelude.{Lies, entry, memory, piece
 
 use crate::agree::{BLOCK, agree_rest, agree_singly, few_before_block};
 use bit_addressing_memory::mem::bits_of;
-use bit_addressing_memory::{BitOrder, BitRegister, FROM_BORDER, WHOLE_WORDS};
+use bit_addressing_memory::{BitOrder, BitRegister, FROM_BORDER};
 use bit_slice_paths::across;
+use bit_slice_paths::two_memories::{fit_of, match_middle};
 
 /// Whether the `len` bits of the memory `words` from a place on are those of the memory `others` from another place
 /// on, in order. No bits are equal to no bits.
@@ -94,10 +95,18 @@ fn equal_rest<R: BitRegister, O: BitOrder<R>, Q: BitRegister, P: BitOrder<Q>>(
     ensures { IsTrue result ↔ (piece (memory (read_by R.BitRegister O.position) words.now) place len
         ≡ piece (memory (read_by Q.BitRegister P.position) others.now) other_place len) }
 {
-    let rest = len - few;
-    if rest >= WHOLE_WORDS {
-        let (at, other_at) = (place + few, other_place + few);
-        return across::match_behind::<R, O, Q, P>(words, at, others, other_at, rest).done == rest;
+    let (at, other_at, rest) = (place + few, other_place + few, len - few);
+    if len >= BLOCK
+        && at % bits_of::<R>() == 0
+        && let Some(fit) = fit_of::<R, O, Q, P>(at, other_at, rest)
+    {
+        let n = rest / bits_of::<R>();
+        if match_middle::<R, O, Q, P>(fit, words, at, others, other_at, n) < n {
+            return false;
+        }
+        // The last 64 bits as one block, some of them again.
+        let (last, other_last) = (place + (len - BLOCK), other_place + (len - BLOCK));
+        return across::difference::<R, O, Q, P>(words, last, others, other_last, BLOCK) == BLOCK;
     }
     agree_rest::<R, O, Q, P>(words, place, others, other_place, len, few) == len
 }

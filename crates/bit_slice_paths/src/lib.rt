@@ -12,7 +12,7 @@ pub mod mirror;
 pub mod rotation;
 pub mod seek;
 mod steps;
-mod two_memories;
+pub mod two_memories;
 mod walk;
 pub mod word_source;
 

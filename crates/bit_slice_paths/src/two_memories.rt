@@ -160,7 +160,7 @@ impl<'a, 'b, H: Combining, R: BitRegister, O: BitOrder<R>, Q: BitRegister, P: Bi
 }
 
 /// Combines each of `len` bits, 64 or more, with one of another memory, and returns how many.
-#[inline(never)]
+#[inline(always)]
 pub fn combine<H: Combining, R: BitRegister, O: BitOrder<R>, Q: BitRegister, P: BitOrder<Q>>(
     fit: Fit<Straight<Q, P>>,
     words: &mut [R],
@@ -191,11 +191,11 @@ pub fn combine<H: Combining, R: BitRegister, O: BitOrder<R>, Q: BitRegister, P: 
     walk::<R, O, Merging<'_, '_, H, R, O, Q, P>>(&mut stretch, len).done
 }
 
-// Up to which whole words two memories are the same, from a place on at which a word begins: `n`, or the first word of a
-// round with a difference.
+/// Up to which whole words two memories are the same, from a place on at which a word begins: `n`, or the first word of a
+/// round with a difference.
 #[inline(always)]
 #[tactic(auto, using(crate::proofs::FitLemmas::words_behind))]
-fn match_middle<R: BitRegister, O: BitOrder<R>, Q: BitRegister, P: BitOrder<Q>>(
+pub fn match_middle<R: BitRegister, O: BitOrder<R>, Q: BitRegister, P: BitOrder<Q>>(
     fit: Fit<Straight<Q, P>>,
     words: &[R],
     place: usize,

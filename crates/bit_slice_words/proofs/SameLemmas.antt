@@ -1,5 +1,5 @@
 -- Tests and answers: `differ_tested`, `answers_yes`, `answers_no`. Bits of two memories: `windows_equal`,
--- `windows_differ`, `windows_agree`, `windows_stand`, `windows_match`, `windows_part`. One list in another:
+-- `windows_differ`, `windows_agree`, `windows_stand`, `windows_part`. One list in another:
 -- `holds_empty`, `holds_here`, `holds_none`, `holds_short`, `none_more`; told by the first place: `holds_behind`.
 use Rattle.std.proofs.Common.{◌≡◌, ◌≢◌, ℕ, ◌+◌, ◌-◌, ◌*◌, ◌<◌, ◌≤◌, ◌↔◌, ◌==◌, nat_lt, IsTrue}
 use Rattle.std.proofs.Common.{Bool, true, false, not, List, [], ◌∷◌, length, get_or, refl, sym, ap, ◌∙◌, inl, inr, arith}
@@ -8,7 +8,7 @@ use Rattle.std.proofs.lemmas.Bool.{cases_lt, eqb-true, eq-eqb, false≢true, lt-
 use Rattle.bit_addressing_memory.specs.Memory.{Reading, entry, memory, piece}
 use Rattle.bit_addressing_memory.proofs.MemoryLemmas.{piece_none, piece_piece}
 use Rattle.bit_addressing_memory.proofs.WindowLemmas.{length-window, window_bit, window_is}
-use Rattle.bit_slice_paths.specs.Agrees.{Agrees, Matches}
+use Rattle.bit_slice_paths.specs.Agrees.{Agrees}
 use Rattle.bit_slice_paths.specs.Stands.{Stands, StandsFirst}
 use Rattle.bit_slice_words.specs.Holds.{Holds}
 
@@ -74,7 +74,7 @@ windows_agree reading words its others place other_place len at some its_some fi
 )
 
 -- as many equal lists have equal entries
-windows_stand : {R Q : Type 0} (reading : Reading R) (words : List R) (its : Reading Q) (others : List Q)
+pub windows_stand : {R Q : Type 0} (reading : Reading R) (words : List R) (its : Reading Q) (others : List Q)
     (place other_place n : ℕ) → 0 < reading.bits → 0 < its.bits
     → piece (memory reading words) place n ≡ piece (memory its others) other_place n
     → Stands reading words place its others other_place n
@@ -82,38 +82,6 @@ windows_stand reading words its others place other_place n some its_some same k 
     sym (window_bit reading words place n k some low)
     ∙ ap (λ xs. get_or xs k false) same
     ∙ window_bit its others other_place n k its_some low
-
--- behind first bits that are the same, how many are found to match tells whether all are equal
-pub windows_match : {R Q : Type 0} (reading : Reading R) (words : List R) (its : Reading Q) (others : List Q)
-    (place other_place len few rest done : ℕ) → 0 < reading.bits → 0 < its.bits
-    → place + len ≤ length words * reading.bits → other_place + len ≤ length others * its.bits
-    → few + rest ≡ len → Stands reading words place its others other_place few
-    → Matches reading words (place + few) its others (other_place + few) rest done
-    → IsTrue (done == rest) ↔ (piece (memory reading words) place len ≡ piece (memory its others) other_place len)
-windows_match reading words its others place other_place len few rest done some its_some fits its_fit sum front had = (
-  λ test.
-      let all : done ≡ rest = eqb-true done rest test in
-      windows_equal reading words its others place other_place len some its_some fits its_fit
-      (λ k low. elim (cases_lt k few) [
-        | inl early ↦ front k early
-        | inr later ↦
-            let here : place + few + (k - few) ≡ place + k = omega arith in
-            let its_here : other_place + few + (k - few) ≡ other_place + k = omega arith in
-            ap (entry reading words) (sym here)
-            ∙ had.same (k - few) (omega arith)
-            ∙ ap (entry its others) its_here
-      ]),
-  λ same. elim (cases_lt done rest) [
-    | inl low ↦
-        absurd (had.differ low (λ k less.
-        let here : place + few + k ≡ place + (few + k) = omega arith in
-        let its_here : other_place + few + k ≡ other_place + (few + k) = omega arith in
-        ap (entry reading words) here
-        ∙ windows_stand reading words its others place other_place len some its_some same (few + k) (omega arith)
-        ∙ ap (entry its others) (sym its_here)))
-    | inr past ↦ eq-eqb done rest (omega (arith, had.most))
-  ],
-)
 
 -- they are not equal where fewer of them do not agree throughout
 pub windows_part : {R Q : Type 0} (reading : Reading R) (words : List R) (its : Reading Q) (others : List Q)

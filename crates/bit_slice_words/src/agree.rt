@@ -87,35 +87,13 @@ pub(crate) fn agree_rest<R: BitRegister, O: BitOrder<R>, Q: BitRegister, P: BitO
     ensures { Agrees (read_by R.BitRegister O.position) words.now place
         (read_by Q.BitRegister P.position) others.now other_place len result }
 {
-    let rest = agree_behind::<R, O, Q, P>(words, place + few, others, other_place + few, len - few);
-    few + rest
-}
-
-// How many of `len` bits behind the first ones are the same.
-#[inline(always)]
-fn agree_behind<R: BitRegister, O: BitOrder<R>, Q: BitRegister, P: BitOrder<Q>>(
-    words: &[R],
-    place: usize,
-    others: &[Q],
-    other_place: usize,
-    len: usize,
-) -> usize
-    requires lies { Lies R.BITS words.now place len }
-    requires other_lies { Lies Q.BITS others.now other_place len }
-    ensures { Agrees (read_by R.BitRegister O.position) words.now place
-        (read_by Q.BitRegister P.position) others.now other_place len result }
-{
-    let few = few_behind::<R, O, Q, P>(len);
-    let same = agree_singly::<R, O, Q, P>(words, place, others, other_place, few);
-    if same < few || few == len {
-        return same;
+    let (at, other_at, left) = (place + few, other_place + few, len - few);
+    let next = few_behind::<R, O, Q, P>(left);
+    let same = agree_singly::<R, O, Q, P>(words, at, others, other_at, next);
+    if same < next || next == left {
+        return few + same;
     }
-    let rest = across::difference::<R, O, Q, P>(
-        words,
-        place + few,
-        others,
-        other_place + few,
-        len - few,
-    );
-    few + rest
+    let known = few + next;
+    let (at, other_at) = (place + known, other_place + known);
+    known + across::difference::<R, O, Q, P>(words, at, others, other_at, len - known)
 }

@@ -17,8 +17,8 @@ use bit_slice_paths::word_source::Constant;
 /// The index of the first of the `len` bits from a place on that is `bit`, counted from that place; `None` where
 /// none is.
 ///
-/// A whole word that has no such bit is passed over by one comparison; where the order goes straight, a part of a word is
-/// looked at as one number, and so are 64 bits of narrow words. It answers as `first_one` of a slice in bitvec 1.1.1, and for
+/// A whole word that has no such bit is passed over by one comparison; where the order's positions go straight, a part of
+/// a word is one number, and so are 64 bits of narrow words. It answers as `first_one` of a slice in bitvec 1.1.1, and for
 /// false as `first_zero`.
 #[tactic(auto, using(crate::proofs::StretchLemmas::position_in))]
 pub fn first_in<R: BitRegister, O: BitOrder<R>>(
@@ -47,7 +47,7 @@ pub fn first_in<R: BitRegister, O: BitOrder<R>>(
     }
 }
 
-// The same of bits in many words. Out of line, so that a search among few is a short function.
+// `first_in` of bits in many words. Out of line, so that a search among few is a short function.
 #[inline(never)]
 #[tactic(auto, using(crate::proofs::ChunkedLemmas::position_behind, crate::proofs::StretchLemmas::position_in))]
 fn first_of_many<R: BitRegister, O: BitOrder<R>>(
@@ -67,9 +67,9 @@ fn first_of_many<R: BitRegister, O: BitOrder<R>>(
     }
 }
 
-// The same behind the first 64 bits, none of which is `bit`, of narrow words that go straight: by blocks that begin at the
-// last word border in those. Of a few words the last block ends with them. Out of line too, so it finds the direction for
-// itself.
+// `first_in` where none of the first 64 bits is `bit`, in narrow words whose positions go straight: by blocks that begin
+// at the last word border in those. Of a few words the last block ends with them. Out of line too, so it finds the
+// direction for itself.
 #[inline(never)]
 #[tactic(auto, using(crate::proofs::ChunkedLemmas::position_within))]
 fn first_behind_block<R: BitRegister, O: BitOrder<R>>(
@@ -104,7 +104,7 @@ fn first_behind_block<R: BitRegister, O: BitOrder<R>>(
     }
 }
 
-// The same where none of the first `done` bits is `bit`: by rounds of words.
+// `first_in` where none of the first `done` bits is `bit`: by rounds of words.
 #[inline(always)]
 #[tactic(auto, using(crate::proofs::ChunkedLemmas::position_behind))]
 fn first_behind<R: BitRegister, O: BitOrder<R>>(
@@ -185,7 +185,7 @@ fn next_near<R: BitRegister, O: BitOrder<R>>(
     upto
 }
 
-// The same by rounds of words.
+// `next_near` by rounds of words.
 #[inline(always)]
 fn next_far<R: BitRegister, O: BitOrder<R>>(
     words: &[R],
@@ -232,7 +232,7 @@ fn first_at<R: BitRegister, O: BitOrder<R>>(
     }
 }
 
-// The same where the positions go straight: 64 bits at most are one number.
+// `first_at` where the positions go straight: up to 64 bits are one number.
 #[inline(always)]
 fn first_straight<R: BitRegister, O: BitOrder<R>>(
     straight: Straight<R, O>,
@@ -268,7 +268,7 @@ fn first_straight<R: BitRegister, O: BitOrder<R>>(
     first_in_part::<R, O>(straight, words, word, middle, upto, bit)
 }
 
-// The same bit by bit.
+// `first_at` bit by bit.
 fn first_singly<R: BitRegister, O: BitOrder<R>>(
     words: &[R],
     word: usize,

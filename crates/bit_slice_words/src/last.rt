@@ -107,7 +107,7 @@ fn last_at<R: BitRegister, O: BitOrder<R>>(
     }
 }
 
-// The same where the positions go straight: 64 bits at most are one number.
+// `last_at` where the positions go straight: up to 64 bits are one number.
 #[inline(always)]
 fn last_straight<R: BitRegister, O: BitOrder<R>>(
     straight: Straight<R, O>,
@@ -143,7 +143,7 @@ fn last_straight<R: BitRegister, O: BitOrder<R>>(
     last_in_part::<R, O>(straight, words, word, from, middle, bit)
 }
 
-// The same bit by bit.
+// `last_at` bit by bit.
 fn last_singly<R: BitRegister, O: BitOrder<R>>(
     words: &[R],
     word: usize,

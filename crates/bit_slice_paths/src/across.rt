@@ -118,7 +118,7 @@ fn before_chunks<R: BitRegister>(place: usize, len: usize) -> usize
     ensures few { result ≤ 64 }
     ensures within { result ≤ len }
 {
-    if len < FROM_BORDER {
+    if len <= FROM_BORDER {
         return 0;
     }
     let bits = bits_of::<R>().min(64);

@@ -1,15 +1,16 @@
 //! Whole words of a memory combined with those of a source.
 
-ghost use Rattle.std.specs.Prelude.{◌≡◌, ℕ, ◌+◌, ◌-◌, ◌*◌, ◌^◌, ◌<◌, ◌≤◌, length};
+ghost use Rattle.std.specs.Prelude.{◌≡◌, ℕ, ◌+◌, ◌-◌, ◌*◌, ◌%◌, ◌^◌, ◌<◌, ◌≤◌, length};
 ghost use Rattle.bit_addressing_memory.specs.Bits.{digit_at};
-ghost use Rattle.bit_addressing_memory.specs.Memory.{entry, read_by, Overwrites};
-ghost use Rattle.bit_slice_chunks.specs.Combined.{combined_bit};
+ghost use Rattle.bit_addressing_memory.specs.Prelude.{Lies, entry, read_by, Overwrites};
+ghost use Rattle.bit_slice_chunks.specs.Combined.{combined_bit, Combines};
 ghost use Rattle.bit_slice_paths.specs.WholeWords.{IsAlike};
 
 use crate::combining::Combining;
 use crate::kernel::{Kernel, drive};
-use crate::word_source::{Joined, WordSource};
-use bit_addressing_memory::{BitOrder, BitRegister, Straight};
+use crate::word_source::{Joined, WordSource, converted};
+use bit_addressing_memory::mem::bits_of;
+use bit_addressing_memory::{BitEnd, BitIdx, BitOrder, BitRegister, Straight, store_in};
 use bit_slice_chunks::Combination;
 use std::marker::PhantomData;
 
@@ -26,6 +27,36 @@ pub fn merged<H: Combining, R: BitRegister>(mine: R, its: R) -> R
         Combination::Or => mine.or(its),
         Combination::Xor => mine.xor(its),
     }
+}
+
+/// Combines bits of one word with those at the same indices of a word of another memory that is alike.
+#[inline(always)]
+#[tactic(auto, using(bit_slice_chunks::proofs::TransferLemmas::first_in))]
+pub fn merge_part<H: Combining, R: BitRegister, O: BitOrder<R>, Q: BitRegister, P: BitOrder<Q>>(
+    words: &mut [R],
+    place: usize,
+    others: &[Q],
+    other_place: usize,
+    count: usize,
+)
+    requires narrow { R.BITS ≤ 64 }
+    requires alike { IsAlike R.BITS O.position Q.BITS P.position }
+    requires level { place % R.BITS ≡ other_place % R.BITS }
+    requires some { 0 < count }
+    requires one { place % R.BITS + count ≤ R.BITS }
+    requires lies { Lies R.BITS words.old place count }
+    requires other_lies { Lies Q.BITS others.now other_place count }
+    ensures { Combines (read_by R.BitRegister O.position) words.old words.new place count
+        (combined_bit H.HOW) (read_by Q.BitRegister P.position) others.now other_place }
+{
+    let bits = bits_of::<R>();
+    let (at, other_at) = (place / bits, other_place / bits);
+    let from = place % bits;
+    let its = converted::<R, Q>(others[other_at]);
+    let value = merged::<H, R>(words[at], its);
+    let head = BitIdx::new_unchecked(from as u8);
+    let tail = BitEnd::new_unchecked((from + count) as u8);
+    store_in::<R, O>(words, at, value, head, tail);
 }
 
 #[derive(Drop)]

@@ -10,11 +10,13 @@ ghost use Rattle.bit_slice_paths.specs.declared.two_memories.Fit.TheVariants.{Le
 use crate::across::{combine_part, difference_of_part};
 use crate::combining::Combining;
 use crate::match_words::{match_joined, match_words};
-use crate::merge::{merge_joined, merge_words};
+use crate::merge::{merge_joined, merge_part, merge_words};
 use crate::walk::{Reached, Stretch, walk};
 use crate::word_source::{Aligned, are_alike};
 use bit_addressing_memory::mem::bits_of;
-use bit_addressing_memory::{BitOrder, BitRegister, JOINED_WORDS, Straight, WHOLE_WORDS};
+use bit_addressing_memory::{
+    BitOrder, BitRegister, JOINED_WORDS, Straight, WHOLE_WORDS, direction_of,
+};
 use std::marker::PhantomData;
 
 /// How the words of another memory are found for those of the first.
@@ -131,13 +133,18 @@ impl<'a, 'b, H: Combining, R: BitRegister, O: BitOrder<R>, Q: BitRegister, P: Bi
 
     #[inline(always)]
     fn part(&mut self, done: usize, count: usize) -> bool {
-        combine_part::<H, R, O, Q, P>(
-            self.words,
-            self.place + done,
-            self.others,
-            self.other_place + done,
-            count,
-        );
+        let (at, other_at) = (self.place + done, self.other_place + done);
+        let bits = bits_of::<R>();
+        // The mask of a part is made index by index where the positions don't go straight.
+        if let Fit::Level = self.fit
+            && direction_of::<R, O>().is_some()
+            && count > 0
+            && at % bits + count <= bits
+        {
+            merge_part::<H, R, O, Q, P>(self.words, at, self.others, other_at, count);
+        } else {
+            combine_part::<H, R, O, Q, P>(self.words, at, self.others, other_at, count);
+        }
         true
     }
 

@@ -38,9 +38,9 @@ pub fn are_alike<R: BitRegister, O: BitOrder<R>, Q: BitRegister, P: BitOrder<Q>>
     true
 }
 
-// The same number in a word of another type with as many bits.
+/// The same number in a word of another type with as many bits.
 #[inline(always)]
-fn converted<R: BitRegister, Q: BitRegister>(word: Q) -> R
+pub fn converted<R: BitRegister, Q: BitRegister>(word: Q) -> R
     requires { Q.BITS ≡ R.BITS }
     ensures { R.number result ≡ Q.number word }
 {

@@ -1,6 +1,6 @@
 //! Bits of two memories, equal or not.
 
-ghost use Rattle.std.specs.Prelude.{◌≡◌, ℕ, ◌+◌, ◌<◌, ◌≤◌, ◌↔◌, IfSome, IsTrue, None};
+ghost use Rattle.std.specs.Prelude.{◌≡◌, ℕ, ◌+◌, ◌<◌, ◌≤◌, ◌↔◌, IsTrue};
 ghost use Rattle.bit_addressing_memory.specs.Prelude.{Lies, entry, memory, piece, read_by};
 
 use crate::agree::{BLOCK, agree_rest, agree_singly, few_before_block};
@@ -41,10 +41,10 @@ pub fn equal_in<R: BitRegister, O: BitOrder<R>, Q: BitRegister, P: BitOrder<Q>>(
 }
 
 // `equal_in` where the first `few` bits are the same: of at least 64 bits by the first 64 as one block, which costs less than
-// a part of one, so those are read again with it; then by whole words, and the rest by blocks. Out of line, so that lists that
-// differ early are compared by a short function.
+// a part of one, so those are read again with it. Out of line, so that lists that differ early are compared by a short
+// function.
 #[inline(never)]
-#[tactic(auto, using(crate::proofs::SameLemmas::answers_no, crate::proofs::SameLemmas::answers_yes, crate::proofs::SameLemmas::windows_agree, crate::proofs::SameLemmas::windows_equal, crate::proofs::SameLemmas::windows_part))]
+#[tactic(auto, using(crate::proofs::SameLemmas::answers_no, crate::proofs::SameLemmas::answers_yes, crate::proofs::SameLemmas::windows_equal, crate::proofs::SameLemmas::windows_part))]
 fn equal_behind<R: BitRegister, O: BitOrder<R>, Q: BitRegister, P: BitOrder<Q>>(
     words: &[R],
     place: usize,
@@ -71,56 +71,72 @@ fn equal_behind<R: BitRegister, O: BitOrder<R>, Q: BitRegister, P: BitOrder<Q>>(
     if known == len {
         return true;
     }
-    match same_by_words::<R, O, Q, P>(words, place, others, other_place, len, known) {
-        Some(same) => agree_rest::<R, O, Q, P>(words, place, others, other_place, len, same) == len,
-        None => false,
-    }
+    equal_by_words::<R, O, Q, P>(words, place, others, other_place, len, known)
 }
 
-// How many of the first bits are the same, if the first `few` are: those of whole words behind the last border in these, as
-// far as they go, so that whole blocks are left; nothing if a word differs.
+// The same by whole words behind the last border in the first `few` bits, as far as they go, and by blocks behind them.
 #[inline(always)]
-fn same_by_words<R: BitRegister, O: BitOrder<R>, Q: BitRegister, P: BitOrder<Q>>(
+#[tactic(auto, using(crate::proofs::SameLemmas::answers_no))]
+fn equal_by_words<R: BitRegister, O: BitOrder<R>, Q: BitRegister, P: BitOrder<Q>>(
     words: &[R],
     place: usize,
     others: &[Q],
     other_place: usize,
     len: usize,
     few: usize,
-) -> Option<usize>
+) -> bool
     requires few { few ≤ len }
     requires lies { Lies R.BITS words.now place len }
     requires other_lies { Lies Q.BITS others.now other_place len }
     requires same { (k : ℕ) → k < few → entry (read_by R.BitRegister O.position) words.now (place + k)
         ≡ entry (read_by Q.BitRegister P.position) others.now (other_place + k) }
-    ensures most { IfSome result (λ same. same ≤ len) }
-    ensures same { IfSome result (λ same. (k : ℕ) → k < same
-        → entry (read_by R.BitRegister O.position) words.now (place + k)
-        ≡ entry (read_by Q.BitRegister P.position) others.now (other_place + k)) }
-    ensures none { result ≡ None → ((k : ℕ) → k < len
-        → entry (read_by R.BitRegister O.position) words.now (place + k)
-        ≡ entry (read_by Q.BitRegister P.position) others.now (other_place + k)) → ⊥ }
+    ensures { IsTrue result ↔ (piece (memory (read_by R.BitRegister O.position) words.now) place len
+        ≡ piece (memory (read_by Q.BitRegister P.position) others.now) other_place len) }
 {
     let bits = bits_of::<R>();
     let again = (place + few) % bits;
     if again > few {
-        return Some(few);
+        return equal_rest::<R, O, Q, P>(words, place, others, other_place, len, few);
     }
     let start = few - again;
     let (at, other_at, rest) = (place + start, other_place + start, len - start);
     let Some(fit) = fit_of::<R, O, Q, P>(at, other_at, rest) else {
-        return Some(few);
+        return equal_rest::<R, O, Q, P>(words, place, others, other_place, len, few);
     };
-    let over = if direction_of::<R, O>().is_some() {
-        rest % ROUND
-    } else {
-        0
-    };
+    let is_straight = direction_of::<R, O>().is_some();
+    let over = if is_straight { rest % ROUND } else { 0 };
     let n = (rest - over) / bits;
     if match_middle::<R, O, Q, P>(fit, words, at, others, other_at, n) < n {
-        return None;
+        return false;
     }
     let same = start + n * bits;
-    let again = (BLOCK - (len - same) % BLOCK) % BLOCK;
-    Some(same.saturating_sub(again))
+    if is_straight && ROUND <= len && len - same <= ROUND {
+        let before = len - ROUND;
+        let (last, other_last) = (place + before, other_place + before);
+        return before + across::difference::<R, O, Q, P>(words, last, others, other_last, ROUND)
+            == len;
+    }
+    equal_rest::<R, O, Q, P>(words, place, others, other_place, len, same)
+}
+
+// The same by blocks.
+#[inline(never)]
+#[tactic(auto, using(crate::proofs::SameLemmas::windows_agree))]
+fn equal_rest<R: BitRegister, O: BitOrder<R>, Q: BitRegister, P: BitOrder<Q>>(
+    words: &[R],
+    place: usize,
+    others: &[Q],
+    other_place: usize,
+    len: usize,
+    few: usize,
+) -> bool
+    requires few { few ≤ len }
+    requires lies { Lies R.BITS words.now place len }
+    requires other_lies { Lies Q.BITS others.now other_place len }
+    requires same { (k : ℕ) → k < few → entry (read_by R.BitRegister O.position) words.now (place + k)
+        ≡ entry (read_by Q.BitRegister P.position) others.now (other_place + k) }
+    ensures { IsTrue result ↔ (piece (memory (read_by R.BitRegister O.position) words.now) place len
+        ≡ piece (memory (read_by Q.BitRegister P.position) others.now) other_place len) }
+{
+    agree_rest::<R, O, Q, P>(words, place, others, other_place, len, few) == len
 }

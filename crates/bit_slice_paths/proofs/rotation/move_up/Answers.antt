@@ -1,4 +1,4 @@
-use Rattle.bit_addressing_memory.proofs.Common.{◌≡◌, ◌+◌, ◌-◌, ◌*◌, ◌/◌, ◌%◌, arith, read_by}
+use Rattle.bit_addressing_memory.proofs.Common.{◌≡◌, ◌+◌, ◌*◌, ◌/◌, ◌%◌, arith, read_by}
 use Rattle.bit_slice_paths.proofs.RotationLemmas.{rotated_back_more}
 use Rattle.bit_slice_paths.proofs.rotation.move_up.Goals as goal
 

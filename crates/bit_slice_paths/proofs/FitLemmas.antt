@@ -1,13 +1,14 @@
 -- Two stretches, part after part.
 --
--- Words that a place has behind it: `few_words`, `more_words`, `words_lie`, `next_lies`. Stretches that fit: `level_on`, `fit_on`,
--- `shifted_fit`. One part more: `merged_more`, `matched_more`, `matched_part`.
+-- Words that a place has behind it: `few_words`, `more_words`, `words_lie`, `next_lies`, `read_within`. Stretches that fit: `level_on`, `fit_on`,
+-- `shifted_fit`. One part more: `merged_more`.
 use Rattle.bit_addressing_memory.proofs.Common.{◌≡◌, ℕ, ◌+◌, ◌-◌, ◌*◌, ◌/◌, ◌%◌, ◌<◌, ◌≤◌, Bool, List, refl, sym, ap}
-use Rattle.bit_addressing_memory.proofs.Common.{◌∙◌, inl, inr, arith, cases_lt, Reading, entry}
+use Rattle.bit_addressing_memory.proofs.Common.{◌∙◌, inl, inr, arith, cases_lt, Reading}
 use Rattle.std.proofs.Math.Nat.{mod-add-mod, mul-le-mul_right}
+use Rattle.std.proofs.lemmas.Nat.{div-add-mod'}
 use Rattle.bit_slice_chunks.specs.Combined.{Combines}
 use Rattle.bit_slice_paths.proofs.WalkLemmas.{combines_more}
-use Rattle.bit_slice_paths.specs.Fits.{AreSame, IsFit, Matched, Merged}
+use Rattle.bit_slice_paths.specs.Fits.{IsFit, Merged}
 use Rattle.bit_slice_paths.specs.WholeWords.{IsAlike}
 use Rattle.bit_slice_paths.specs.declared.two_memories.Fit.{Fit}
 use Rattle.bit_slice_paths.specs.declared.two_memories.Fit.TheVariants.{Shifted}
@@ -30,6 +31,13 @@ few_words x y w some most = elim (cases_lt y x) [
 
 pub more_words : (x y w by : ℕ) → 0 < by → x * w + by ≤ y * w → x < y
 more_words x y w by some most = less_words x y w (omega arith)
+
+-- some of the words behind a place end before the last bit
+pub read_within : (len start over bits read : ℕ) → start ≤ len → read ≤ (len - start - over) / bits
+    → start + read * bits ≤ len
+read_within len start over bits read inside most =
+    let words : read * bits ≤ (len - start - over) / bits * bits = mul-le-mul_right bits most in
+    omega (arith, div-add-mod' (len - start - over) bits)
 
 -- stretches that begin at the same index do so as far behind their beginnings
 pub level_on : (b place other done : ℕ) → place % b ≡ other % b → (place + done) % b ≡ (other + done) % b
@@ -85,42 +93,3 @@ merged_more reading how before mid after place place_now its others others_now o
       same_other_place = had.same_other_place;
       same_lender = had.same_lender;
     }
-
-pub matched_more : {R Q : Type 0} (reading : Reading R) (words words_now : List R) (place place_now : ℕ) (its : Reading Q)
-    (others others_now : List Q) (other_place other_place_now len len_now n m : ℕ)
-    → AreSame reading words_now (place_now + n) its others_now (other_place_now + n) m
-    → Matched reading words words_now place place_now its others others_now other_place other_place_now len len_now n
-    → Matched reading words words_now place place_now its others others_now other_place other_place_now len len_now (n + m)
-matched_more reading words words_now place place_now its others others_now other_place other_place_now len len_now n m
-    more had = record {
-      same = λ k low. elim (cases_lt k n) [
-        | inl before ↦ had.same k before
-        | inr after ↦
-            let i : ℕ = k - n in
-            let here : place + n + i ≡ place + k = omega arith in
-            let there : other_place + n + i ≡ other_place + k = omega arith in
-            let also : AreSame reading words (place + n) its others (other_place + n) m =
-            rw (had.same_words, had.same_place, had.same_others, had.same_other_place) at more in
-            ap (entry reading words) (sym here) ∙ also i (omega arith) ∙ ap (entry its others) there
-      ];
-      same_words = had.same_words;
-      same_place = had.same_place;
-      same_others = had.same_others;
-      same_other_place = had.same_other_place;
-      same_len = had.same_len;
-    }
-
--- where all are the same, so are those of a part
-pub matched_part : {R Q : Type 0} (reading : Reading R) (words words_now : List R) (place place_now : ℕ) (its : Reading Q)
-    (others others_now : List Q) (other_place other_place_now len len_now n m : ℕ) → n + m ≤ len_now
-    → Matched reading words words_now place place_now its others others_now other_place other_place_now len len_now n
-    → AreSame reading words place its others other_place len
-    → AreSame reading words_now (place_now + n) its others_now (other_place_now + n) m
-matched_part reading words words_now place place_now its others others_now other_place other_place_now len len_now n m
-    inside had all =
-    rw (had.same_words, had.same_place, had.same_others, had.same_other_place) (λ k low.
-    let here : place + n + k ≡ place + (n + k) = omega arith in
-    let there : other_place + n + k ≡ other_place + (n + k) = omega arith in
-    ap (entry reading words) here
-    ∙ all (n + k) (omega (arith, had.same_len))
-    ∙ ap (entry its others) (sym there))

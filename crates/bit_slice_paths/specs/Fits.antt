@@ -44,24 +44,3 @@ merged_none reading how words place its others other_place lender = record {
 abbrev pub AreSame : {R Q : Type 0} → Reading R → List R → ℕ → Reading Q → List Q → ℕ → ℕ → Type 0
 AreSame reading words place its others other_place n =
     (k : ℕ) → k < n → entry reading words (place + k) ≡ entry its others (other_place + k)
-
--- the first n bits are the same, and what a walk has is as before
-pub record Matched {R Q : Type 0} (reading : Reading R) (words words_now : List R) (place place_now : ℕ) (its : Reading Q)
-    (others others_now : List Q) (other_place other_place_now len len_now n : ℕ) : Type 0 where
-  pub same : AreSame reading words place its others other_place n
-  pub same_words : words_now ≡ words
-  pub same_place : place_now ≡ place
-  pub same_others : others_now ≡ others
-  pub same_other_place : other_place_now ≡ other_place
-  pub same_len : len_now ≡ len
-
-pub matched_none : {R Q : Type 0} (reading : Reading R) (words : List R) (place : ℕ) (its : Reading Q) (others : List Q)
-    (other_place len : ℕ) → Matched reading words words place place its others others other_place other_place len len 0
-matched_none reading words place its others other_place len = record {
-  same = λ k h. absurd (omega arith);
-  same_words = refl;
-  same_place = refl;
-  same_others = refl;
-  same_other_place = refl;
-  same_len = refl;
-}

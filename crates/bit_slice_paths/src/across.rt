@@ -9,7 +9,7 @@ ghost use Rattle.bit_slice_chunks.specs.Combined.{combined_bit, Combines};
 ghost use Rattle.bit_slice_paths.specs.Agrees.{Agrees, Matches};
 
 use crate::combining::Combining;
-use crate::two_memories::{self, fit_of, matched};
+use crate::two_memories::{self, fit_of, match_behind};
 use crate::walk::Reached;
 use bit_addressing_memory::mem::bits_of;
 use bit_addressing_memory::{BitOrder, BitRegister, Direction, FROM_BORDER, NEAR_BITS};
@@ -296,40 +296,16 @@ fn match_many<R: BitRegister, O: BitOrder<R>, Q: BitRegister, P: BitOrder<Q>>(
     if near.done < NEAR_BITS {
         return near;
     }
-    let behind = match_behind::<R, O, Q, P>(
-        words,
-        place + NEAR_BITS,
-        others,
-        other_place + NEAR_BITS,
-        len - NEAR_BITS,
-    );
-    Reached {
-        done: NEAR_BITS + behind.done,
-        seen: NEAR_BITS + behind.seen,
+    let far = match_behind::<R, O, Q, P>(words, place, others, other_place, len, NEAR_BITS);
+    if far.done < far.seen {
+        return far;
     }
-}
-
-/// `match_bits` by rounds of whole words, or by blocks if the bits are few or words of both memories are not alike.
-#[inline(always)]
-#[tactic(auto, using(crate::proofs::AcrossLemmas::matches_near))]
-pub fn match_behind<R: BitRegister, O: BitOrder<R>, Q: BitRegister, P: BitOrder<Q>>(
-    words: &[R],
-    place: usize,
-    others: &[Q],
-    other_place: usize,
-    len: usize,
-) -> Reached
-    requires lies { Lies R.BITS words.now place len }
-    requires other_lies { Lies Q.BITS others.now other_place len }
-    ensures matches { Matches (read_by R.BitRegister O.position) words.now place
-        (read_by Q.BitRegister P.position) others.now other_place len result.done }
-    ensures order { result.done ≤ result.seen }
-    ensures most { result.seen ≤ len }
-    ensures some { result.done < len → 0 < result.seen }
-{
-    match fit_of::<R, O, Q, P>(place, other_place, len) {
-        Some(fit) => matched::<R, O, Q, P>(fit, words, place, others, other_place, len),
-        None => mismatch_by_blocks::<R, O, Q, P>(words, place, others, other_place, len),
+    let done = far.done;
+    let (at, other_at) = (place + done, other_place + done);
+    let rest = mismatch_by_blocks::<R, O, Q, P>(words, at, others, other_at, len - done);
+    Reached {
+        done: done + rest.done,
+        seen: done + rest.seen,
     }
 }
 

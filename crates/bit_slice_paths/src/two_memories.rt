@@ -4,12 +4,12 @@
 ghost use Rattle.std.specs.Prelude.{◌≡◌, ℕ, ◌+◌, ◌*◌, ◌/◌, ◌%◌, ◌<◌, ◌≤◌, ◌↔◌, IfSome, IsTrue, length};
 ghost use Rattle.bit_addressing_memory.specs.Prelude.{Lies, entry, read_by};
 ghost use Rattle.bit_slice_chunks.specs.Combined.{combined_bit, Combines};
-ghost use Rattle.bit_slice_paths.specs.Fits.{IsFit};
+ghost use Rattle.bit_slice_paths.specs.Fits.{AreSame, IsFit};
 ghost use Rattle.bit_slice_paths.specs.declared.two_memories.Fit.TheVariants.{Level};
 
-use crate::across::{combine_part, difference_of_part};
+use crate::across::combine_part;
 use crate::combining::Combining;
-use crate::match_words::{match_joined, match_words};
+use crate::match_words::{match_joined, match_words, round_words};
 use crate::merge::{merge_joined, merge_part, merge_words};
 use crate::walk::{Reached, Stretch, walk};
 use crate::word_source::{Aligned, are_alike};
@@ -198,11 +198,11 @@ pub fn combine<H: Combining, R: BitRegister, O: BitOrder<R>, Q: BitRegister, P: 
     walk::<R, O, Merging<'_, '_, H, R, O, Q, P>>(&mut stretch, len).done
 }
 
-/// Up to which whole words two memories are the same, from a place on at which a word begins: `n`, or the first word of a
-/// round with a difference.
+// Up to which whole words two memories are the same, from a place on at which a word begins: `n`, or the first word of a
+// round with a difference.
 #[inline(always)]
 #[tactic(auto, using(crate::proofs::FitLemmas::words_behind))]
-pub fn match_middle<R: BitRegister, O: BitOrder<R>, Q: BitRegister, P: BitOrder<Q>>(
+fn match_middle<R: BitRegister, O: BitOrder<R>, Q: BitRegister, P: BitOrder<Q>>(
     fit: Fit<Straight<Q, P>>,
     words: &[R],
     place: usize,
@@ -241,103 +241,56 @@ pub fn match_middle<R: BitRegister, O: BitOrder<R>, Q: BitRegister, P: BitOrder<
     match_words::<R, O, Aligned<'_, R, O, Q, P>>(words, first, &source, n)
 }
 
-#[derive(Drop)]
-struct Matching<'a, 'b, R: BitRegister, O: BitOrder<R>, Q: BitRegister, P: BitOrder<Q>> {
-    fit: Fit<Straight<Q, P>>,
-    words: &'a [R],
-    place: usize,
-    others: &'b [Q],
-    other_place: usize,
-    len: usize,
-    order: PhantomData<O>,
-    its_order: PhantomData<P>,
-    ghost fits: { IsFit R.BITS O.position Q.BITS P.position place other_place fit },
-    ghost lies: { Lies R.BITS words.now place len },
-    ghost other_lies: { Lies Q.BITS others.now other_place len },
-}
+/// Words that go straight are compared so many bits at a time: vector instructions leave none over that go one by one.
+pub const ROUND: usize = 256;
 
-impl<'a, 'b, R: BitRegister, O: BitOrder<R>, Q: BitRegister, P: BitOrder<Q>> Stretch<R, O>
-    for Matching<'a, 'b, R, O, Q, P> {
-    ghost use Rattle.bit_slice_paths.specs.Fits.{AreSame, Matched, matched_none};
-
-    ghost at = { λ s. s.place };
-
-    ghost len = { λ s. s.len };
-
-    ghost Done = { λ s t n. Matched (read_by R.BitRegister O.position) s.words.now t.words.now s.place t.place
-        (read_by Q.BitRegister P.position) s.others.now t.others.now s.other_place t.other_place s.len t.len n };
-
-    ghost IsStopped = { λ s. AreSame (read_by R.BitRegister O.position) s.words.now s.place
-        (read_by Q.BitRegister P.position) s.others.now s.other_place s.len → ⊥ };
-
-    #[inline(always)]
-    fn place(&self) -> usize {
-        self.place
-    }
-
-    #[inline(always)]
-    fn part(&mut self, done: usize, count: usize) -> bool {
-        let same = difference_of_part::<R, O, Q, P>(
-            self.words,
-            self.place + done,
-            self.others,
-            self.other_place + done,
-            count,
-        );
-        same == count
-    }
-
-    #[inline(always)]
-    fn words(&mut self, done: usize, n: usize) -> usize {
-        match_middle::<R, O, Q, P>(
-            self.fit,
-            self.words,
-            self.place + done,
-            self.others,
-            self.other_place + done,
-            n,
-        )
-    }
-
-    ghost fits = { λ s. s.lies.ends };
-
-    ghost none = { λ s. matched_none _ s.words.now s.place _ s.others.now s.other_place s.len };
-}
-
-/// How many of the first of `len` bits, 64 or more, are known to be those of another memory: all, or those before the
-/// round of words in which one differs; and how many were read for it.
-#[inline(never)]
-pub fn matched<R: BitRegister, O: BitOrder<R>, Q: BitRegister, P: BitOrder<Q>>(
-    fit: Fit<Straight<Q, P>>,
+/// How many of the first bits are the same, if the first `few` are, and how many were read for it: by whole words behind the
+/// last border in those, as far as they go, or up to the round in which one differs.
+#[inline(always)]
+pub fn match_behind<R: BitRegister, O: BitOrder<R>, Q: BitRegister, P: BitOrder<Q>>(
     words: &[R],
     place: usize,
     others: &[Q],
     other_place: usize,
     len: usize,
+    few: usize,
 ) -> Reached
-    requires fit { IsFit R.BITS O.position Q.BITS P.position place other_place fit }
-    requires many { 64 ≤ len }
+    requires few { few ≤ len }
     requires lies { Lies R.BITS words.now place len }
     requires other_lies { Lies Q.BITS others.now other_place len }
+    requires same { AreSame (read_by R.BitRegister O.position) words.now place
+        (read_by Q.BitRegister P.position) others.now other_place few }
     ensures order { result.done ≤ result.seen }
     ensures most { result.seen ≤ len }
-    ensures some { result.done < len → 0 < result.seen }
-    ensures same { (k : ℕ) → k < result.done
-        → entry (read_by R.BitRegister O.position) words.now (place + k)
-        ≡ entry (read_by Q.BitRegister P.position) others.now (other_place + k) }
-    ensures differ { result.done < len → ((k : ℕ) → k < len
-        → entry (read_by R.BitRegister O.position) words.now (place + k)
-        ≡ entry (read_by Q.BitRegister P.position) others.now (other_place + k)) → ⊥ }
+    ensures same { AreSame (read_by R.BitRegister O.position) words.now place
+        (read_by Q.BitRegister P.position) others.now other_place result.done }
+    ensures differ { result.done < result.seen → AreSame (read_by R.BitRegister O.position) words.now place
+        (read_by Q.BitRegister P.position) others.now other_place len → ⊥ }
 {
-    let mut stretch = Matching::<R, O, Q, P> {
-        fit,
-        words,
-        place,
-        others,
-        other_place,
-        len,
-        order: PhantomData,
-        its_order: PhantomData,
+    let known = Reached {
+        done: few,
+        seen: few,
     };
-    walk::<R, O, Matching<'_, '_, R, O, Q, P>>(&mut stretch, len)
+    let bits = bits_of::<R>();
+    let again = (place + few) % bits;
+    if again > few {
+        return known;
+    }
+    let start = few - again;
+    let (at, other_at, rest) = (place + start, other_place + start, len - start);
+    let Some(fit) = fit_of::<R, O, Q, P>(at, other_at, rest) else {
+        return known;
+    };
+    let over = if direction_of::<R, O>().is_some() {
+        rest % ROUND
+    } else {
+        0
+    };
+    let n = (rest - over) / bits;
+    let same = match_middle::<R, O, Q, P>(fit, words, at, others, other_at, n);
+    let seen = same + (n - same).min(round_words::<R>());
+    Reached {
+        done: start + same * bits,
+        seen: start + seen * bits,
+    }
 }

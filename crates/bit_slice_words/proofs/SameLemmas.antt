@@ -1,5 +1,5 @@
 -- Tests and answers: `differ_tested`, `answers_yes`, `answers_no`. Bits of two memories: `windows_equal`,
--- `windows_differ`, `windows_agree`, `windows_stand`, `windows_part`, `stand_behind`. One list in another:
+-- `windows_differ`, `windows_agree`, `windows_stand`, `windows_part`. One list in another:
 -- `holds_empty`, `holds_here`, `holds_none`, `holds_short`, `none_more`; told by the first place: `holds_behind`.
 use Rattle.std.proofs.Common.{◌≡◌, ◌≢◌, ℕ, ◌+◌, ◌-◌, ◌*◌, ◌<◌, ◌≤◌, ◌↔◌, ◌==◌, nat_lt, IsTrue}
 use Rattle.std.proofs.Common.{Bool, true, false, not, List, [], ◌∷◌, length, get_or, refl, sym, ap, ◌∙◌, inl, inr, arith}
@@ -8,7 +8,6 @@ use Rattle.std.proofs.lemmas.Bool.{cases_lt, eqb-true, eq-eqb, false≢true, lt-
 use Rattle.bit_addressing_memory.specs.Memory.{Reading, entry, memory, piece}
 use Rattle.bit_addressing_memory.proofs.MemoryLemmas.{piece_none, piece_piece}
 use Rattle.bit_addressing_memory.proofs.WindowLemmas.{length-window, window_bit, window_is}
-use Rattle.bit_slice_paths.proofs.WalkLemmas.{equal_more}
 use Rattle.bit_slice_paths.specs.Agrees.{Agrees}
 use Rattle.bit_slice_paths.specs.Stands.{Stands, StandsFirst}
 use Rattle.bit_slice_words.specs.Holds.{Holds}
@@ -83,17 +82,6 @@ windows_stand reading words its others place other_place n some its_some same k 
     sym (window_bit reading words place n k some low)
     ∙ ap (λ xs. get_or xs k false) same
     ∙ window_bit its others other_place n k its_some low
-
--- first bits that are the same, and words behind them that are
-pub stand_behind : {R Q : Type 0} (reading : Reading R) (words : List R) (its : Reading Q) (others : List Q)
-    (place other_place few start n done bits : ℕ) → start ≤ few → n ≡ done → bits ≡ reading.bits
-    → Stands reading words place its others other_place few
-    → Stands reading words (place + start) its others (other_place + start) (done * reading.bits)
-    → Stands reading words place its others other_place (start + n * bits)
-stand_behind reading words its others place other_place few start n done bits inside all is had more k low =
-    let row : n * bits ≡ done * reading.bits = rw (all, is) refl in
-    equal_more reading its words others place other_place start (done * reading.bits) (start + done * reading.bits) refl
-    (λ i small. had i (omega arith)) more k (omega (arith, row))
 
 -- they are not equal where fewer of them do not agree throughout
 pub windows_part : {R Q : Type 0} (reading : Reading R) (words : List R) (its : Reading Q) (others : List Q)

@@ -4,13 +4,9 @@ ghost use Rattle.std.specs.Prelude.{◌≡◌, ℕ, ◌+◌, ◌<◌, ◌≤◌,
 ghost use Rattle.bit_addressing_memory.specs.Prelude.{Lies, entry, memory, piece, read_by};
 
 use crate::agree::{BLOCK, agree_rest, agree_singly, few_before_block};
-use bit_addressing_memory::mem::bits_of;
 use bit_addressing_memory::{BitOrder, BitRegister, direction_of};
 use bit_slice_paths::across;
-use bit_slice_paths::two_memories::{fit_of, match_middle};
-
-// Words that go straight are compared so many bits at a time: vector instructions leave none over that go one by one.
-const ROUND: usize = 256;
+use bit_slice_paths::two_memories::{ROUND, match_behind};
 
 /// Whether the `len` bits of the memory `words` from a place on are those of the memory `others` from another place
 /// on, in order. No bits are equal to no bits.
@@ -93,24 +89,12 @@ fn equal_by_words<R: BitRegister, O: BitOrder<R>, Q: BitRegister, P: BitOrder<Q>
     ensures { IsTrue result ↔ (piece (memory (read_by R.BitRegister O.position) words.now) place len
         ≡ piece (memory (read_by Q.BitRegister P.position) others.now) other_place len) }
 {
-    let bits = bits_of::<R>();
-    let again = (place + few) % bits;
-    if again > few {
-        return equal_rest::<R, O, Q, P>(words, place, others, other_place, len, few);
-    }
-    let start = few - again;
-    let (at, other_at, rest) = (place + start, other_place + start, len - start);
-    let Some(fit) = fit_of::<R, O, Q, P>(at, other_at, rest) else {
-        return equal_rest::<R, O, Q, P>(words, place, others, other_place, len, few);
-    };
-    let is_straight = direction_of::<R, O>().is_some();
-    let over = if is_straight { rest % ROUND } else { 0 };
-    let n = (rest - over) / bits;
-    if match_middle::<R, O, Q, P>(fit, words, at, others, other_at, n) < n {
+    let reached = match_behind::<R, O, Q, P>(words, place, others, other_place, len, few);
+    if reached.done < reached.seen {
         return false;
     }
-    let same = start + n * bits;
-    if is_straight && ROUND <= len && len - same <= ROUND {
+    let same = reached.done;
+    if direction_of::<R, O>().is_some() && ROUND <= len && len - same <= ROUND {
         let before = len - ROUND;
         let (last, other_last) = (place + before, other_place + before);
         return before + across::difference::<R, O, Q, P>(words, last, others, other_last, ROUND)

@@ -292,11 +292,13 @@ fn match_many<R: BitRegister, O: BitOrder<R>, Q: BitRegister, P: BitOrder<Q>>(
     ensures most { result.seen ≤ len }
     ensures some { result.done < len → 0 < result.seen }
 {
-    let near = mismatch_by_blocks::<R, O, Q, P>(words, place, others, other_place, NEAR_BITS);
-    if near.done < NEAR_BITS {
+    // Up to a border of words, so that no bit is read twice.
+    let near_bits = NEAR_BITS - place % bits_of::<R>();
+    let near = mismatch_by_blocks::<R, O, Q, P>(words, place, others, other_place, near_bits);
+    if near.done < near_bits {
         return near;
     }
-    let far = match_behind::<R, O, Q, P>(words, place, others, other_place, len, NEAR_BITS);
+    let far = match_behind::<R, O, Q, P>(words, place, others, other_place, len, near_bits);
     if far.done < far.seen {
         return far;
     }

@@ -29,38 +29,50 @@ overflow_mul-result-2 g c =
     let bits = c.bits_of-bits.result in
     let start = c.args.few - (c.args.place + c.args.few) % bits in
     let read = c.match_middle-same.result + c.min.result in
-    omega (arith, c.match_middle-same.ensures.most, read_within c.args.len start c.if-is_some.over bits read (omega arith)
-    (omega (arith, c.match_middle-same.ensures.most)))
+    omega (
+      arith,
+      c.match_middle-same.ensures.most,
+      read_within c.args.len start c.if-is_some.over bits read (omega arith)
+          (omega (arith, c.match_middle-same.ensures.most)),
+    )
 
 pub overflow_add-result-2 : goal.overflow_add-result-2
 overflow_add-result-2 g c =
     let bits = c.bits_of-bits.result in
     let start = c.args.few - (c.args.place + c.args.few) % bits in
     let read = c.match_middle-same.result + c.min.result in
-    omega (arith, c.match_middle-same.ensures.most, read_within c.args.len start c.if-is_some.over bits read (omega arith)
-    (omega (arith, c.match_middle-same.ensures.most)))
+    omega (
+      arith,
+      c.match_middle-same.ensures.most,
+      read_within c.args.len start c.if-is_some.over bits read (omega arith)
+          (omega (arith, c.match_middle-same.ensures.most)),
+    )
 
 pub returns-clause-most : goal.returns-clause-most
 returns-clause-most g c =
     let bits = c.bits_of-bits.result in
     let start = c.args.few - (c.args.place + c.args.few) % bits in
     let read = c.match_middle-same.result + c.min.result in
-    omega (arith, c.match_middle-same.ensures.most, read_within c.args.len start c.if-is_some.over bits read (omega arith)
-    (omega (arith, c.match_middle-same.ensures.most)))
+    omega (
+      arith,
+      c.match_middle-same.ensures.most,
+      read_within c.args.len start c.if-is_some.over bits read (omega arith)
+          (omega (arith, c.match_middle-same.ensures.most)),
+    )
 
 pub returns-clause-differ : goal.returns-clause-differ
 returns-clause-differ g c less all = elim (cases_lt c.match_middle-same.result ((c.args.len
     - (c.args.few - (c.args.place + c.args.few) % c.bits_of-bits.result) - c.if-is_some.over) / c.bits_of-bits.result)) [
-  | inl low ↦
-      let bits = c.bits_of-bits.result in
-      let start = c.args.few - (c.args.place + c.args.few) % bits in
-      let rest = c.args.len - start - c.if-is_some.over in
-      let row : rest / bits * bits ≡ rest / bits * g.R.BitRegister.BITS = ap (λ b. rest / bits * b) c.bits_of-bits.ensures in
-      c.match_middle-same.ensures.differ low (λ k small.
-      let here : c.args.place + start + k ≡ c.args.place + (start + k) = omega arith in
-      let there : c.args.other_place + start + k ≡ c.args.other_place + (start + k) = omega arith in
-      rw (here, there) (all (start + k) (omega (arith, row, div-add-mod' rest bits))))
-  | inr high ↦
-      let none : c.min.result ≡ 0 = omega arith in
-      absurd (omega (arith, rw none at less))
-]
+      | inl low ↦
+          let bits = c.bits_of-bits.result in
+          let start = c.args.few - (c.args.place + c.args.few) % bits in
+          let rest = c.args.len - start - c.if-is_some.over in
+          let row : rest / bits * bits ≡ rest / bits * g.R.BitRegister.BITS = ap (λ b. rest / bits * b) c.bits_of-bits.ensures in
+          c.match_middle-same.ensures.differ low (λ k small.
+          let here : c.args.place + start + k ≡ c.args.place + (start + k) = omega arith in
+          let there : c.args.other_place + start + k ≡ c.args.other_place + (start + k) = omega arith in
+          rw (here, there) (all (start + k) (omega (arith, row, div-add-mod' rest bits))))
+      | inr high ↦
+          let none : c.min.result ≡ 0 = omega arith in
+          absurd (omega (arith, rw none at less))
+    ]

@@ -167,7 +167,7 @@ impl<'a, 'b, H: Combining, R: BitRegister, O: BitOrder<R>, Q: BitRegister, P: Bi
 }
 
 /// Combines each of `len` bits, 64 or more, with one of another memory, and returns how many.
-#[inline(always)]
+#[inline(never)]
 pub fn combine<H: Combining, R: BitRegister, O: BitOrder<R>, Q: BitRegister, P: BitOrder<Q>>(
     fit: Fit<Straight<Q, P>>,
     words: &mut [R],

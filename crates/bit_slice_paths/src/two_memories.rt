@@ -15,7 +15,7 @@ use crate::walk::{Reached, Stretch, walk};
 use crate::word_source::{Aligned, are_alike};
 use bit_addressing_memory::mem::bits_of;
 use bit_addressing_memory::{
-    BitOrder, BitRegister, JOINED_WORDS, Straight, WHOLE_WORDS, direction_of,
+    BitOrder, BitRegister, FROM_BORDER, JOINED_WORDS, Straight, WHOLE_WORDS, direction_of,
 };
 use std::marker::PhantomData;
 
@@ -267,19 +267,22 @@ pub fn match_behind<R: BitRegister, O: BitOrder<R>, Q: BitRegister, P: BitOrder<
     ensures differ { result.done < result.seen → AreSame (read_by R.BitRegister O.position) words.now place
         (read_by Q.BitRegister P.position) others.now other_place len → ⊥ }
 {
-    let known = Reached {
-        done: few,
-        seen: few,
-    };
     let bits = bits_of::<R>();
     let again = (place + few) % bits;
-    if again > few {
-        return known;
+    // Few bits go on where they are.
+    if again > few || len < FROM_BORDER {
+        return Reached {
+            done: few,
+            seen: few,
+        };
     }
     let start = few - again;
     let (at, other_at, rest) = (place + start, other_place + start, len - start);
     let Some(fit) = fit_of::<R, O, Q, P>(at, other_at, rest) else {
-        return known;
+        return Reached {
+            done: start,
+            seen: start,
+        };
     };
     let over = if direction_of::<R, O>().is_some() {
         rest % ROUND

@@ -1,0 +1,7 @@
+pub mod Stretch
+-- what public clauses cite of the crates below
+pub use Rattle.bit_addressing_memory.specs.BitOrder
+pub use Rattle.bit_addressing_memory.specs.BitRegister
+pub use Rattle.bit_addressing_memory.specs.Bits
+pub use Rattle.bit_addressing_memory.specs.Memory
+pub use Rattle.bit_addressing_memory.specs.Straight

@@ -1,7 +1,7 @@
 -- Two stretches, part after part.
 --
--- Words that a place has behind it: `few_words`, `more_words`, `words_lie`, `next_lies`, `read_within`. Stretches that fit: `level_on`, `fit_on`,
--- `shifted_fit`. One part more: `merged_more`.
+-- Words that a place has behind it: `few_words`, `more_words`, `words_lie`, `next_lies`, `read_within`. Stretches that
+-- fit: `level_on`, `fit_on`, `shifted_fit`. One part more: `merged_more`.
 use Rattle.bit_addressing_memory.proofs.Common.{◌≡◌, ℕ, ◌+◌, ◌-◌, ◌*◌, ◌/◌, ◌%◌, ◌<◌, ◌≤◌, Bool, List, refl, sym, ap}
 use Rattle.bit_addressing_memory.proofs.Common.{◌∙◌, inl, inr, arith, cases_lt, Reading}
 use Rattle.std.proofs.Math.Nat.{mod-add-mod, mul-le-mul_right}

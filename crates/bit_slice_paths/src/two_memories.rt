@@ -247,6 +247,7 @@ pub const ROUND: usize = 256;
 /// How many of the first bits are the same, if the first `few` are, and how many were read for it: by whole words behind the
 /// last border in those, as far as they go, or up to the round in which one differs.
 #[inline(always)]
+#[tactic(auto, using(crate::proofs::FitLemmas::read_within))]
 pub fn match_behind<R: BitRegister, O: BitOrder<R>, Q: BitRegister, P: BitOrder<Q>>(
     words: &[R],
     place: usize,

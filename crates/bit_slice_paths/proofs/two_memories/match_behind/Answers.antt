@@ -24,42 +24,6 @@ returns-clause-same g c k low =
     (start + same * g.R.BitRegister.BITS) refl (λ i small. c.requires.same i (omega arith)) c.match_middle-same.ensures.same k
     (omega (arith, row))
 
-pub overflow_mul-result-2 : goal.overflow_mul-result-2
-overflow_mul-result-2 g c =
-    let bits = c.bits_of-bits.result in
-    let start = c.args.few - (c.args.place + c.args.few) % bits in
-    let read = c.match_middle-same.result + c.min.result in
-    omega (
-      arith,
-      c.match_middle-same.ensures.most,
-      read_within c.args.len start c.if-is_some.over bits read (omega arith)
-          (omega (arith, c.match_middle-same.ensures.most)),
-    )
-
-pub overflow_add-result-2 : goal.overflow_add-result-2
-overflow_add-result-2 g c =
-    let bits = c.bits_of-bits.result in
-    let start = c.args.few - (c.args.place + c.args.few) % bits in
-    let read = c.match_middle-same.result + c.min.result in
-    omega (
-      arith,
-      c.match_middle-same.ensures.most,
-      read_within c.args.len start c.if-is_some.over bits read (omega arith)
-          (omega (arith, c.match_middle-same.ensures.most)),
-    )
-
-pub returns-clause-most : goal.returns-clause-most
-returns-clause-most g c =
-    let bits = c.bits_of-bits.result in
-    let start = c.args.few - (c.args.place + c.args.few) % bits in
-    let read = c.match_middle-same.result + c.min.result in
-    omega (
-      arith,
-      c.match_middle-same.ensures.most,
-      read_within c.args.len start c.if-is_some.over bits read (omega arith)
-          (omega (arith, c.match_middle-same.ensures.most)),
-    )
-
 pub returns-clause-differ : goal.returns-clause-differ
 returns-clause-differ g c less all = elim (cases_lt c.match_middle-same.result ((c.args.len
     - (c.args.few - (c.args.place + c.args.few) % c.bits_of-bits.result) - c.if-is_some.over) / c.bits_of-bits.result)) [

@@ -1,5 +1,6 @@
 -- Bits of a memory combined with those of a chunk.
-use Rattle.bit_addressing_memory.proofs.Common.{◌≡◌, ℕ, ◌+◌, ◌-◌, ◌*◌, ◌%◌, ◌==◌, ◌<◌, ◌≤◌, Bool, ◌&&◌, ◌||◌, List}
+use Rattle.bit_addressing_memory.proofs.Common.{◌≡◌, ℕ, ◌+◌, ◌-◌, ◌*◌, ◌%◌}
+use Rattle.bit_addressing_memory.proofs.Common.{◌==◌, ◌<◌, ◌≤◌, Bool, ◌&&◌, ◌||◌, List}
 use Rattle.bit_addressing_memory.proofs.Common.{length, get_or, bit_and, bit_or, bit_xor, min, max, sym, ap, ap₂, ◌∙◌}
 use Rattle.bit_addressing_memory.proofs.Common.{inl, inr, arith, cases_lt, Reading, entry, reading_in, Overwrites}
 use mathlib.Core.Bool.{xor}

@@ -1,5 +1,6 @@
 -- Chunks in another direction, and where two differ.
-use Rattle.bit_addressing_memory.proofs.Common.{◌≡◌, ℕ, ◌+◌, ◌-◌, ◌*◌, ◌/◌, ◌^◌, ◌==◌, ◌<◌, ◌≤◌, ◌≢◌, suc, Bool, true}
+use Rattle.bit_addressing_memory.proofs.Common.{◌≡◌, ℕ, ◌+◌, ◌-◌, ◌*◌, ◌/◌, ◌^◌}
+use Rattle.bit_addressing_memory.proofs.Common.{◌==◌, ◌<◌, ◌≤◌, ◌≢◌, suc, Bool, true}
 use Rattle.bit_addressing_memory.proofs.Common.{false, List, bit_xor, refl, sym, ap, ◌∙◌, inl, inr, arith, cases_lt}
 use Rattle.bit_addressing_memory.proofs.Common.{Reading}
 use denote.Enum.Bare.{sameb}

@@ -1,6 +1,7 @@
 -- The ones of a number are the trues of its list in any lawful order: `ones_in_order`. True bits of lists: `trues`,
 -- `trues-append`, `trues_none`, `trues-falses`.
-use Rattle.bit_addressing_memory.proofs.Common.{◌≡◌, ◌≢◌, ℕ, ◌+◌, ◌-◌, ◌*◌, ◌/◌, ◌%◌, ◌^◌, ◌<◌, ◌≤◌, ◌==◌, zero, suc}
+use Rattle.bit_addressing_memory.proofs.Common.{◌≡◌, ◌≢◌, ℕ, ◌+◌, ◌-◌, ◌*◌, ◌/◌}
+use Rattle.bit_addressing_memory.proofs.Common.{◌%◌, ◌^◌, ◌<◌, ◌≤◌, ◌==◌, zero, suc}
 use Rattle.bit_addressing_memory.proofs.Common.{Bool, true, false, cond, not, List, [], ◌∷◌, ◌++◌, Option, length}
 use Rattle.bit_addressing_memory.proofs.Common.{get_or, set, count_by, refl, sym, ap, ◌∙◌, inl, inr, arith, cases_lt}
 use Rattle.bit_addressing_memory.proofs.Common.{cases_eq}

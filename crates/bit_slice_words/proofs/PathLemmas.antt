@@ -1,5 +1,6 @@
 -- Word paths bit by bit: their steps, and bits that are equal so far.
-use Rattle.bit_addressing_memory.proofs.Common.{◌≡◌, ◌≢◌, ℕ, ◌+◌, ◌-◌, ◌<◌, ◌≤◌, ◌↔◌, ◌∙◌, IsTrue, Bool, true, false}
+use Rattle.bit_addressing_memory.proofs.Common.{◌≡◌, ◌≢◌, ℕ, ◌+◌, ◌-◌, ◌<◌}
+use Rattle.bit_addressing_memory.proofs.Common.{◌≤◌, ◌↔◌, ◌∙◌, IsTrue, Bool, true, false}
 use Rattle.bit_addressing_memory.proofs.Common.{not, List, refl, sym, ap, inl, inr, arith, min, cases_lt, Reading}
 use Rattle.bit_addressing_memory.proofs.Common.{entry}
 use mathlib.Core.Bool.{beq}

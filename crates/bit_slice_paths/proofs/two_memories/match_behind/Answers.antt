@@ -1,7 +1,6 @@
 use Rattle.bit_addressing_memory.proofs.Common.{◌≡◌, ◌+◌, ◌-◌, ◌*◌, ◌/◌, ◌%◌, ◌<◌, refl, ap, arith}
 use Rattle.bit_addressing_memory.proofs.Common.{cases_lt, inl, inr, read_by}
 use Rattle.std.proofs.lemmas.Nat.{div-add-mod', div-mul-add}
-use Rattle.bit_slice_paths.proofs.FitLemmas.{read_within}
 use Rattle.bit_slice_paths.proofs.WalkLemmas.{equal_more}
 use Rattle.bit_slice_paths.proofs.two_memories.match_behind.Goals as goal
 

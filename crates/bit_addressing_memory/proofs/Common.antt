@@ -1,5 +1,6 @@
 -- The names that most proofs over words cite, passed on from one place. Declares nothing.
-pub use Rattle.std.proofs.Common.{◌≡◌, ◌≢◌, ℕ, zero, suc, ◌+◌, ◌-◌, ◌*◌, ◌/◌, ◌%◌, ◌^◌, ◌<◌, ◌≤◌, ◌==◌, ◌↔◌, ◌⊎◌}
+pub use Rattle.std.proofs.Common.{◌≡◌, ◌≢◌, ℕ, zero, suc, ◌+◌, ◌-◌, ◌*◌}
+pub use Rattle.std.proofs.Common.{◌/◌, ◌%◌, ◌^◌, ◌<◌, ◌≤◌, ◌==◌, ◌↔◌, ◌⊎◌}
 pub use Rattle.std.proofs.Common.{Bool, true, false, not, cond, ◌&&◌, ◌||◌, IsTrue, nat_lt, min, max, bit_and, bit_or}
 pub use Rattle.std.proofs.Common.{bit_xor, List, [], ◌∷◌, ◌++◌, map, reverse, length, get_or, take, drop, set, replicate}
 pub use Rattle.std.proofs.Common.{count_by, position, Option, Some, None, refl, sym, ap, ap₂, subst, ◌∙◌}

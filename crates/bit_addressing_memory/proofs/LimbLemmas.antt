@@ -1,5 +1,6 @@
 -- Limbs: how many blocks of eight digits they have, and their digits.
-use Rattle.bit_addressing_memory.proofs.Common.{◌≡◌, ℕ, ◌+◌, ◌-◌, ◌*◌, ◌/◌, ◌%◌, ◌^◌, ◌==◌, ◌<◌, ◌≤◌, List, length}
+use Rattle.bit_addressing_memory.proofs.Common.{◌≡◌, ℕ, ◌+◌, ◌-◌, ◌*◌, ◌/◌}
+use Rattle.bit_addressing_memory.proofs.Common.{◌%◌, ◌^◌, ◌==◌, ◌<◌, ◌≤◌, List, length}
 use Rattle.bit_addressing_memory.proofs.Common.{get_or, set, ◌≢◌, false, bit_or, min, ap, sym, ◌∙◌, inl, inr, arith}
 use Rattle.bit_addressing_memory.proofs.Common.{cases_lt, eqb-false, Reading, entry, Overwrites, IsStored}
 use Rattle.std.proofs.Math.Nat.{mul-le-mul_right}

@@ -61,10 +61,16 @@ fn change_whole<H: Combining, R: BitRegister, O: BitOrder<R>>(
         (from * R.BITS) ((upto - from) * R.BITS) (λ b. combined_bit H.HOW b bit) }
     ensures writes { result ≡ upto - from }
 {
-    let n = upto - from;
-    let source = Constant { bit, count: n };
-    merge_words::<H, R, O, Constant>(words, from, &source, n);
-    n
+    let count = upto - from;
+    // A loop for each bit: where the word that it puts is known, a compiler calls `memset`.
+    if bit {
+        let ones = Constant { bit: true, count };
+        merge_words::<H, R, O, Constant>(words, from, &ones, count);
+    } else {
+        let zeros = Constant { bit: false, count };
+        merge_words::<H, R, O, Constant>(words, from, &zeros, count);
+    }
+    count
 }
 
 /// Combines each of `len` bits of a memory, those from `place` on, with `bit`, and returns how many words it wrote. Every

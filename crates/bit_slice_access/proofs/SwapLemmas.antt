@@ -1,13 +1,17 @@
 -- Two lists exchanged, part by part from the first on, or element by element.
 --
 -- Those before the next part, and those from it on: `part_below`, `part_above`; of one element: `changed_below`,
--- `changed_above`. All of them: `changed_all`.
+-- `changed_above`. All of them: `changed_all`. By what differs: `first_twice`, `second_twice`.
 use Rattle.std.proofs.Common.{◌≡◌, ◌≢◌, ℕ, ◌+◌, ◌-◌, ◌<◌, ◌≤◌, ◌∙◌}
 use Rattle.std.proofs.Common.{Bool, false, List, length, get_or, set, ap, arith, inl, inr}
-use Rattle.std.proofs.Common.{get_or-set_same, get_or-set_other}
+use Rattle.std.proofs.Common.{get_or-set_same, get_or-set_other, refl, replicate, sym, take_all, true}
+use mathlib.Core.Bool.{xor}
+use Rattle.std.specs.Simd.Lanes.{zip2}
+use Rattle.std.proofs.lemmas.Simd.{get_or-zip2, length-zip2}
 use Rattle.std.proofs.lemmas.Bool.{cases_eq, cases_lt}
-use Rattle.std.proofs.lemmas.List.{ext_get_or}
+use Rattle.std.proofs.lemmas.List.{ext_get_or, take-append-le}
 use Rattle.bit_addressing_memory.specs.Memory.{piece, with_piece}
+use Rattle.bit_slice_views_mut.specs.Combined.{combined}
 use Rattle.bit_addressing_memory.proofs.MemoryLemmas.{get_or-piece, length-piece, with_piece_above, with_piece_below}
 use Rattle.bit_addressing_memory.proofs.MemoryLemmas.{with_piece_inside}
 
@@ -60,3 +64,56 @@ changed_above xs zs i bit so_far k above =
 pub changed_all : (xs ys : List Bool) (n : ℕ) → length xs ≡ length ys → length xs ≡ n
     → ((k : ℕ) → k < n → get_or xs k false ≡ get_or ys k false) → xs ≡ ys
 changed_all xs ys n size all same = ext_get_or false xs ys size (λ k low. same k (omega arith))
+
+-- ---- by what differs
+
+combined_same : (xs ys : List Bool) → length ys ≡ length xs → combined xor xs ys ≡ zip2 xor xs ys
+combined_same xs ys same =
+    ap (zip2 xor xs) (take-append-le (length xs) ys (replicate (length xs) false) (omega (arith, same))
+    ∙ take_all (length xs) ys (omega (arith, same)))
+
+length-differ : (xs ys : List Bool) → length ys ≡ length xs → length (combined xor xs ys) ≡ length xs
+length-differ xs ys same = ap length (combined_same xs ys same) ∙ length-zip2 xor xs ys (sym same)
+
+get_or-differ : (xs ys : List Bool) (k : ℕ) → length ys ≡ length xs → k < length xs
+    → get_or (combined xor xs ys) k false ≡ xor (get_or xs k false) (get_or ys k false)
+get_or-differ xs ys k same low =
+    ap (λ bs. get_or bs k false) (combined_same xs ys same)
+    ∙ get_or-zip2 xor xs ys k false false false low (omega (arith, same))
+
+back_first : (x y : Bool) → xor y (xor x y) ≡ x
+unfolding xor
+back_first true true = refl
+back_first true false = refl
+back_first false true = refl
+back_first false false = refl
+
+back_second : (x y : Bool) → xor (xor x y) x ≡ y
+unfolding xor
+back_second true true = refl
+back_second true false = refl
+back_second false true = refl
+back_second false false = refl
+
+-- where ys are flipped by what differs, they become xs
+pub first_twice : (xs ys more : List Bool) → length ys ≡ length xs → more ≡ combined xor xs ys
+    → combined xor ys more ≡ xs
+first_twice xs ys more same is =
+    let size : length more ≡ length xs = ap length is ∙ length-differ xs ys same in
+    let all : length (combined xor ys more) ≡ length ys = length-differ ys more (size ∙ sym same) in
+    ext_get_or false (combined xor ys more) xs (all ∙ same) (λ k low.
+    get_or-differ ys more k (size ∙ sym same) (omega (arith, all))
+    ∙ ap (xor (get_or ys k false)) (ap (λ bs. get_or bs k false) is ∙ get_or-differ xs ys k same (omega (arith, all, same)))
+    ∙ back_first (get_or xs k false) (get_or ys k false))
+
+-- and those that differ become ys
+pub second_twice : (xs ys more : List Bool) → length ys ≡ length xs → more ≡ combined xor xs ys
+    → combined xor more xs ≡ ys
+second_twice xs ys more same is =
+    let size : length more ≡ length xs = ap length is ∙ length-differ xs ys same in
+    let all : length (combined xor more xs) ≡ length more = length-differ more xs (sym size) in
+    ext_get_or false (combined xor more xs) ys (all ∙ size ∙ sym same) (λ k low.
+    get_or-differ more xs k (sym size) (omega (arith, all))
+    ∙ ap (λ b. xor b (get_or xs k false)) (ap (λ bs. get_or bs k false) is
+    ∙ get_or-differ xs ys k same (omega (arith, all, size)))
+    ∙ back_second (get_or xs k false) (get_or ys k false))

@@ -5,7 +5,9 @@ ghost use Rattle.bit_addressing_memory.specs.Memory.{memory, piece, read_by, wit
 
 use crate::edits::BitsEdits;
 use crate::parts::BitsParts;
-use bit_addressing_memory::{BitOrder, BitRegister, BulkOp, Lsb0, bit_loop_limit_of_two};
+use bit_addressing_memory::{
+    BitOrder, BitRegister, BulkOp, Lsb0, bit_loop_limit_of_two, direction_of, goes,
+};
 use bit_slice_views_mut::{BitRange, BitSlice, Bits, BitsMut, copy_in};
 
 /// The copies of a window that no single lower call makes: of every `BitsMut`.
@@ -60,6 +62,8 @@ pub trait BitsCopy: BitsMut {
         );
         if self.len() <= few {
             swap_singly(self, other);
+        } else if go_by_words::<Self, W>() {
+            swap_by_words(self, other);
         } else {
             swap_by_chunks(self, other);
         }
@@ -105,6 +109,33 @@ fn swap_singly<V: BitsMut, W: BitsMut>(view: &mut V, other: &mut W)
         let bit = other.replace(i, was);
         view.set(i, bit);
     }
+}
+
+// Whether words of two windows have as many bits, and their positions go straight in one direction.
+#[inline(always)]
+fn go_by_words<V: BitsMut, W: BitsMut>() -> bool {
+    match direction_of::<V::Store, V::Order>() {
+        Some(direction) => {
+            V::Store::BITS == W::Store::BITS && goes::<W::Store, W::Order>(direction)
+        }
+        None => false,
+    }
+}
+
+// `swap_with_bitslice`: bits that differ are flipped in both. Of words that are alike three combinations cost less than
+// three copies, one of them to words beside the windows.
+fn swap_by_words<V: BitsMut, W: BitsMut>(view: &mut V, other: &mut W)
+    requires { length (W.bits other.old) ≡ length (V.bits view.old) }
+    ensures bits { V.bits view.new ≡ W.bits other.old }
+    ensures len { length (V.bits view.new) ≡ length (V.bits view.old) }
+    ensures frame { V.frame view.new ≡ V.frame view.old }
+    ensures other_bits { W.bits other.new ≡ V.bits view.old }
+    ensures other_len { length (W.bits other.new) ≡ length (W.bits other.old) }
+    ensures other_frame { W.frame other.new ≡ W.frame other.old }
+{
+    view.xor_bits(other);
+    other.xor_bits(view);
+    view.xor_bits(other);
 }
 
 // `swap_with_bitslice`, by parts of 1,024 bits. Out of line, since the words that hold them are cleared where they stand.

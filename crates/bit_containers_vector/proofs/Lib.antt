@@ -12,4 +12,5 @@ pub mod DrainLemmas
 pub mod ElementLemmas
 pub mod AnswerLemmas
 pub mod ExtendLemmas
+pub mod GatherLemmas
 pub mod CallerLemmas

@@ -1,5 +1,6 @@
 pub mod Count
 pub mod Vector
+pub mod Gathered
 pub mod Grown
 pub mod Fill
 pub mod Lending

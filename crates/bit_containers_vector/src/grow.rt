@@ -1,15 +1,16 @@
 //! A vector of bits that grows at its end.
 
-ghost use Rattle.std.specs.Prelude.{◌≡◌, ◌+◌, ◌-◌, ◌*◌, ◌<◌, ◌≤◌, ◌↔◌, ◌∷◌, ◌++◌, [], length, IsOk, OnOk, OnErr};
+ghost use Rattle.std.specs.Prelude.{◌≡◌, ◌+◌, ◌-◌, ◌*◌, ◌<◌, ◌≤◌, ◌↔◌, ◌∷◌, ◌++◌, [], List, Bool, length, IsOk, OnOk, OnErr};
 ghost use Rattle.std.specs.Prelude.{◌^◌, IsSome, IfSome};
 ghost use Rattle.bit_addressing_memory.specs.Memory.{memory, piece, read_by};
 ghost use Rattle.bit_addressing_span.specs.declared.span.TheConstants.{MAX_BITS};
+ghost use Rattle.bit_containers_vector.specs.Gathered.{Gathers};
 ghost use Rattle.bit_containers_vector.specs.Grown.{Extends, Lengthened};
 ghost use Rattle.bit_containers_vector.specs.Vector.{vec_bits, room, HasRoomFor, IsAsBefore, Shortens};
 
 use crate::vector::BitVec;
 use crate::words::{copy, extend_words, put, shift};
-use bit_addressing_memory::{BitOrder, BitRegister, mem};
+use bit_addressing_memory::{BitOrder, BitRegister, Lsb0, mem};
 use bit_slice_views::{BitRange, BitStore, Bits};
 use std::alloc::AllocError;
 
@@ -140,6 +141,21 @@ impl<T: BitStore, O: BitOrder<T>> BitVec<T, O> {
         let end = self.head + self.len;
         self.lengthen(len)?;
         copy::<T, O, Q, P>(&mut self.words, end, words, head, len);
+        Ok(())
+    }
+
+    // Adds the lowest digits of a number at the end, up to 64.
+    pub(crate) fn extend_from_digits(&mut self, number: u64, count: u8) -> Result<(), AllocError>
+        requires few { count ≤ 64 }
+        requires most { length (vec_bits (read_by T.BitRegister O.position) self.old) + count ≤ MAX_BITS }
+        ensures ok { OnOk result ((xs : List Bool) → Gathers number count xs
+            → Extends (read_by T.BitRegister O.position) self.old self.new xs) }
+        ensures err { OnErr result (IsAsBefore (read_by T.BitRegister O.position) self.old self.new) }
+        ensures succeeds { HasRoomFor (read_by T.BitRegister O.position) self.old count → IsOk result }
+        ensures room { room (read_by T.BitRegister O.position) self.old
+            ≤ room (read_by T.BitRegister O.position) self.new }
+    {
+        self.extend_from_words::<u64, Lsb0>(std::slice::from_ref(&number), 0, count as usize)?;
         Ok(())
     }
 

@@ -9,7 +9,7 @@ ghost use Rattle.bit_containers_vector.specs.Grown.{Extends};
 ghost use Rattle.bit_containers_vector.specs.Vector.{vec_bits, vec_head, room, HasRoomFor, IsAsBefore, Shortens};
 
 use crate::vector::BitVec;
-use bit_addressing_memory::{BitOrder, BitRegister};
+use bit_addressing_memory::{BitIdx, BitOrder, BitRegister, Lsb0, write_bit};
 use bit_slice_views::{BitStore, Bits};
 use std::alloc::{AllocError, Global};
 
@@ -39,9 +39,19 @@ impl<T: BitStore, O: BitOrder<T>> BitVec<T, O> {
         ensures room { room (read_by T.BitRegister O.position) self.old
             ≤ room (read_by T.BitRegister O.position) self.new }
     {
+        // As many as a number has digits are added at once.
+        let mut gathered = 0u64;
+        let mut count = 0;
         for item in items {
-            self.push(item)?;
+            let index = BitIdx::new_unchecked(count);
+            gathered = write_bit::<u64, Lsb0>(gathered, index, item);
+            count += 1;
+            if count == 64 {
+                self.extend_from_digits(gathered, 64)?;
+                count = 0;
+            }
         }
+        self.extend_from_digits(gathered, count)?;
         Ok(())
     }
 

@@ -18,7 +18,7 @@ impl<T: BitStore, O: BitOrder<T>> BitVec<T, O> {
 
     /// Adds the bits that an iterator gives at the end. A word that comes to sight is zero beside them.
     ///
-    /// At a refusal the list has the first of them behind its own.
+    /// At a refusal the list has the first of them behind its own, and up to 64 more have been taken from the iterator.
     pub fn extend<I: Iterator<Item = bool>>(&mut self, items: I) -> Result<(), AllocError>
         requires can { I.can_next items }
         requires finite { IsFinite (I.remaining items) }

@@ -24,8 +24,8 @@ pub use bit_addressing_order::{
 };
 pub use bulk_ops::{
     BulkOp, COMPARED_BY_PATHS, COUNTED_BY_BLOCKS, FROM_BORDER, JOINED_WORDS, NARROW_WORD,
-    NEAR_BITS, NEAR_WORDS, ROTATED_BY_MOVES, WHOLE_WORDS, bit_loop_limit, bit_loop_limit_of_two,
-    limit_by_order,
+    NEAR_BITS, NEAR_WORDS, ROTATED_BY_MOVES, SWAPPED_BY_WORDS, WHOLE_WORDS, bit_loop_limit,
+    bit_loop_limit_of_two, limit_by_order,
 };
 pub use copies::{copy_between, copy_within, swap_between, swap_entries, swap_within};
 pub use direction::{Direction, Straight, direction_of, goes};

@@ -5,8 +5,10 @@ ghost use Rattle.bit_addressing_memory.specs.Memory.{memory, piece, read_by, wit
 
 use crate::edits::BitsEdits;
 use crate::parts::BitsParts;
+use bit_addressing_memory::mem::bits_of;
 use bit_addressing_memory::{
-    BitOrder, BitRegister, BulkOp, Lsb0, bit_loop_limit_of_two, direction_of, goes,
+    BitOrder, BitRegister, BulkOp, Lsb0, SWAPPED_BY_WORDS, bit_loop_limit_of_two, direction_of,
+    goes,
 };
 use bit_slice_views_mut::{BitRange, BitSlice, Bits, BitsMut, copy_in};
 
@@ -62,7 +64,7 @@ pub trait BitsCopy: BitsMut {
         );
         if self.len() <= few {
             swap_singly(self, other);
-        } else if go_by_words::<Self, W>() {
+        } else if go_by_words::<Self, W>(self.len()) {
             swap_by_words(self, other);
         } else {
             swap_by_chunks(self, other);
@@ -111,9 +113,12 @@ fn swap_singly<V: BitsMut, W: BitsMut>(view: &mut V, other: &mut W)
     }
 }
 
-// Whether words of two windows have as many bits, and their positions go straight in one direction.
+// Whether windows of so many bits have many words, all of as many bits, whose positions go straight in one direction.
 #[inline(always)]
-fn go_by_words<V: BitsMut, W: BitsMut>() -> bool {
+fn go_by_words<V: BitsMut, W: BitsMut>(len: usize) -> bool {
+    if len < SWAPPED_BY_WORDS * bits_of::<V::Store>() {
+        return false;
+    }
     match direction_of::<V::Store, V::Order>() {
         Some(direction) => {
             V::Store::BITS == W::Store::BITS && goes::<W::Store, W::Order>(direction)

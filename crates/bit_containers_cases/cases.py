@@ -26,12 +26,19 @@ MISALIGNED = (
     "TryFromBitSliceError::Misaligned"
 )
 
+# 140 bits.
+LONG = "0110100" * 20
+
 ROWS = [
     # the bits 0, 1, four zeros and the first four of 15: two bytes; the zeros one by one, at once, and by an iterator
     ("u8 msb0 - 0 0 push 0 ; push 1 ; push 0 ; push 0 ; push 0 ; push 0 ; extend 1111 ; raw", "43c0 [0100001111] 0 2"),
     ("u8 msb0 - 0 0 push 0 ; push 1 ; resize 6 0 ; extend 1111 ; ones ; given", "5,1,9,6,43c0 [] 0 0"),
     ("u8 msb0 - 0 0 push 0 ; push 1 ; extend_items 0000 ; extend 1111 ; raw", "43c0 [0100001111] 0 2"),
     ("u8 msb0 - 0 0 collect 0110", "[0110] 0 1"),
+    # more bits than a number has digits, and some behind them
+    (f"u16 lsb0 - 0 0 collect {LONG}", f"[{LONG}] 0 9"),
+    (f"u8 msb0 - 0 0 push 1 ; extend_items {LONG}", f"[1{LONG}] 0 18"),
+    (f"u64 lsb0 - 0 0 extend_items {LONG[:64]} ; push 1", f"[{LONG[:64]}1] 0 2"),
     # the bits 2 to before 6 of 1011 0101 keep their head; so does a copy, and `!` flips all eight bits
     ("u8 msb0 b5 2 4 raw", "34 [1101] 2 1"),
     ("u8 msb0 b5 2 4 clone ; raw", "34 [1101] 2 1"),

@@ -71,6 +71,7 @@ pub use bit_slice::FieldOrder;
 pub use bit_slice::Halves;
 pub use bit_slice::Integral;
 pub use bit_slice::Iter;
+pub use bit_slice::HiLo;
 pub use bit_slice::IterMut;
 pub use bit_slice::IterOnes;
 pub use bit_slice::IterZeros;

@@ -3,6 +3,7 @@ pub mod PointerRange
 pub mod PointerRangeLaws
 pub mod Own
 pub mod Runs
+pub mod WordEdits
 -- what public clauses cite of the crates below
 pub use Rattle.bit_addressing_span.specs.Domain
 pub use Rattle.bit_addressing_span.specs.BitDomain

@@ -15,6 +15,7 @@ pub use Rattle.bit_addressing_span.specs.PartialElementMut
 pub use Rattle.bit_addressing_span.specs.Parts
 pub use Rattle.bit_addressing_span.specs.PartialElement
 pub use Rattle.bit_addressing_span.specs.Span
+pub use Rattle.bit_addressing_span.specs.declared.span.TheConstants as SpanLimits
 pub use Rattle.bit_addressing_span.specs.Texts
 pub use Rattle.bit_addressing_span.specs.DomainWords
 pub use Rattle.bit_addressing_order.specs.BitIdx

@@ -1,6 +1,6 @@
 -- What the commands at one word of a span do to the span's list.
 --
--- No write: `carried_load`. A write of its bits, whichever it is: `carried_word`.
+-- No write: `carried_load`. A write of its bits: `carried_edit`.
 use Rattle.std.proofs.Common.{◌≡◌, ◌≢◌, ℕ, ◌+◌, ◌-◌, ◌*◌, ◌/◌, ◌%◌, ◌<◌, ◌≤◌, Bool, false, List}
 use Rattle.std.proofs.Common.{length, map, get_or, ltb, refl, sym, ap, ◌∙◌, inl, inr, arith}
 use Rattle.std.proofs.lemmas.Bool.{cases_lt}
@@ -20,8 +20,11 @@ use Rattle.bit_addressing_memory.proofs.PartsLemmas.{part_some, part_start}
 use Rattle.bit_addressing.specs.Own.{lies_in, own_digit, own_edit, own_reading, own_word, over_word}
 use Rattle.bit_addressing.specs.Runs.{CarriesOut}
 use Rattle.bit_addressing.specs.declared.command.SpanCommand.{SpanCommand}
-use Rattle.bit_addressing.specs.declared.command.SpanCommand.TheVariants.{Load}
+use Rattle.bit_addressing.specs.declared.command.SpanCommand.TheVariants.{Load, Store, Set, Clear, Invert}
 use Rattle.bit_addressing.specs.declared.command.SpanReply.TheVariants.{Word}
+use Rattle.bit_addressing.specs.declared.one_command.WordEdit.{WordEdit}
+use Rattle.bit_addressing.specs.declared.one_command.WordEdit.TheVariants.{Value, Ones, Zeros, Inverted}
+use Rattle.bit_addressing.specs.WordEdits.{bit_after, word_command}
 use Rattle.bit_addressing.proofs.CommandLemmas.{carried, length-span_bits, span_bit, span_within}
 
 -- ---- the word that is answered
@@ -123,7 +126,7 @@ over_piece b head k now bits ys i from m some count at short inside first last s
     ])
 
 -- a word read and written: each bit of the word of the list made `now` of its index and what it was
-pub carried_word : {R : Type 0} (reading : Reading R) (before after : List R) (span : Extent)
+carried_word : {R : Type 0} (reading : Reading R) (before after : List R) (span : Extent)
     (command : SpanCommand R) (k : ℕ) (word : R) (now : ℕ → Bool → Bool)
     → span.head < reading.bits → FitsIn reading.bits span (length before) → k < touched reading.bits span.head span.len
     → lies_in reading.bits span.head span.len command ≡ ltb k (touched reading.bits span.head span.len)
@@ -168,3 +171,29 @@ carried_word reading before after span command k word now low fits within range 
       | inr up ↦ let past : span_place b span + span.len ≤ p = out up in writes.above p (omega arith)
     ])
     writes.words
+
+-- which commands of this kind are in range
+pub lies_word : {R : Type 0} (b head n k : ℕ) (edit : WordEdit R)
+    → lies_in b head n (word_command k edit) ≡ ltb k (touched b head n)
+lies_word b head n k (Value word) = refl
+lies_word b head n k Ones = refl
+lies_word b head n k Zeros = refl
+lies_word b head n k Inverted = refl
+
+-- a command of this kind, carried out
+pub carried_edit : {R : Type 0} (reading : Reading R) (before after : List R) (span : Extent) (k : ℕ) (word : R)
+    (edit : WordEdit R) → span.head < reading.bits → FitsIn reading.bits span (length before)
+    → k < touched reading.bits span.head span.len
+    → ReadsPart reading before (span.word + k) word (part_from reading.bits span k) (part_upto reading.bits span k)
+    → Overwrites reading before after (part_place reading.bits span k) (part_count reading.bits span k)
+    (λ i. bit_after reading edit (part_from reading.bits span k + i)
+    (entry reading before (part_place reading.bits span k + i)))
+    → CarriesOut reading before after span (word_command k edit) (Word word)
+carried_edit reading before after span k word (Value value) low fits within reads writes =
+    carried_word reading before after span (Store k value) k word _ low fits within refl refl refl reads writes
+carried_edit reading before after span k word Ones low fits within reads writes =
+    carried_word reading before after span (Set k) k word _ low fits within refl refl refl reads writes
+carried_edit reading before after span k word Zeros low fits within reads writes =
+    carried_word reading before after span (Clear k) k word _ low fits within refl refl refl reads writes
+carried_edit reading before after span k word Inverted low fits within reads writes =
+    carried_word reading before after span (Invert k) k word _ low fits within refl refl refl reads writes

@@ -3,6 +3,7 @@ pub mod PointerRange
 pub mod PointerRangeLaws
 pub mod Own
 pub mod Runs
+pub mod WordEdits
 -- what public clauses cite of the crates below
 pub use Rattle.bit_addressing_span.specs.Domain
 pub use Rattle.bit_addressing_span.specs.BitDomain
@@ -14,6 +15,7 @@ pub use Rattle.bit_addressing_span.specs.PartialElementMut
 pub use Rattle.bit_addressing_span.specs.Parts
 pub use Rattle.bit_addressing_span.specs.PartialElement
 pub use Rattle.bit_addressing_span.specs.Span
+pub use Rattle.bit_addressing_span.specs.declared.span.TheConstants as SpanLimits
 pub use Rattle.bit_addressing_span.specs.Texts
 pub use Rattle.bit_addressing_span.specs.DomainWords
 pub use Rattle.bit_addressing_order.specs.BitIdx

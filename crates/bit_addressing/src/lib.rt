@@ -18,8 +18,8 @@ pub mod shifts;
 
 pub use bit_addressing_memory::{Sweep, Way, move_in, way_for};
 pub use bit_addressing_order::{
-    AllOrNone, BitEnd, BitIdx, BitIdxError, BitMask, BitOrder, BitPos, BitRegister, BitSel, Limits,
-    LocalBits, Lsb0, Msb0, OrderCandidate, Positions, disjoint_masks, mask_from_at, mem,
+    AllOrNone, BitEnd, BitIdx, BitIdxError, BitMask, BitOrder, BitPos, BitRegister, BitSel, HiLo,
+    Limits, LocalBits, Lsb0, Msb0, OrderCandidate, Positions, disjoint_masks, mask_from_at, mem,
     select_from_at,
 };
 pub use bit_addressing_span::{

@@ -2,16 +2,26 @@
 //!
 //! Each command has a function of its own, which tests the command's numbers before it touches a bit.
 
-ghost use Rattle.std.specs.Prelude.{◌≡◌, ◌+◌, ◌*◌, ◌^◌, ◌<◌, ◌≤◌, length, pos, ◌≤ℤ◌};
+ghost use Rattle.std.specs.Prelude.{◌≡◌, ℕ, ◌+◌, ◌*◌, ◌^◌, ◌<◌, ◌≤◌, length, pos, ◌≤ℤ◌};
 ghost use Rattle.bit_addressing_memory.specs.Memory.{read_by};
-ghost use Rattle.bit_addressing.specs.Pointer.{memory_place};
-ghost use Rattle.bit_addressing_span.specs.Span.{FitsIn};
+ghost use Rattle.bit_addressing.specs.Pointer.{memory_place, LiesIn};
+ghost use Rattle.bit_addressing_span.specs.Span.{span_place, FitsIn};
 ghost use Rattle.bit_addressing.specs.Runs.{CarriesOut};
+ghost use Rattle.bit_addressing.specs.WordEdits.{word_command};
 
 use crate::command::{SpanCommand, SpanReply};
 use crate::pointer::BitPtr;
 use bit_addressing_order::{BitIdx, BitOrder, BitRegister};
 use bit_addressing_span::BitSpan;
+
+// What becomes of the bits of a word.
+#[derive(Clone, Copy)]
+enum WordEdit<R> {
+    Value(R),
+    Ones,
+    Zeros,
+    Inverted,
+}
 
 /// Carries one command out at one span of the memory. The span fits.
 pub(crate) fn run_one<R: BitRegister, O: BitOrder<R>>(
@@ -24,10 +34,10 @@ pub(crate) fn run_one<R: BitRegister, O: BitOrder<R>>(
 {
     match command {
         SpanCommand::Load(k) => load(memory, span, k),
-        SpanCommand::Store(k, word) => store(memory, span, k, word),
-        SpanCommand::Set(k) => set(memory, span, k),
-        SpanCommand::Clear(k) => clear(memory, span, k),
-        SpanCommand::Invert(k) => invert(memory, span, k),
+        SpanCommand::Store(k, word) => write_word(memory, span, k, WordEdit::Value(word)),
+        SpanCommand::Set(k) => write_word(memory, span, k, WordEdit::Ones),
+        SpanCommand::Clear(k) => write_word(memory, span, k, WordEdit::Zeros),
+        SpanCommand::Invert(k) => write_word(memory, span, k, WordEdit::Inverted),
         SpanCommand::Read(i) => read(memory, span, i),
         SpanCommand::Replace(i, bit) => replace(memory, span, i, bit),
         SpanCommand::Swap(i, j) => swap(memory, span, i, j),
@@ -51,73 +61,27 @@ fn load<R: BitRegister, O: BitOrder<R>>(memory: &[R], span: BitSpan<R, O>, k: us
     SpanReply::Word(span.load_value(memory, k))
 }
 
-// Writes a word.
-fn store<R: BitRegister, O: BitOrder<R>>(
+// Writes the bits of a word.
+fn write_word<R: BitRegister, O: BitOrder<R>>(
     memory: &mut [R],
     span: BitSpan<R, O>,
     k: usize,
-    word: R,
+    edit: WordEdit<R>,
 ) -> SpanReply<R>
     requires fits { FitsIn R.BITS span (length memory.old) }
     ensures carried { CarriesOut (read_by R.BitRegister O.position) memory.old memory.new span
-        (SpanCommand.Store k word) result }
+        (word_command k edit) result }
 {
     let mut words = span.domain_mut(memory);
     if k >= words.len() {
         return SpanReply::Refused;
     }
-    SpanReply::Word(words.store_value(k, word))
-}
-
-// Makes each bit of a word 1.
-fn set<R: BitRegister, O: BitOrder<R>>(
-    memory: &mut [R],
-    span: BitSpan<R, O>,
-    k: usize,
-) -> SpanReply<R>
-    requires fits { FitsIn R.BITS span (length memory.old) }
-    ensures carried { CarriesOut (read_by R.BitRegister O.position) memory.old memory.new span
-        (SpanCommand.Set k) result }
-{
-    let mut words = span.domain_mut(memory);
-    if k >= words.len() {
-        return SpanReply::Refused;
-    }
-    SpanReply::Word(words.set(k))
-}
-
-// Makes each bit of a word 0.
-fn clear<R: BitRegister, O: BitOrder<R>>(
-    memory: &mut [R],
-    span: BitSpan<R, O>,
-    k: usize,
-) -> SpanReply<R>
-    requires fits { FitsIn R.BITS span (length memory.old) }
-    ensures carried { CarriesOut (read_by R.BitRegister O.position) memory.old memory.new span
-        (SpanCommand.Clear k) result }
-{
-    let mut words = span.domain_mut(memory);
-    if k >= words.len() {
-        return SpanReply::Refused;
-    }
-    SpanReply::Word(words.clear(k))
-}
-
-// Flips each bit of a word.
-fn invert<R: BitRegister, O: BitOrder<R>>(
-    memory: &mut [R],
-    span: BitSpan<R, O>,
-    k: usize,
-) -> SpanReply<R>
-    requires fits { FitsIn R.BITS span (length memory.old) }
-    ensures carried { CarriesOut (read_by R.BitRegister O.position) memory.old memory.new span
-        (SpanCommand.Invert k) result }
-{
-    let mut words = span.domain_mut(memory);
-    if k >= words.len() {
-        return SpanReply::Refused;
-    }
-    SpanReply::Word(words.invert(k))
+    SpanReply::Word(match edit {
+        WordEdit::Value(word) => words.store_value(k, word),
+        WordEdit::Ones => words.set(k),
+        WordEdit::Zeros => words.clear(k),
+        WordEdit::Inverted => words.invert(k),
+    })
 }
 
 // Bits.
@@ -128,11 +92,11 @@ fn read<R: BitRegister, O: BitOrder<R>>(memory: &[R], span: BitSpan<R, O>, i: us
     ensures carried { CarriesOut (read_by R.BitRegister O.position) memory.now memory.now span
         (SpanCommand.Read i) result }
 {
-    let (word, head, len) = span.raw_parts();
+    let (_, _, len) = span.raw_parts();
     if i >= len {
         return SpanReply::Refused;
     }
-    SpanReply::Bit(bit_at::<R, O>(word, head, i).read(memory))
+    SpanReply::Bit(bit_at::<R, O>(span, i).read(memory))
 }
 
 // Writes a bit.
@@ -146,11 +110,11 @@ fn replace<R: BitRegister, O: BitOrder<R>>(
     ensures carried { CarriesOut (read_by R.BitRegister O.position) memory.old memory.new span
         (SpanCommand.Replace i bit) result }
 {
-    let (word, head, len) = span.raw_parts();
+    let (_, _, len) = span.raw_parts();
     if i >= len {
         return SpanReply::Refused;
     }
-    SpanReply::Bit(bit_at::<R, O>(word, head, i).replace(memory, bit))
+    SpanReply::Bit(bit_at::<R, O>(span, i).replace(memory, bit))
 }
 
 // Exchanges two bits.
@@ -164,12 +128,12 @@ fn swap<R: BitRegister, O: BitOrder<R>>(
     ensures carried { CarriesOut (read_by R.BitRegister O.position) memory.old memory.new span
         (SpanCommand.Swap i j) result }
 {
-    let (word, head, len) = span.raw_parts();
+    let (_, _, len) = span.raw_parts();
     if i >= len || j >= len {
         return SpanReply::Refused;
     }
-    let other = bit_at::<R, O>(word, head, j);
-    bit_at::<R, O>(word, head, i).swap_within(memory, other);
+    let other = bit_at::<R, O>(span, j);
+    bit_at::<R, O>(span, i).swap_within(memory, other);
     SpanReply::Done
 }
 
@@ -185,7 +149,7 @@ fn copy<R: BitRegister, O: BitOrder<R>>(
     ensures carried { CarriesOut (read_by R.BitRegister O.position) memory.old memory.new span
         (SpanCommand.Copy from to count) result }
 {
-    let (word, head, len) = span.raw_parts();
+    let (_, _, len) = span.raw_parts();
     if count > len || from > len - count || to > len - count {
         return SpanReply::Refused;
     }
@@ -193,13 +157,24 @@ fn copy<R: BitRegister, O: BitOrder<R>>(
     if count == 0 {
         return SpanReply::Done;
     }
-    let target = bit_at::<R, O>(word, head, to);
-    bit_at::<R, O>(word, head, from).copy_within(memory, target, count);
+    let target = bit_at::<R, O>(span, to);
+    bit_at::<R, O>(span, from).copy_within(memory, target, count);
     SpanReply::Done
 }
 
+// The pointer to bit `i` of a span.
+fn bit_at<R: BitRegister, O: BitOrder<R>>(span: BitSpan<R, O>, i: usize) -> BitPtr<R, O>
+    requires { i < span.len }
+    ensures place { memory_place R.BITS result ≡ span_place R.BITS span + i }
+    ensures lies { (n words : ℕ) → FitsIn R.BITS span words → 0 < n → i + n ≤ span.len
+        → LiesIn R.BITS result n words }
+{
+    let (word, head, _len) = span.raw_parts();
+    bit_from(word, head, i)
+}
+
 // The pointer to the bit `i` bits on from index `head` of a word.
-fn bit_at<R: BitRegister, O: BitOrder<R>>(word: usize, head: BitIdx<R>, i: usize) -> BitPtr<R, O>
+fn bit_from<R: BitRegister, O: BitOrder<R>>(word: usize, head: BitIdx<R>, i: usize) -> BitPtr<R, O>
     requires { word * R.BITS + head + i < 2 ^ 63 * R.BITS }
     ensures word { pos 0 ≤ℤ result.word }
     ensures place { memory_place R.BITS result ≡ word * R.BITS + head + i }

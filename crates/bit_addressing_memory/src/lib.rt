@@ -19,8 +19,8 @@ mod spreads;
 mod sweep;
 
 pub use bit_addressing_order::{
-    BitEnd, BitIdx, BitMask, BitOrder, BitRegister, Limits, LocalBits, Lsb0, Msb0, OrderCandidate,
-    Positions, mask_from_at, mem, select_from_at,
+    BitEnd, BitIdx, BitMask, BitOrder, BitRegister, HiLo, Limits, LocalBits, Lsb0, Msb0,
+    OrderCandidate, Positions, mask_from_at, mem, select_from_at,
 };
 pub use bulk_ops::{
     BulkOp, COMPARED_BY_PATHS, COUNTED_BY_BLOCKS, FROM_BORDER, JOINED_WORDS, NARROW_WORD,

@@ -4,6 +4,7 @@ pub mod BitIdx
 pub mod BitMask
 pub mod BitOrder
 pub mod Bits
+pub mod HiLoLaws
 pub mod MaskLaws
 pub mod OrderLaws
 pub mod StepLaws

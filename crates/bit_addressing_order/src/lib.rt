@@ -3,6 +3,7 @@
 
 mod compare;
 mod end;
+mod hi_lo;
 mod index;
 mod limits;
 mod mask;
@@ -16,6 +17,7 @@ mod text;
 mod widths;
 
 pub use end::BitEnd;
+pub use hi_lo::HiLo;
 pub use index::{BitIdx, BitIdxError};
 pub use limits::{AllOrNone, Limits};
 pub use mask::BitMask;

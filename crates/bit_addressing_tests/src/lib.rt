@@ -7,6 +7,8 @@ pub mod callers;
 #[cfg(test)]
 mod domains;
 #[cfg(test)]
+mod hi_lo;
+#[cfg(test)]
 pub mod memory_callers;
 #[cfg(test)]
 mod memory_rows;

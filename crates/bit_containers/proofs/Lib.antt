@@ -10,3 +10,5 @@ pub use Rattle.bit_containers_vector.proofs.VectorLemmas
 pub use Rattle.bit_slice.proofs.BitLemmas
 pub use Rattle.bit_slice.proofs.IndexLemmas
 pub use Rattle.bit_slice.proofs.OnesLemmas
+-- all of the layer below
+pub use Rattle.bit_slice.proofs as Slice

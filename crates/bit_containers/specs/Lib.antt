@@ -45,3 +45,5 @@ pub use Rattle.bit_slice.specs.Moves
 pub use Rattle.bit_slice.specs.OrderLaws
 pub use Rattle.bit_slice.specs.Sweep
 pub use Rattle.bit_slice.specs.SweepWays as SweepWays
+-- all of the layer below
+pub use Rattle.bit_slice.specs as Slice

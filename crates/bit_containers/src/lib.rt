@@ -1,4 +1,5 @@
-//! Bits that are owned, whole: arrays, boxes and vectors of bits, and the windows and words that their calls take.
+//! Bits that are owned, whole: arrays, boxes and vectors of bits, and the windows and words that their calls take; the
+//! layer below whole is the module `slice`.
 #![tactic(auto)]
 
 mod retain;
@@ -17,6 +18,7 @@ pub use bit_containers_vector::BitVec;
 pub use bit_containers_vector::Drain;
 pub use bit_containers_vector::SliceFault;
 pub use bit_containers_vector::Splice;
+pub use bit_slice as slice;
 pub use bit_slice::AllOrNone;
 pub use bit_slice::BitDomain;
 pub use bit_slice::BitDomainMut;
@@ -69,6 +71,7 @@ pub use bit_slice::DomainMut;
 pub use bit_slice::DomainWords;
 pub use bit_slice::FieldOrder;
 pub use bit_slice::Halves;
+pub use bit_slice::HiLo;
 pub use bit_slice::Integral;
 pub use bit_slice::Iter;
 pub use bit_slice::IterMut;

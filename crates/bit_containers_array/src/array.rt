@@ -5,10 +5,10 @@ ghost use Rattle.std.specs.Fn.{FnOnceReturnsAtMut};
 ghost use Rattle.bit_addressing_memory.specs.Memory.{memory, piece, read_by, reading_in};
 ghost use Rattle.bit_slice_views.specs.SpanLimits.{MAX_BITS};
 
-use crate::owned::{BitsOwned, apply};
+use crate::owned::BitsOwned;
 use bit_addressing_memory::{BitOrder, BitRegister, mem};
 use bit_slice_views::{BitSlice, BitViewSized, Bits, MAX_BITS};
-use bit_slice_views_mut::{BitsMut, MayWriteBeside};
+use bit_slice_views_mut::{BitsMut, MayWriteBeside, apply};
 use std::marker::PhantomData;
 use std::ops::Index;
 

@@ -13,7 +13,8 @@ mod text;
 mod zero;
 
 pub use array::BitArray;
+pub use bit_slice_views_mut::apply;
 pub use error::TryFromBitSliceError;
 pub use iter::IntoIter;
-pub use owned::{BitsOwned, apply};
+pub use owned::BitsOwned;
 pub use zero::BitArrayZero;

@@ -2,12 +2,10 @@
 
 ghost use Rattle.std.specs.Prelude.{◌≡◌, ℕ, List, length};
 ghost use Rattle.std.specs.Borrow.{Array, Lends, follows, sem};
-ghost use Rattle.std.specs.Fn.{FnOnceReturnsAtMut};
 ghost use Rattle.bit_addressing_memory.specs.Memory.{read_by};
 ghost use Rattle.bit_slice_views.specs.View.{view_bits, view_head};
 ghost use Rattle.bit_slice_views_mut.specs.ViewMut.{lent_bits, lent_lender, lent_place, lent_words};
 
-use bit_addressing_memory::BitRegister;
 use bit_slice_views::{BitSlice, Bits};
 use bit_slice_views_mut::{BitSliceMut, BitsMut};
 
@@ -79,14 +77,4 @@ pub trait BitsOwned: BitsMut {
     {
         self.as_mut_bitslice()
     }
-}
-
-/// A function's work on words, which keeps how many there are.
-pub fn apply<T: BitRegister, A, F: FnOnce(&mut [T]) -> A>(words: &mut [T], f: F) -> A
-    requires callable { (w : _) → w.now ≡ words.old → F.pre f w }
-    requires keeps { (w : _) (r : A) (a : _) → FnOnceReturnsAtMut F.FnOnce f w r a → length a ≡ length w }
-    ensures ran { FnOnceReturnsAtMut F.FnOnce f words.old result words.new }
-    ensures count { length words.new ≡ length words.old }
-{
-    f(words)
 }

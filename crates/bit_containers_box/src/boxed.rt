@@ -7,7 +7,7 @@ ghost use Rattle.bit_slice_views.specs.SpanLimits.{MAX_BITS};
 
 use bit_addressing_memory::{BitOrder, BitRegister};
 use bit_slice_views::{BitSlice, BitStore, Bits};
-use bit_slice_views_mut::{BitsMut, MayWriteBeside};
+use bit_slice_views_mut::{BitsMut, MayWriteBeside, apply};
 use std::marker::PhantomData;
 
 /// Bits in words of their own: a list that does not grow.
@@ -75,14 +75,4 @@ impl<T: BitStore, O: BitOrder<T>> BitsMut for BitBox<T, O> {
     ghost framed = { λ _. refl };
 
     ghost starts = { λ b. first_start T.BITS b.head b.inside };
-}
-
-// A function's work on words, which keeps how many there are.
-fn apply<T: BitRegister, A, F: FnOnce(&mut [T]) -> A>(words: &mut [T], f: F) -> A
-    requires callable { (w : _) → w.now ≡ words.old → F.pre f w }
-    requires keeps { (w : _) (r : A) (a : _) → FnOnceReturnsAtMut F.FnOnce f w r a → length a ≡ length w }
-    ensures len { length words.new ≡ length words.old }
-    ensures ran { FnOnceReturnsAtMut F.FnOnce f words.old result words.new }
-{
-    f(words)
 }

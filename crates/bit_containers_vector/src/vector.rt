@@ -7,7 +7,7 @@ ghost use Rattle.bit_addressing_span.specs.declared.span.TheConstants.{MAX_BITS}
 
 use bit_addressing_memory::{BitOrder, BitRegister};
 use bit_slice_views::{BitSlice, BitStore, Bits};
-use bit_slice_views_mut::{BitsMut, MayWriteBeside};
+use bit_slice_views_mut::{BitsMut, MayWriteBeside, apply};
 use std::alloc::Global;
 use std::marker::PhantomData;
 
@@ -97,15 +97,4 @@ impl<T: BitStore, O: BitOrder<T>> BitsMut for BitVec<T, O> {
     ghost framed = { λ v. refl };
 
     ghost starts = { λ v. first_start T.BITS v.head v.inside };
-}
-
-// A function's work on words, which keeps how many there are.
-#[inline(always)]
-fn apply<T: BitRegister, A, F: FnOnce(&mut [T]) -> A>(words: &mut [T], f: F) -> A
-    requires callable { (w : _) → w.now ≡ words.old → F.pre f w }
-    requires keeps { (w : _) (r : A) (a : _) → FnOnceReturnsAtMut F.FnOnce f w r a → length a ≡ length w }
-    ensures len { length words.new ≡ length words.old }
-    ensures ran { FnOnceReturnsAtMut F.FnOnce f words.old result words.new }
-{
-    f(words)
 }

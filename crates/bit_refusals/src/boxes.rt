@@ -4,7 +4,7 @@ use crate::given::Given;
 use crate::shown::{
     begin, end, no_such_call, show, show_after, show_made, show_nothing, show_whole, words_text,
 };
-use bit_containers::{BitBox, BitOrder, BitStore, Bits, BitsIter, IntoBoxed};
+use bit_table::containers::{BitBox, BitOrder, BitStore, Bits, BitsIter, IntoBoxed};
 use std::alloc::AllocError;
 use std::io;
 

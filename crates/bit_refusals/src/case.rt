@@ -14,8 +14,8 @@ use crate::scripts::run_case;
 use crate::shown::no_such_call;
 use crate::tables::{answer_line_case, table_case};
 use crate::windows::window_case;
-use bit_containers::{BitStore, BitViewSized, Lsb0, Msb0, WordPaths};
 use bit_table::Digits;
+use bit_table::containers::{BitStore, BitViewSized, Lsb0, Msb0, WordPaths};
 use std::io;
 use std::str::SplitWhitespace;
 

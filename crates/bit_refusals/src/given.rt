@@ -1,7 +1,7 @@
 //! What a call of a list is given: words and a place in them, and others.
 
 use bit_addressing_sample_orders::texts::{number, read_words};
-use bit_containers::{BitOrder, BitSlice, BitStore, BitVec, Bits, Msb0};
+use bit_table::containers::{BitOrder, BitSlice, BitStore, BitVec, Bits, Msb0};
 use std::alloc::{AllocError, Global};
 use std::str::SplitWhitespace;
 

@@ -2,7 +2,7 @@
 
 use crate::given::Given;
 use crate::shown::{begin, end, no_such_call, show_after, show_whole};
-use bit_containers::{BitOrder, BitStore, BitVec, Bits, BitsIter, IntoBoxed};
+use bit_table::containers::{BitOrder, BitStore, BitVec, Bits, BitsIter, IntoBoxed};
 use std::alloc::AllocError;
 use std::io;
 

@@ -3,7 +3,7 @@
 use crate::given::Given;
 use crate::shown::{begin, decline, end, no_such_call, show_made, show_nothing, words_text};
 use bit_addressing_sample_orders::texts::{number, read_words};
-use bit_containers::{BitStore, WordPaths};
+use bit_table::containers::{BitStore, WordPaths};
 use bit_table::{Digits, Fault, Layout, image};
 use std::io;
 use std::str::SplitWhitespace;

@@ -2,7 +2,7 @@
 
 use crate::given::Given;
 use crate::shown::{begin, end, no_such_call, show, show_made, words_text};
-use bit_containers::{BitOrder, BitStore, BitVec, Bits, BitsIter, SliceFault, ToBits};
+use bit_table::containers::{BitOrder, BitStore, BitVec, Bits, BitsIter, SliceFault, ToBits};
 use std::io;
 
 /// A vector of nothing, or of the bits of a list.

@@ -2,7 +2,7 @@
 
 use crate::given::Given;
 use crate::shown::{begin, end, no_such_call, show_after, show_made, show_whole};
-use bit_containers::{BitOrder, BitStore, Bits, BitsMut, ToBits};
+use bit_table::containers::{BitOrder, BitStore, Bits, BitsMut, ToBits};
 use std::io;
 
 /// A call that leaves the vector or a beginning of it, and answers another.

@@ -1,7 +1,7 @@
 //! What is written around a call.
 
 use bit_addressing_sample_orders::texts::push_words;
-use bit_containers::{BitOrder, BitStore, BitVec, Bits, BitsMut};
+use bit_table::containers::{BitOrder, BitStore, BitVec, Bits, BitsMut};
 use std::alloc::{AllocError, Global};
 use std::io;
 use std::io::Write;

@@ -2,7 +2,7 @@
 
 use crate::given::Given;
 use crate::shown::{begin, end, no_such_call, show, show_nothing, words_text};
-use bit_containers::{
+use bit_table::containers::{
     BitSlice, BitSliceMut, BitStore, Bits, WindowCommand, WindowReply, WordPaths, run_window,
 };
 use std::io;

@@ -19,3 +19,5 @@ pub use Rattle.bit_slice_fields.proofs.CallerLemmas as NumberLemmas
 pub use Rattle.bit_slice_fields.proofs.WholeLemmas
 pub use Rattle.bit_addressing_memory.proofs.MemoryLemmas
 pub use Rattle.bit_addressing_memory.proofs.WindowLemmas
+-- all of the layer below
+pub use Rattle.bit_addressing.proofs as Addressing

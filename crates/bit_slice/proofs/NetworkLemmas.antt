@@ -4,7 +4,7 @@
 -- `length-network_bits`. They tell the number: `same_number`.
 use Rattle.std.proofs.Common.{◌≡◌, ℕ, ◌-◌, ◌^◌, ◌<◌, false, length, sym, ◌∙◌, lit<}
 use Rattle.std.specs.Prelude.{ℤ, pos}
-use Rattle.bit_addressing_order.proofs.CallerLemmas.{length-bits_in_order}
+use Rattle.bit_addressing.proofs.OrderCallerLemmas.{length-bits_in_order}
 use Rattle.bit_slice_fields.specs.Number.{field_bits}
 use Rattle.bit_slice_fields.specs.Whole.{low_digits}
 use Rattle.bit_slice_fields.proofs.CallerLemmas.{down_bits}

@@ -37,29 +37,31 @@ pub use Rattle.bit_slice_words.specs.Edits
 pub use Rattle.bit_slice_words.specs.Rotations
 pub use Rattle.bit_slice_words.specs.PathLaws
 pub use Rattle.bit_slice_words.specs.Steps
-pub use Rattle.bit_addressing_order.specs.BitIdx
-pub use Rattle.bit_addressing_order.specs.BitMask
-pub use Rattle.bit_addressing_order.specs.BitOrder
-pub use Rattle.bit_addressing_order.specs.BitRegister
-pub use Rattle.bit_addressing_order.specs.Bits
-pub use Rattle.bit_addressing_order.specs.OrderLaws
-pub use Rattle.bit_addressing_order.specs.RegisterLaws
-pub use Rattle.bit_addressing_order.specs.StepLaws
-pub use Rattle.bit_addressing_order.specs.Text
-pub use Rattle.bit_addressing_verify.specs.OrderFault
-pub use Rattle.bit_addressing_verify.specs.WordFault
-pub use Rattle.bit_addressing_span.specs.Span
-pub use Rattle.bit_addressing_span.specs.declared.span.TheConstants as SpanLimits
-pub use Rattle.bit_addressing_span.specs.Domain as SpanDomain
-pub use Rattle.bit_addressing_span.specs.Parts as SpanParts
-pub use Rattle.bit_addressing_memory.specs.Memory
-pub use Rattle.bit_addressing_memory.specs.Moves
-pub use Rattle.bit_addressing_memory.specs.Sweep
-pub use Rattle.bit_addressing_memory.specs.Ways as SweepWays
-pub use Rattle.bit_addressing_memory.specs.Straight
-pub use Rattle.bit_addressing_span.specs.BitPart
-pub use Rattle.bit_addressing_span.specs.PartialElement
-pub use Rattle.bit_addressing_span.specs.PartialElementMut
+pub use Rattle.bit_addressing.specs.BitIdx
+pub use Rattle.bit_addressing.specs.BitMask
+pub use Rattle.bit_addressing.specs.BitOrder
+pub use Rattle.bit_addressing.specs.BitRegister
+pub use Rattle.bit_addressing.specs.Bits
+pub use Rattle.bit_addressing.specs.OrderLaws
+pub use Rattle.bit_addressing.specs.RegisterLaws
+pub use Rattle.bit_addressing.specs.StepLaws
+pub use Rattle.bit_addressing.specs.Text
+pub use Rattle.bit_addressing.specs.OrderFault
+pub use Rattle.bit_addressing.specs.WordFault
+pub use Rattle.bit_addressing.specs.Span
+pub use Rattle.bit_addressing.specs.SpanLimits
+pub use Rattle.bit_addressing.specs.Domain as SpanDomain
+pub use Rattle.bit_addressing.specs.Parts as SpanParts
+pub use Rattle.bit_addressing.specs.Memory
+pub use Rattle.bit_addressing.specs.Moves
+pub use Rattle.bit_addressing.specs.Sweep
+pub use Rattle.bit_addressing.specs.Ways as SweepWays
+pub use Rattle.bit_addressing.specs.Straight
+pub use Rattle.bit_addressing.specs.BitPart
+pub use Rattle.bit_addressing.specs.PartialElement
+pub use Rattle.bit_addressing.specs.PartialElementMut
 pub use Rattle.bit_addressing.specs.Pointer
 pub use Rattle.bit_addressing.specs.PointerRange
 pub use Rattle.bit_addressing.specs.Runs
+-- all of the layer below
+pub use Rattle.bit_addressing.specs as Addressing

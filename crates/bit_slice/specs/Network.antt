@@ -1,6 +1,6 @@
 -- Numbers in network order: in bytes, the bits of each counted from its highest digit.
 use Rattle.std.specs.Prelude.{ℕ, ℤ, ◌-◌, ◌%◌, ◌^◌, Bool, List}
-use Rattle.bit_addressing_order.specs.Bits.{bits_in_order}
+use Rattle.bit_addressing.specs.Bits.{bits_in_order}
 use Rattle.bit_addressing_memory.specs.Memory.{Reading, reading_in}
 use Rattle.bit_slice_fields.specs.Whole.{low_digits}
 

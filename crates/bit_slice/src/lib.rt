@@ -1,7 +1,8 @@
 //! Windows of bits, whole: a window is a part of a slice of words, from any bit on, to read and to write as a list; words
 //! and arrays of words are seen as bits; windows come in pieces and hold whole numbers; commands are carried out at one.
 //!
-//! What types and calls are built of stands in modules: `words`, `pieces` and `splitting`.
+//! What types and calls are built of stands in modules: `words`, `pieces` and `splitting`; the layer below whole is the
+//! module `addressing`.
 #![tactic(auto)]
 
 mod command;
@@ -10,54 +11,56 @@ mod runner;
 pub mod splitting;
 pub mod words;
 
+pub use bit_addressing as addressing;
+pub use bit_addressing::AllOrNone;
+pub use bit_addressing::BitEnd;
+pub use bit_addressing::BitIdx;
+pub use bit_addressing::BitIdxError;
+pub use bit_addressing::BitMask;
+pub use bit_addressing::BitOrder;
+pub use bit_addressing::BitPart;
+pub use bit_addressing::BitPos;
 pub use bit_addressing::BitPtr;
 pub use bit_addressing::BitPtrRange;
+pub use bit_addressing::BitRegister;
+pub use bit_addressing::BitSel;
+pub use bit_addressing::BitSpan;
+pub use bit_addressing::BitSpanError;
 pub use bit_addressing::Dangling;
+pub use bit_addressing::Domain;
+pub use bit_addressing::DomainMut;
+pub use bit_addressing::DomainWords;
 pub use bit_addressing::EmptyRange;
+pub use bit_addressing::HiLo;
+pub use bit_addressing::Limits;
+pub use bit_addressing::LocalBits;
+pub use bit_addressing::Lsb0;
+pub use bit_addressing::MAX_BITS;
+pub use bit_addressing::Msb0;
+pub use bit_addressing::OrderCandidate;
+pub use bit_addressing::OrderFault;
+pub use bit_addressing::PartialElement;
+pub use bit_addressing::PartialElementMut;
+pub use bit_addressing::Positions;
 pub use bit_addressing::SpanCommand;
 pub use bit_addressing::SpanReply;
+pub use bit_addressing::Sweep;
+pub use bit_addressing::Way;
+pub use bit_addressing::WordFault;
 pub use bit_addressing::all_fit;
 pub use bit_addressing::disjoint;
+pub use bit_addressing::disjoint_masks;
+pub use bit_addressing::mask_from_at;
+pub use bit_addressing::mem;
+pub use bit_addressing::move_in;
 pub use bit_addressing::order_of_spans_is_free;
 pub use bit_addressing::run;
+pub use bit_addressing::select_from_at;
+pub use bit_addressing::verify;
+pub use bit_addressing::verify_for_type;
+pub use bit_addressing::way_for;
 pub use bit_addressing_memory::Direction;
 pub use bit_addressing_memory::Straight;
-pub use bit_addressing_memory::Sweep;
-pub use bit_addressing_memory::Way;
-pub use bit_addressing_memory::move_in;
-pub use bit_addressing_memory::way_for;
-pub use bit_addressing_order::AllOrNone;
-pub use bit_addressing_order::BitEnd;
-pub use bit_addressing_order::BitIdx;
-pub use bit_addressing_order::BitIdxError;
-pub use bit_addressing_order::BitMask;
-pub use bit_addressing_order::BitOrder;
-pub use bit_addressing_order::BitPos;
-pub use bit_addressing_order::BitRegister;
-pub use bit_addressing_order::BitSel;
-pub use bit_addressing_order::Limits;
-pub use bit_addressing_order::LocalBits;
-pub use bit_addressing_order::Lsb0;
-pub use bit_addressing_order::Msb0;
-pub use bit_addressing_order::OrderCandidate;
-pub use bit_addressing_order::Positions;
-pub use bit_addressing_order::disjoint_masks;
-pub use bit_addressing_order::mask_from_at;
-pub use bit_addressing_order::mem;
-pub use bit_addressing_order::select_from_at;
-pub use bit_addressing_span::BitPart;
-pub use bit_addressing_span::BitSpan;
-pub use bit_addressing_span::BitSpanError;
-pub use bit_addressing_span::Domain;
-pub use bit_addressing_span::DomainMut;
-pub use bit_addressing_span::DomainWords;
-pub use bit_addressing_span::MAX_BITS;
-pub use bit_addressing_span::PartialElement;
-pub use bit_addressing_span::PartialElementMut;
-pub use bit_addressing_verify::OrderFault;
-pub use bit_addressing_verify::WordFault;
-pub use bit_addressing_verify::verify;
-pub use bit_addressing_verify::verify_for_type;
 pub use bit_slice_access::BitDomainMut;
 pub use bit_slice_access::BitMut;
 pub use bit_slice_access::BitRangeMut;

@@ -17,10 +17,9 @@ use crate::writes::{exchange, write};
 use bit_addressing_sample_orders::FifthStep;
 use bit_addressing_sample_orders::texts::{number, push_words, read_words};
 use bit_slice::{
-    BitOrder, BitRegister, BitSlice, BitSliceMut, Bits, BitsWindow, FieldOrder, Lsb0, Msb0,
+    BitOrder, BitRegister, BitSlice, BitSliceMut, Bits, BitsWindow, FieldOrder, HiLo, Lsb0, Msb0,
     WordPaths,
 };
-use bit_table_fields::HiLo;
 use std::alloc::{AllocError, Global};
 
 /// What a case asks of its window.

@@ -2,11 +2,10 @@
 
 ghost use Rattle.std.specs.Prelude.{◌<◌, true, false};
 
-use bit_addressing_memory::{BitOrder, BitRegister, Lsb0, Msb0};
+use bit_addressing_memory::{BitOrder, BitRegister, HiLo, Lsb0, Msb0};
 use bit_addressing_sample_orders::FifthStep;
 use bit_slice_iterators::{Indices, Ones, Sought, Zeros};
 use bit_slice_views::{BitSlice, Bits};
-use bit_table_fields::HiLo;
 
 const BYTES: [u8; 24] = [
     0x6f, 0xee, 0x00, 0x01, 0x80, 0x00, 0x00, 0x00, 0x00, 0x00, 0x00, 0x00, 0x00, 0x30, 0xff, 0xff,

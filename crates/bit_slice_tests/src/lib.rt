@@ -17,6 +17,8 @@ pub mod fields;
 #[cfg(test)]
 pub mod header;
 #[cfg(test)]
+mod hi_lo;
+#[cfg(test)]
 mod indices;
 #[cfg(test)]
 pub mod iter_callers;

@@ -1,8 +1,9 @@
 //! Up to 64 bits of words as a number, read and put in four orders, beside a look at each bit.
 
-use bit_addressing_memory::{BitOrder, BitRegister, Lsb0, Msb0, bits_in, put_bits_in, read_entry};
+use bit_addressing_memory::{
+    BitOrder, BitRegister, HiLo, Lsb0, Msb0, bits_in, put_bits_in, read_entry,
+};
 use bit_addressing_sample_orders::FifthStep;
-use bit_table_fields::HiLo;
 
 // More bits than the words here have.
 const MOST: usize = 512;

@@ -24,4 +24,4 @@ pub use bits_window::{BitsShown, BitsWindow};
 pub use make::from_mut;
 pub use operators::{and_view, or_view, xor_view};
 pub use pair::Pair;
-pub use view_mut::BitSliceMut;
+pub use view_mut::{BitSliceMut, apply};

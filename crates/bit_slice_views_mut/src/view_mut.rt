@@ -173,12 +173,13 @@ impl<T: BitRegister, O: BitOrder<T>> BitsShown for BitSliceMut<'_, T, O> {
 
 impl<T: BitRegister, O: BitOrder<T>> BitsWindow for BitSliceMut<'_, T, O> {}
 
-// A function's work on words, which keeps how many there are.
-fn apply<T: BitRegister, A, F: FnOnce(&mut [T]) -> A>(words: &mut [T], f: F) -> A
+/// A function's work on words, which keeps how many there are.
+#[inline(always)]
+pub fn apply<T: BitRegister, A, F: FnOnce(&mut [T]) -> A>(words: &mut [T], f: F) -> A
     requires callable { (w : _) → w.now ≡ words.old → F.pre f w }
     requires keeps { (w : _) (r : A) (a : _) → FnOnceReturnsAtMut F.FnOnce f w r a → length a ≡ length w }
-    ensures len { length words.new ≡ length words.old }
     ensures ran { FnOnceReturnsAtMut F.FnOnce f words.old result words.new }
+    ensures count { length words.new ≡ length words.old }
 {
     f(words)
 }

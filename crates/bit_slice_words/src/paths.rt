@@ -8,7 +8,8 @@ ghost use Rattle.bit_addressing_memory.specs.Memory.{entry, read_by, Copies, Ove
 ghost use Rattle.std.specs.Bool.{xor};
 ghost use Rattle.bit_slice_paths.specs.Steps.{groups, Takes};
 
-use bit_addressing_memory::{BitOrder, BitRegister, Direction, Lsb0, Msb0, Straight};
+use crate::by_bits;
+use bit_addressing_memory::{BitOrder, BitRegister, Direction, HiLo, Lsb0, Msb0, Straight};
 use bit_slice_paths::combining::{AndOp, CopyOp, OrOp, XorOp};
 use bit_slice_paths::{Steps, by_words};
 
@@ -255,4 +256,86 @@ impl<R: BitRegister, O: AlwaysStraight + StraightOrder<R>> WordPaths<R> for O {
     ghost least_span = { span_of_64 };
 
     ghost most_span = { most_of_64 };
+}
+
+impl<R: BitRegister> WordPaths<R> for HiLo {
+    ghost use Rattle.bit_slice_words.specs.PathLaws.{one_span, span_of_one};
+
+    ghost SPAN = { 1 };
+
+    const SPAN: u8 = 1;
+
+    fn equal(
+        words: &[R],
+        place: usize,
+        others: &[R],
+        other_place: usize,
+        len: usize,
+        steps: &mut Steps,
+    ) -> bool {
+        by_bits::equal::<R, HiLo>(words, place, others, other_place, len, steps)
+    }
+
+    fn copy(
+        words: &mut [R],
+        place: usize,
+        others: &[R],
+        other_place: usize,
+        len: usize,
+        steps: &mut Steps,
+    ) {
+        by_bits::copy::<R, HiLo>(words, place, others, other_place, len, steps);
+    }
+
+    fn swap(
+        words: &mut [R],
+        place: usize,
+        others: &mut [R],
+        other_place: usize,
+        len: usize,
+        steps: &mut Steps,
+    ) {
+        by_bits::swap::<R, HiLo>(words, place, others, other_place, len, steps);
+    }
+
+    fn copy_over(words: &mut [R], source: usize, target: usize, len: usize, steps: &mut Steps) {
+        by_bits::copy_over::<R, HiLo>(words, source, target, len, steps);
+    }
+
+    fn and(
+        words: &mut [R],
+        place: usize,
+        others: &[R],
+        other_place: usize,
+        len: usize,
+        steps: &mut Steps,
+    ) {
+        by_bits::and::<R, HiLo>(words, place, others, other_place, len, steps);
+    }
+
+    fn or(
+        words: &mut [R],
+        place: usize,
+        others: &[R],
+        other_place: usize,
+        len: usize,
+        steps: &mut Steps,
+    ) {
+        by_bits::or::<R, HiLo>(words, place, others, other_place, len, steps);
+    }
+
+    fn xor(
+        words: &mut [R],
+        place: usize,
+        others: &[R],
+        other_place: usize,
+        len: usize,
+        steps: &mut Steps,
+    ) {
+        by_bits::xor::<R, HiLo>(words, place, others, other_place, len, steps);
+    }
+
+    ghost least_span = { one_span };
+
+    ghost most_span = { span_of_one };
 }

@@ -13,3 +13,5 @@ pub use Rattle.bit_table_script.proofs.CallerLemmas
 pub use Rattle.bit_table_script.proofs.LineLemmas
 pub use Rattle.bit_table_script.proofs.ScriptCallerLemmas
 pub use Rattle.bit_table_script.proofs.LoadLemmas
+-- all of the layer below
+pub use Rattle.bit_containers.proofs as Containers

@@ -60,3 +60,5 @@ pub use Rattle.bit_table_script.specs.OrderLaws
 pub use Rattle.bit_table_script.specs.PathLaws
 pub use Rattle.bit_table_command_line.specs.Choices
 pub use Rattle.bit_table_command_line.specs.Options
+-- all of the layer below
+pub use Rattle.bit_containers.specs as Containers

@@ -1,7 +1,8 @@
 //! The table, whole: rows of whole numbers packed bit by bit, edited by the lines of a script; the run of a script;
-//! what a command line asks for.
+//! what a command line asks for; the layer below whole is the module `containers`.
 #![tactic(auto)]
 
+pub use bit_containers as containers;
 pub use bit_table_command_line::{Choice, Order, Word, choose};
 pub use bit_table_script::{
     BitIdx, BitOrder, BitRegister, BitSlice, BitSliceMut, BitStore, BitVec, BitViewSized, Bits,

@@ -18,7 +18,7 @@ use Rattle.bit_table_layout.specs.Layouts.{LayoutShape, row_width}
 use Rattle.bit_table_layout.specs.Rows.{Row}
 use Rattle.bit_table_layout.specs.Loads.{is_image}
 use Rattle.bit_table_layout.proofs.LoadLemmas.{length-rows_in_bytes}
-use Rattle.bit_table_commands.specs.Letters.{combined}
+use Rattle.bit_table_layout.specs.Letters.{combined}
 use Rattle.bit_table_commands.specs.declared.command.Command.{Command}
 use Rattle.bit_table_commands.specs.declared.command.Command.TheVariants.{Insert, Delete, Set, Get, Copy, Swap, Rotate}
 use Rattle.bit_table_commands.specs.declared.command.Command.TheVariants.{Dup, Load, Back, Mark, Combine, Not, Drop}

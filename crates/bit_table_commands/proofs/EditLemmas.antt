@@ -11,8 +11,8 @@ use Rattle.bit_table_layout.specs.Layouts.{LayoutShape}
 use Rattle.bit_table_layout.specs.Rows.{Row, new_row, take_all, is_row}
 use Rattle.bit_table_layout.specs.Loads.{rows_in_bytes}
 use Rattle.bit_table_layout.proofs.LoadLemmas.{are_rows-rows_in_bytes}
-use Rattle.bit_table_commands.specs.Letters.{combined}
-use Rattle.bit_table_commands.specs.LetterSets.{with_letter}
+use Rattle.bit_table_layout.specs.Letters.{combined}
+use Rattle.bit_table_layout.specs.LetterSets.{with_letter}
 use Rattle.bit_table_commands.specs.declared.command.Command.{Command}
 use Rattle.bit_table_commands.specs.declared.command.Command.TheVariants.{Insert, Delete, Set, Copy, Swap, Rotate, Dup}
 use Rattle.bit_table_commands.specs.declared.command.Command.TheVariants.{Load, Keep, Back, Mark, Combine, Not, Drop}

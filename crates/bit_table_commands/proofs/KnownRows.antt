@@ -12,9 +12,9 @@ use Rattle.bit_table_layout.specs.CauseWords.{refusal_text}
 use Rattle.bit_table_layout.specs.declared.layout.TheConstants.{MAX_BITS}
 use Rattle.bit_table_layout.specs.Layouts.{LayoutShape, row_width}
 use Rattle.bit_table_layout.proofs.LoadLemmas.{length-rows_in_bytes}
-use Rattle.bit_table_commands.specs.Letters.{combined}
+use Rattle.bit_table_layout.specs.Letters.{combined}
 use Rattle.bit_table_layout.specs.Rows.{Row, new_row}
-use Rattle.bit_table_commands.specs.declared.bool_op.BoolOp.TheVariants.{And, Or, Xor}
+use Rattle.bit_table_layout.specs.declared.bool_op.BoolOp.TheVariants.{And, Or, Xor}
 use Rattle.bit_table_commands.specs.declared.command.Command.{Command}
 use Rattle.bit_table_commands.specs.declared.command.Command.TheVariants.{Insert, Delete, Set, Get, Copy, Swap, Rotate}
 use Rattle.bit_table_commands.specs.declared.command.Command.TheVariants.{Dup, Image, Load, Keep, Back, Mark, Combine}

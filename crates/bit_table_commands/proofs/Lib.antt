@@ -1,4 +1,3 @@
-mod KnownLetters
 mod ReadingLemmas
 pub mod DigitLemmas
 mod ReplyLemmas

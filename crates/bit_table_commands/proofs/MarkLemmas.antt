@@ -13,7 +13,7 @@ use Rattle.std.proofs.lemmas.Bool.{eq-eqb, ne_eqb}
 use Rattle.std.proofs.lemmas.List.{get_or-map, length-map, take_more}
 use Rattle.std.proofs.lemmas.List.Sums.{sum_by-cons}
 use Rattle.bit_table_layout.specs.Rows.{Row, all_numbers}
-use Rattle.bit_table_commands.specs.LetterSets.{LetterSet, bears, with_letter}
+use Rattle.bit_table_layout.specs.LetterSets.{LetterSet, bears, with_letter}
 use Rattle.bit_table_commands.specs.Marks.{row_bears, marked, rows_passing}
 
 -- a row that is marked

@@ -5,7 +5,7 @@ use Rattle.std.proofs.lemmas.Option.{option_and_then_some}
 use Rattle.bit_table_layout.specs.LineWords.{words}
 use Rattle.bit_table_layout.specs.Numerals.{number_in}
 use Rattle.bit_table_layout.specs.Layouts.{LayoutShape}
-use Rattle.bit_table_commands.specs.declared.bool_op.BoolOp.TheVariants.{And, Or, Xor}
+use Rattle.bit_table_layout.specs.declared.bool_op.BoolOp.TheVariants.{And, Or, Xor}
 use Rattle.bit_table_commands.specs.declared.name.Name.{Name}
 use Rattle.bit_table_commands.specs.declared.name.Name.TheVariants as name
 use Rattle.bit_table_commands.specs.declared.command.Command.{Command}

@@ -9,8 +9,8 @@ use Rattle.bit_table_layout.specs.LineWords.{words}
 use Rattle.bit_table_layout.specs.Numerals.{number_in, whole_number_in}
 use Rattle.bit_table_layout.specs.Fields.{is_name}
 use Rattle.bit_table_layout.specs.Layouts.{LayoutShape}
-use Rattle.bit_table_commands.specs.Letters.{letter_of}
-use Rattle.bit_table_commands.specs.declared.bool_op.BoolOp.TheVariants.{And, Or, Xor}
+use Rattle.bit_table_layout.specs.Letters.{letter_of}
+use Rattle.bit_table_layout.specs.declared.bool_op.BoolOp.TheVariants.{And, Or, Xor}
 use Rattle.hex.specs.Hex.{decode_of}
 use Rattle.bit_table_commands.specs.declared.name.Name.{Name}
 use Rattle.bit_table_commands.specs.declared.name.Name.TheVariants as name

@@ -6,7 +6,7 @@ use Rattle.std.specs.Option.{option_map_or}
 use Rattle.bit_table_layout.specs.Rows.{Row, new_row}
 use Rattle.bit_table_layout.specs.Images.{image_bytes}
 use Rattle.bit_table_layout.specs.Loads.{rows_in_bytes}
-use Rattle.bit_table_commands.specs.Letters.{combined}
+use Rattle.bit_table_layout.specs.Letters.{combined}
 use Rattle.bit_table_commands.specs.declared.command.Command.{Command}
 use Rattle.bit_table_commands.specs.declared.command.Command.TheVariants.{Insert, Delete, Set, Get, Copy, Swap, Rotate}
 use Rattle.bit_table_commands.specs.declared.command.Command.TheVariants.{Dup, Image, Load, Keep, Back, Mark, Combine}

@@ -1,5 +1,3 @@
-pub mod Letters
-pub mod LetterSets
 pub mod Commands
 pub mod CommandSteps
 pub mod Replies
@@ -16,6 +14,8 @@ pub use Rattle.bit_table_layout.specs.Digits
 pub use Rattle.bit_table_layout.specs.Fields
 pub use Rattle.bit_table_layout.specs.Images
 pub use Rattle.bit_table_layout.specs.Layouts
+pub use Rattle.bit_table_layout.specs.Letters
+pub use Rattle.bit_table_layout.specs.LetterSets
 pub use Rattle.bit_table_layout.specs.LineWords
 pub use Rattle.bit_table_layout.specs.Loads
 pub use Rattle.bit_table_layout.specs.Numerals

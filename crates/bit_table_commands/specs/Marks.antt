@@ -3,7 +3,7 @@ use Rattle.std.specs.Prelude.{ℕ, ◌+◌, ℤ, pos, int_lt, Bool, List, [], �
 use Rattle.std.specs.Prelude.{if◌then◌else◌}
 use Rattle.std.specs.Ordering.{int_eq}
 use Rattle.bit_table_layout.specs.Rows.{Row}
-use Rattle.bit_table_commands.specs.LetterSets.{bears, with_letter}
+use Rattle.bit_table_layout.specs.LetterSets.{bears, with_letter}
 use Rattle.bit_table_commands.specs.declared.test.Test.{Test}
 use Rattle.bit_table_commands.specs.declared.test.Test.TheVariants.{Below, Equal, Above}
 

@@ -6,9 +6,7 @@ use super::items::Items;
 use super::reading::read;
 use super::reply::ImageBytes;
 use super::test::Test;
-use crate::bool_op::BoolOp;
-use crate::letter::Letter;
-use bit_table_layout::{Cause, Fault, Layout};
+use bit_table_layout::{BoolOp, Cause, Fault, Layout, Letter};
 use std::alloc::Global;
 
 /// The values of a row, one a field, in order.

@@ -10,8 +10,7 @@ ghost use Rattle.bit_table_commands.specs.CommandSteps.{are_digits, bytes_of_dig
 
 use super::number_words::one_value;
 use super::test::Test;
-use crate::letter::Letter;
-use bit_table_layout::Words;
+use bit_table_layout::{Letter, Words};
 
 // The letter that a word is.
 pub(crate) fn letter(word: &[u8]) -> Option<Letter>

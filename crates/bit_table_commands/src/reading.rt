@@ -16,8 +16,7 @@ use super::number_words::{
 };
 use super::reply::ImageBytes;
 use super::test::Test;
-use crate::bool_op::BoolOp;
-use bit_table_layout::{Layout, Words, is_name};
+use bit_table_layout::{BoolOp, Layout, Words, is_name};
 use std::alloc::{AllocError, Global};
 
 // A command that a line spells, while the list that it is to hold, if any, still lies in the line.

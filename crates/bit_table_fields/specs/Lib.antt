@@ -1,6 +1,5 @@
 pub mod Windows
 pub mod Places
-pub mod HiLoLaws
 pub mod Chunks
 -- what public clauses cite of the crates below
 pub use Rattle.bit_table_layout.specs.Digits

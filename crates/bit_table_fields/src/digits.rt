@@ -12,9 +12,8 @@ ghost use Rattle.bit_table_fields.specs.Windows.{most_for, number_held};
 ghost use Rattle.bit_table_layout.specs.Rows.{field_bits};
 ghost use Rattle.bit_table_layout.specs.declared.layout.Rule.TheVariants.{Low, High};
 
-use crate::hi_lo::HiLo;
 use crate::{digits_by_chunks, digits_by_words};
-use bit_addressing_memory::{BitOrder, BitRegister, Lsb0, Msb0};
+use bit_addressing_memory::{BitOrder, BitRegister, HiLo, Lsb0, Msb0};
 use bit_slice_views::{BitSlice, Bits};
 use bit_slice_views_mut::BitsMut;
 use bit_slice_words::Steps;

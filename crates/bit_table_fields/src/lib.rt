@@ -1,15 +1,13 @@
-//! Whole numbers in windows of bits by a digit rule, rows of numbers by the fields of a layout, and the order `HiLo`.
+//! Whole numbers in windows of bits by a digit rule, and rows of numbers by the fields of a layout.
 #![tactic(auto)]
 
 mod digits;
 pub mod digits_by_bits;
 mod digits_by_chunks;
 mod digits_by_words;
-mod hi_lo;
 mod numbers;
 mod rows;
 
 pub use digits::Digits;
-pub use hi_lo::HiLo;
 pub use numbers::{load_number, store_number};
 pub use rows::{bits_before, load_row, store_row};

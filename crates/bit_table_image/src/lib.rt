@@ -4,6 +4,6 @@
 mod bytes;
 mod loads;
 
-pub use bit_table_layout::image::{images_tell_numbers, line};
+pub use bit_table_layout::image::{images_tell_numbers, is_image, line, loads_take_images};
 pub use bytes::write;
 pub use loads::read;

@@ -9,5 +9,6 @@ pub mod ReadingLemmas
 pub mod RowLemmas
 pub mod ImageLemmas
 pub mod LoadLemmas
+mod KnownLetters
 mod KnownRows
 pub mod CallerLemmas

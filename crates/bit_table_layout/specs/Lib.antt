@@ -10,3 +10,5 @@ pub mod Loads
 pub mod LineWordsLeft
 pub mod Steps
 pub mod CauseWords
+pub mod Letters
+pub mod LetterSets

@@ -9,7 +9,7 @@ use Rattle.bit_slice_views.specs.SpanLimits.{MAX_BITS}
 use Rattle.bit_containers_vector.specs.Vector.{vec_bits}
 use Rattle.bit_containers_vector.specs.declared.vector.BitVec.{BitVec}
 use Rattle.bit_table_rows.specs.Lists.{HasBits, IsColumn, AreColumns}
-use Rattle.bit_table_commands.specs.LetterSets.{letter_count}
+use Rattle.bit_table_layout.specs.LetterSets.{letter_count}
 use Rattle.bit_table_rows.specs.Marks.{list_of}
 use Rattle.bit_table_rows.specs.Walk.{Becomes, ChangesAt, EachHas}
 

@@ -7,10 +7,10 @@ use mathlib.Core.Bool.{xor}
 use Rattle.std.specs.Simd.Lanes.{zip2}
 use Rattle.std.proofs.lemmas.Simd.{zip2_of_maps}
 use Rattle.bit_addressing_memory.specs.Memory.{Reading, Overwrites}
-use Rattle.bit_table_commands.specs.Letters.{combined, differ}
-use Rattle.bit_table_commands.specs.LetterSets.{letter_count, bears}
-use Rattle.bit_table_commands.specs.declared.bool_op.BoolOp.{BoolOp}
-use Rattle.bit_table_commands.specs.declared.bool_op.BoolOp.TheVariants.{And, Or, Xor}
+use Rattle.bit_table_layout.specs.Letters.{combined, differ}
+use Rattle.bit_table_layout.specs.LetterSets.{letter_count, bears}
+use Rattle.bit_table_layout.specs.declared.bool_op.BoolOp.{BoolOp}
+use Rattle.bit_table_layout.specs.declared.bool_op.BoolOp.TheVariants.{And, Or, Xor}
 use Rattle.bit_table_rows.specs.Marks.{decided, list_of, marks_of}
 use Rattle.bit_table_rows.proofs.MarkLemmas.{column_marked}
 use Rattle.bit_table_rows.proofs.PutLemmas.{marks_decided}

@@ -11,7 +11,7 @@ use Rattle.bit_slice_views_mut.specs.Frame.{Frame}
 use Rattle.bit_containers_vector.proofs.CallerLemmas.{room_framed}
 use Rattle.bit_containers_vector.specs.Vector.{Shortens, vec_bits, vec_frame}
 use Rattle.bit_containers_vector.specs.declared.vector.BitVec.{BitVec}
-use Rattle.bit_table_commands.specs.LetterSets.{letter_count, bears}
+use Rattle.bit_table_layout.specs.LetterSets.{letter_count, bears}
 use Rattle.bit_table_rows.specs.Lists.{HasBits}
 use Rattle.bit_table_rows.specs.Marks.{list_of, marks_of}
 use Rattle.bit_table_rows.proofs.MarkLemmas.{column_marked, length-marks, marks_are, none_behind}

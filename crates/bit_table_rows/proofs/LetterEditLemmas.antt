@@ -12,7 +12,7 @@ use Rattle.std.proofs.lemmas.List.{places, map-append, take-map, drop-map, map-s
 use Rattle.std.proofs.Math.ListN.{get_or-map}
 use Rattle.bit_table_rows.specs.declared.edit.RowEdit.{RowEdit}
 use Rattle.bit_table_rows.specs.declared.edit.RowEdit.TheVariants.{Insert, Delete, Copy, Swap, Rotate, Dup}
-use Rattle.bit_table_commands.specs.LetterSets.{letter_count, bears}
+use Rattle.bit_table_layout.specs.LetterSets.{letter_count, bears}
 use Rattle.bit_table_rows.specs.Marks.{list_of, marks_of}
 use Rattle.bit_table_rows.specs.RowEdit.{edited_by, added, count_after, LiesIn}
 use Rattle.bit_table_rows.proofs.MarkLemmas.{length-marks, column_marked, none_behind, marks_are}

@@ -15,7 +15,7 @@ use Rattle.std.proofs.lemmas.List.FromFn.{fill_by_all, length-map-range_with_len
 use Rattle.std.proofs.lemmas.List.FromFn.{length-range_with_len, get_or-range_with_len}
 use Rattle.std.proofs.lemmas.List.Folds.{list_any_at, fold-map}
 use Rattle.std.proofs.lemmas.Map.Views.{any-filter_same}
-use Rattle.bit_table_commands.specs.LetterSets.{LetterSet, letter_count, bears}
+use Rattle.bit_table_layout.specs.LetterSets.{LetterSet, letter_count, bears}
 use Rattle.bit_table_rows.specs.Marks.{list_of, letters_at, marks_of}
 
 -- a number below n is among the first n numbers

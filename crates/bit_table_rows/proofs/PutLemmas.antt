@@ -17,7 +17,7 @@ use Rattle.std.proofs.lemmas.List.{get_or_past, length-replicate}
 use Rattle.std.proofs.lemmas.List.FromFn.{get_or-map-range_with_len}
 use Rattle.bit_addressing_memory.specs.Memory.{with_piece}
 use Rattle.bit_addressing_memory.proofs.MemoryLemmas.{with_piece_below, with_piece_inside, with_piece_above}
-use Rattle.bit_table_commands.specs.LetterSets.{LetterSet, letter_count, bears, with_letter}
+use Rattle.bit_table_layout.specs.LetterSets.{LetterSet, letter_count, bears, with_letter}
 use Rattle.bit_table_rows.specs.Marks.{list_of, letters_at, marks_of, decided, TellsRows}
 use Rattle.bit_table_rows.proofs.MarkLemmas.{bears_here, bears_nothing, length-marks, marks_are}
 

@@ -13,7 +13,7 @@ use Rattle.bit_table_rows.specs.Lists.{AreColumns, HasBits, HaveSpace}
 use Rattle.bit_table_rows.specs.Marks.{marks_of, LettersView}
 use Rattle.bit_table_rows.proofs.ColumnLemmas.{columns_changed, columns_same}
 use Rattle.bit_table_rows.specs.Walk.{Becomes, ChangesAt}
-use Rattle.bit_table_commands.specs.LetterSets.{LetterSet, letter_count}
+use Rattle.bit_table_layout.specs.LetterSets.{LetterSet, letter_count}
 
 -- the letters of the rows and the number, where the views are equal
 pub sets_are : {v w : LettersView} → v ≡ w → v.sets ≡ w.sets

@@ -4,7 +4,7 @@ use Rattle.bit_addressing_memory.specs.Memory.{Reading}
 use Rattle.bit_containers_vector.specs.Vector.{vec_bits, vec_head, room}
 use Rattle.bit_containers_vector.specs.declared.vector.BitVec.{BitVec}
 use Rattle.bit_slice_views.specs.SpanLimits.{MAX_BITS}
-use Rattle.bit_table_commands.specs.LetterSets.{letter_count}
+use Rattle.bit_table_layout.specs.LetterSets.{letter_count}
 use Rattle.bit_table_rows.specs.Walk.{EachHas}
 
 -- its bits are these of the old ones, at the same head, and its memory is no less

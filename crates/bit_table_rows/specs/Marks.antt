@@ -2,7 +2,7 @@
 use Rattle.std.specs.Prelude.{◌≡◌, ℕ, ◌+◌, ◌<◌, ◌≤◌, Bool, false, List, [], length, map, slice_index_or}
 use Rattle.std.specs.List.{filter, range_with_len}
 use Rattle.std.specs.FinSet as set
-use Rattle.bit_table_commands.specs.LetterSets.{LetterSet, letter_count, with_letter}
+use Rattle.bit_table_layout.specs.LetterSets.{LetterSet, letter_count, with_letter}
 
 -- letters as contracts see them: those of each row, and for how many rows there is memory
 pub record LettersView : Type 0 where

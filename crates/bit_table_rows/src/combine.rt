@@ -6,7 +6,7 @@ ghost use Rattle.bit_addressing_memory.specs.Memory.{entry, memory, piece, read_
 ghost use Rattle.bit_containers_vector.specs.Vector.{vec_bits};
 ghost use Rattle.bit_slice_words.specs.Steps.{groups, Takes};
 ghost use Rattle.bit_slice_views_mut.specs.Frame.{KeepsBeside};
-ghost use Rattle.bit_table_commands.specs.Letters.{combined};
+ghost use Rattle.bit_table_layout.specs.Letters.{combined};
 ghost use Rattle.bit_table_rows.specs.Lists.{HasBits, IsColumn};
 ghost use Rattle.bit_table_rows.specs.Walk.{ChangesAt, EachHas};
 
@@ -15,7 +15,7 @@ use bit_containers_vector::BitVec;
 use bit_slice_views::{BitStore, Bits};
 use bit_slice_views_mut::BitsMut;
 use bit_slice_words::{Steps, WordPaths};
-use bit_table_commands::BoolOp;
+use bit_table_layout::BoolOp;
 use std::mem;
 
 // Makes each bit of one list what an operation makes of it and the bit of another one of the lists, or of itself. All

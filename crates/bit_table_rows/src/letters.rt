@@ -10,8 +10,8 @@ ghost use Rattle.bit_slice_views.specs.SpanLimits.{MAX_BITS};
 ghost use Rattle.bit_slice_words.specs.Steps.{groups, Takes};
 ghost use Rattle.bit_slice_views.specs.View.{view_bits, view_head};
 ghost use Rattle.bit_table_rows.specs.Lists.{AreColumns};
-ghost use Rattle.bit_table_commands.specs.Letters.{combined};
-ghost use Rattle.bit_table_commands.specs.LetterSets.{bears, letter_count, with_letter};
+ghost use Rattle.bit_table_layout.specs.Letters.{combined};
+ghost use Rattle.bit_table_layout.specs.LetterSets.{bears, letter_count, with_letter};
 ghost use Rattle.bit_table_rows.specs.Marks.{decided, TellsRows};
 ghost use Rattle.bit_table_rows.specs.RowEdit.{added, edited_by, most_moved, LiesIn};
 
@@ -25,7 +25,7 @@ use bit_containers_vector::BitVec;
 use bit_slice_views::{BitSlice, BitStore, Bits};
 use bit_slice_views_mut::BitsMut;
 use bit_slice_words::{Steps, WordPaths};
-use bit_table_commands::BoolOp;
+use bit_table_layout::BoolOp;
 use std::alloc::{AllocError, Global};
 use std::array;
 use std::marker::Model;
@@ -51,7 +51,7 @@ impl<T: BitStore, O: WordPaths<T>> Model for Letters<T, O> {
     ghost use Rattle.bit_addressing_memory.specs.Memory.{read_by};
     ghost use Rattle.bit_slice_views.specs.SpanLimits.{MAX_BITS};
     ghost use Rattle.bit_containers_vector.specs.Vector.{vec_bits};
-    ghost use Rattle.bit_table_commands.specs.LetterSets.{letters_code, letter_count};
+    ghost use Rattle.bit_table_layout.specs.LetterSets.{letters_code, letter_count};
     ghost use Rattle.bit_table_rows.specs.Marks.{marks_of, LettersView};
     ghost use Rattle.bit_table_rows.specs.Lists.{AreColumns, HaveSpace};
 

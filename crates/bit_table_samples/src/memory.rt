@@ -1,9 +1,9 @@
 //! A run over memory.
 ghost use Rattle.std.specs.Prelude.{◌≡◌, ◌*◌, ◌≤◌, IfOk};
-ghost use Rattle.bit_table.specs.LayoutLimits.{MAX_ROW_BITS};
-ghost use Rattle.bit_table.specs.Scripts.{script_answer};
+ghost use Rattle.bit_table_script.specs.LayoutLimits.{MAX_ROW_BITS};
+ghost use Rattle.bit_table_script.specs.Scripts.{script_answer};
 
-use bit_table::*;
+use bit_table_script::*;
 use std::alloc::Global;
 
 /// What a run over memory writes, whatever the storage.

@@ -1,11 +1,11 @@
 //! A run between any reader and any writer.
 ghost use Rattle.std.specs.Prelude.{◌≡◌, ◌*◌, ◌≤◌, IfSome, OnOk, false};
-ghost use Rattle.bit_table.specs.LayoutLimits.{MAX_ROW_BITS};
+ghost use Rattle.bit_table_script.specs.LayoutLimits.{MAX_ROW_BITS};
 ghost use Rattle.std.specs.Io.KnownBytes.{Appends};
-ghost use Rattle.bit_table.specs.Ends.{input_reader, input_failed, output_writer, output_failed};
-ghost use Rattle.bit_table.specs.Scripts.{script_answer};
+ghost use Rattle.bit_table_script.specs.Ends.{input_reader, input_failed, output_writer, output_failed};
+ghost use Rattle.bit_table_script.specs.Scripts.{script_answer};
 
-use bit_table::{BitViewSized, Digits, Input, Output, RunError, WordPaths, run};
+use bit_table_script::{BitViewSized, Digits, Input, Output, RunError, WordPaths, run};
 use std::alloc::Global;
 use std::io::{Read, Write};
 

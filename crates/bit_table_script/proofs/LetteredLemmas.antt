@@ -8,7 +8,7 @@ use Rattle.std.specs.Prelude.{ℤ, slice_range}
 use Rattle.std.proofs.lemmas.List.{length-map, places, same_lists}
 use Rattle.bit_table_layout.specs.Layouts.{LayoutShape}
 use Rattle.bit_table_layout.specs.Rows.{Row, all_numbers, are_rows, is_row, row_bits, table_bits}
-use Rattle.bit_table_commands.specs.LetterSets.{LetterSet}
+use Rattle.bit_table_layout.specs.LetterSets.{LetterSet}
 use Rattle.bit_table_commands.specs.Edits.{numbers_at}
 use Rattle.bit_table_rows.specs.RowEdit.{edited_by, count_after, LiesIn}
 use Rattle.bit_table_rows.specs.declared.edit.RowEdit.{RowEdit}

@@ -23,7 +23,7 @@ use Rattle.bit_slice_chunks.specs.Chunk.{chunk_bit}
 use Rattle.bit_table_layout.specs.Layouts.{LayoutShape}
 use Rattle.bit_table_layout.specs.Readings.{rows_from}
 use Rattle.bit_table_layout.specs.Rows.{Row}
-use Rattle.bit_table_commands.specs.LetterSets.{LetterSet, bears, with_letter}
+use Rattle.bit_table_layout.specs.LetterSets.{LetterSet, bears, with_letter}
 use Rattle.bit_table_commands.specs.Marks.{row_bears, marked, rows_passing}
 use Rattle.bit_table_rows.specs.Marks.{decided, TellsRows}
 use Rattle.bit_table_rows.specs.RowsKept.{left_of}

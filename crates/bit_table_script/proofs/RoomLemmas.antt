@@ -2,7 +2,7 @@
 use Rattle.std.proofs.Common.{◌≡◌, ℕ, ◌+◌, ◌-◌, ◌*◌, ◌≤◌, Bool, List, Option, length, ap, ap₂, ◌∙◌, subst, arith}
 use Rattle.std.proofs.Math.Nat.{mul-le-mul_right}
 use Rattle.bit_table_layout.specs.Layouts.{LayoutShape, row_width}
-use Rattle.bit_table_commands.specs.LetterSets.{LetterSet}
+use Rattle.bit_table_layout.specs.LetterSets.{LetterSet}
 use Rattle.bit_table_commands.specs.Tables.{TableShape}
 use Rattle.bit_table_rows.proofs.PlaceLemmas.{place_behind}
 use Rattle.bit_table_rows.specs.declared.edit.RowEdit.{RowEdit}

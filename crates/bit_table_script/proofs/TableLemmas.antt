@@ -25,7 +25,7 @@ use Rattle.bit_table_commands.specs.Accepted.{IsAccepted, IsInRange, HasLawfulVa
 use Rattle.bit_table_commands.specs.Edits.{edit, rows_after, kept_after}
 use Rattle.bit_table_commands.specs.Tables.{TableShape, AreHeld, IsTable, IsTableOf}
 use Rattle.bit_table_rows.specs.RowEdit.{added, edited_by, count_after, LiesIn, WhereNew}
-use Rattle.bit_table_commands.specs.LetterSets.{LetterSet, bears}
+use Rattle.bit_table_layout.specs.LetterSets.{LetterSet, bears}
 use Rattle.bit_table_rows.specs.Marks.{decided}
 use Rattle.bit_table_rows.proofs.LetterEditLemmas.{length-edited}
 use Rattle.bit_table_rows.specs.declared.edit.RowEdit.{RowEdit}

@@ -1,7 +1,7 @@
 -- Rows with their letters.
 use Rattle.std.specs.Prelude.{ℕ, ◌+◌, List, [], ◌∷◌, ◌++◌, map, take, drop, slice_range}
 use Rattle.bit_table_layout.specs.Rows.{Row}
-use Rattle.bit_table_commands.specs.LetterSets.{LetterSet}
+use Rattle.bit_table_layout.specs.LetterSets.{LetterSet}
 
 -- the rows with these letters, row by row
 abbrev pub lettered : List Row → List LetterSet → List Row

@@ -32,8 +32,8 @@ pub use Rattle.bit_table_layout.specs.declared.cause.Cause.TheVariants as CauseV
 pub use Rattle.bit_table_commands.specs.declared.command.Command
 pub use Rattle.bit_table_commands.specs.declared.command.Command.TheVariants as CommandVariants
 pub use Rattle.bit_table_commands.specs.declared.reply.Reply.TheVariants as ReplyVariants
-pub use Rattle.bit_table_commands.specs.declared.bool_op.BoolOp
-pub use Rattle.bit_table_commands.specs.declared.bool_op.BoolOp.TheVariants as BoolOpVariants
+pub use Rattle.bit_table_layout.specs.declared.bool_op.BoolOp
+pub use Rattle.bit_table_layout.specs.declared.bool_op.BoolOp.TheVariants as BoolOpVariants
 pub use Rattle.bit_table_commands.specs.declared.test.Test
 pub use Rattle.bit_table_commands.specs.declared.test.Test.TheVariants as TestVariants
 pub use Rattle.bit_table_commands.specs.Tables
@@ -43,8 +43,8 @@ pub use Rattle.bit_table_commands.specs.CuttingOff
 pub use Rattle.bit_table_commands.specs.Commands
 pub use Rattle.bit_table_commands.specs.Marks
 pub use Rattle.bit_table_commands.specs.Replies
-pub use Rattle.bit_table_commands.specs.Letters
-pub use Rattle.bit_table_commands.specs.LetterSets as LetterMarks
+pub use Rattle.bit_table_layout.specs.Letters
+pub use Rattle.bit_table_layout.specs.LetterSets as LetterMarks
 pub use Rattle.bit_table_fields.specs.Windows
 pub use Rattle.bit_table_rows.specs.RowMoves
 pub use Rattle.bit_table_rows.specs.RowsKept

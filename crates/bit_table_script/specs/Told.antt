@@ -2,7 +2,7 @@
 -- this module.
 use Rattle.std.specs.Prelude.{ℕ, ◌+◌, ◌<◌, ◌≤◌, ◌≡◌, Bool, false, List, [], ◌∷◌, if◌then◌else◌, length, slice_index_or}
 use Rattle.bit_addressing_memory.specs.Bits.{digit_at}
-use Rattle.bit_table_commands.specs.LetterSets.{with_letter, LetterSet}
+use Rattle.bit_table_layout.specs.LetterSets.{with_letter, LetterSet}
 
 -- the letters of rows, letter x of each as a flag says: of those rows that have a flag
 abbrev pub told : ℕ → List Bool → List LetterSet → List LetterSet

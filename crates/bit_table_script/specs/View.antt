@@ -4,7 +4,7 @@ use Rattle.bit_table_layout.specs.declared.layout.TheConstants.{MAX_BITS}
 use Rattle.bit_table_layout.specs.Layouts.{LayoutShape, row_width}
 use Rattle.bit_table_layout.specs.Readings.{rows_from}
 use Rattle.bit_table_layout.specs.Rows.{Row}
-use Rattle.bit_table_commands.specs.LetterSets.{LetterSet}
+use Rattle.bit_table_layout.specs.LetterSets.{LetterSet}
 use Rattle.bit_table_commands.specs.declared.command.Command.{Command}
 use Rattle.bit_table_commands.specs.declared.command.Command.TheVariants.{Insert, Get, Dup, Image, Load, Keep}
 use Rattle.bit_table_commands.specs.declared.command.Command.TheVariants.{List as Listing}

@@ -27,7 +27,7 @@ impl<A: BitViewSized, O: WordPaths<A::Store> + Digits<A::Store>> Model for Kept<
     ghost use Rattle.std.specs.Coded.{codes};
     ghost use Rattle.bit_addressing_memory.specs.Memory.{read_by};
     ghost use Rattle.bit_containers_vector.specs.Vector.{vec_bits, vec_head};
-    ghost use Rattle.bit_table_commands.specs.LetterSets.{letters_code};
+    ghost use Rattle.bit_table_layout.specs.LetterSets.{letters_code};
     ghost use Rattle.bit_table_script.specs.View.{StoredRows};
 
     ghost Value = { StoredRows };

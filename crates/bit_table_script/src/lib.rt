@@ -9,23 +9,23 @@ mod session;
 mod table;
 
 pub use bit_addressing_memory::{
-    BitIdx, BitOrder, BitRegister, LocalBits, Lsb0, Msb0, OrderCandidate, Positions, Sweep, Way,
-    mask_from_at, select_from_at, way_for,
+    BitIdx, BitOrder, BitRegister, HiLo, LocalBits, Lsb0, Msb0, OrderCandidate, Positions, Sweep,
+    Way, mask_from_at, select_from_at, way_for,
 };
 pub use bit_containers_vector::BitVec;
 pub use bit_slice_views::{BitSlice, BitStore, BitViewSized, Bits};
 pub use bit_slice_views_mut::{BitSliceMut, BitsMut};
 pub use bit_slice_words::{Steps, WordPaths, by_bits};
 pub use bit_table_commands::{
-    BoolOp, Command, ImageBytes, Items, Letter, Numbers, Reply, RowNumbers, Test, Values,
+    Command, ImageBytes, Items, Numbers, Reply, RowNumbers, Test, Values,
     cutting_off_changes_nothing,
 };
-pub use bit_table_fields::{Digits, HiLo, digits_by_bits};
+pub use bit_table_fields::{Digits, digits_by_bits};
 pub use bit_table_image as image;
 pub use bit_table_layout::image::{is_image, loads_take_images};
 pub use bit_table_layout::{
-    Cause, Fault, Field, Layout, LayoutError, MAX_BITS, MAX_ROW_BITS, Rule, Words, is_name,
-    is_number, is_separator, number_up_to,
+    BoolOp, Cause, Fault, Field, Layout, LayoutError, Letter, MAX_BITS, MAX_ROW_BITS, Rule, Words,
+    is_name, is_number, is_separator, number_up_to,
 };
 pub use bit_table_lines::{Input, LineMachine, Output, RunError, drive};
 pub use bit_table_rows::{keep_rows, move_rows};

@@ -8,7 +8,7 @@ ghost use Rattle.bit_slice_chunks.specs.Chunk.{chunk_bit, IsChunk};
 ghost use Rattle.bit_slice_views.specs.View.{view_bits};
 ghost use Rattle.bit_table_layout.specs.Layouts.{row_width};
 ghost use Rattle.bit_table_layout.specs.Readings.{rows_from};
-ghost use Rattle.bit_table_commands.specs.LetterSets.{letter_count};
+ghost use Rattle.bit_table_layout.specs.LetterSets.{letter_count};
 ghost use Rattle.bit_table_commands.specs.Marks.{number_in_field, passes};
 ghost use Rattle.bit_table_fields.specs.Windows.{number_held};
 ghost use Rattle.bit_table_script.specs.Told.{ones_from, told, AreDigits, HasChunk};

@@ -30,10 +30,10 @@ use bit_containers_array::BitArray;
 use bit_containers_vector::BitVec;
 use bit_slice_views::{BitSlice, BitViewSized, Bits};
 use bit_slice_words::{Steps, WordPaths};
-use bit_table_commands::{BoolOp, Command, ImageBytes, Letter, Numbers, Reply, RowNumbers, Test};
+use bit_table_commands::{Command, ImageBytes, Numbers, Reply, RowNumbers, Test};
 use bit_table_fields::{Digits, bits_before, load_row, store_number, store_row};
 use bit_table_image::{read, write};
-use bit_table_layout::{Fault, Layout};
+use bit_table_layout::{BoolOp, Fault, Layout, Letter};
 use bit_table_rows::{LETTERS, Letters, RowEdit, edit_rows, keep_rows_of};
 use std::alloc::{AllocError, Global};
 use std::marker::Model;
@@ -64,7 +64,7 @@ impl<A: BitViewSized, O: WordPaths<A::Store> + Digits<A::Store>> Model for Table
     ghost use Rattle.bit_containers_vector.specs.Vector.{vec_bits, vec_head, room};
     ghost use Rattle.bit_table_layout.specs.declared.layout.TheConstants.{MAX_ROW_BITS};
     ghost use Rattle.bit_table_layout.specs.Layouts.{is_layout, row_width};
-    ghost use Rattle.bit_table_commands.specs.LetterSets.{letters_code};
+    ghost use Rattle.bit_table_layout.specs.LetterSets.{letters_code};
     ghost use Rattle.bit_table_script.specs.View.{table_from, AreStored, HaveSpace, StoredRows, TableView};
 
     ghost Value = { TableView };

@@ -10,7 +10,7 @@ use Rattle.bit_table_commands.specs.Causes.{cause_in}
 use Rattle.bit_table_commands.specs.Edits.{edit, edited}
 use Rattle.bit_table_commands.specs.Tables.{TableShape}
 use Rattle.bit_table_commands.proofs.CallerLemmas.{accepted}
-use Rattle.bit_table.proofs.AcceptedLemmas.{insert-same}
+use Rattle.bit_table_script.proofs.AcceptedLemmas.{insert-same}
 use Rattle.bit_table_tests.specs.Queue.{IsInsertion}
 
 length-inserted : (rows : List Row) (p : ℕ) (vs : List ℤ) → length (edited rows (Insert p vs)) ≡ length rows + 1

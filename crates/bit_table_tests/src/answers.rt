@@ -1,7 +1,7 @@
 //! The texts of causes, faults and errors, and lists of items.
-use bit_table::RunError;
 use bit_table_commands::{ImageBytes, Values};
 use bit_table_layout::{Cause, Fault, LayoutError};
+use bit_table_script::RunError;
 use std::alloc::Global;
 use std::process::Abort;
 use std::test::Fail;

@@ -1,8 +1,8 @@
 //! What refuses commands that no line spells, over two rows of `high a:u3 b:i4`; and laws.
-use bit_table::image::images_tell_numbers;
 use bit_table_commands::{Command, Values, cutting_off_changes_nothing};
 use bit_table_layout::image::loads_take_images;
 use bit_table_layout::{Cause, Layout};
+use bit_table_script::image::images_tell_numbers;
 use std::test::Fail;
 
 #[test]

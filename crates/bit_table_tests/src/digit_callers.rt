@@ -8,11 +8,11 @@ ghost use Rattle.bit_table_layout.specs.Rows.{field_bits};
 ghost use Rattle.bit_table_rows.specs.RowMoves.{rows_moved};
 ghost use Rattle.bit_table_layout.specs.declared.layout.Rule.TheVariants.{Low, High};
 
-use bit_addressing_memory::{BitIdx, BitOrder, BitRegister, Lsb0, Sweep, way_for};
+use bit_addressing_memory::{BitIdx, BitOrder, BitRegister, HiLo, Lsb0, Sweep, way_for};
 use bit_slice_views::Bits;
 use bit_slice_views_mut::{BitSliceMut, BitsMut};
 use bit_slice_words::Steps;
-use bit_table_fields::{Digits, HiLo};
+use bit_table_fields::Digits;
 use bit_table_rows::move_rows;
 
 // Stores a number in a window, the lowest digit first, and loads it again: it is the same one.

@@ -1,4 +1,4 @@
-use bit_table::image;
+use bit_table_script::image;
 use std::test::Fail;
 
 #[test]

@@ -1,9 +1,8 @@
 //! The letters of many rows told at once, and row by row, beside a plain list of flags.
 
-use bit_addressing_memory::{Lsb0, Msb0};
+use bit_addressing_memory::{HiLo, Lsb0, Msb0};
 use bit_slice_views::{BitStore, Bits};
 use bit_slice_words::WordPaths;
-use bit_table_fields::HiLo;
 use bit_table_rows::{LETTERS, Letters};
 use std::alloc::{AllocError, Global};
 

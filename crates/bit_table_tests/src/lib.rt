@@ -25,11 +25,7 @@ mod line_runs;
 #[cfg(test)]
 mod line_words;
 #[cfg(test)]
-mod moves;
-#[cfg(test)]
 mod numbers;
-#[cfg(test)]
-mod orders;
 #[cfg(test)]
 mod queue;
 #[cfg(test)]

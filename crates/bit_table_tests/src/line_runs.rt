@@ -1,6 +1,6 @@
 //! Runs of lines through a machine that answers each by itself.
-use bit_table::{Input, Output, RunError, drive};
 use bit_table_samples::{Echo, echoed};
+use bit_table_script::{Input, Output, RunError, drive};
 use std::test::Fail;
 
 const SCRIPT: &[u8; 12] = b"a\n\r\nbc\n\nlast";

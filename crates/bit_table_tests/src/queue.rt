@@ -5,13 +5,13 @@ ghost use Rattle.bit_table_layout.specs.declared.layout.TheConstants.{MAX_ROW_BI
 ghost use Rattle.bit_table_commands.specs.Causes.{cause_in};
 ghost use Rattle.bit_table_tests.specs.Queue.{IsInsertion};
 
-use bit_addressing_memory::{Lsb0, Msb0};
+use bit_addressing_memory::{HiLo, Lsb0, Msb0};
 use bit_slice_views::BitViewSized;
 use bit_slice_words::WordPaths;
-use bit_table::Table;
 use bit_table_commands::{Command, Numbers, Reply, Values};
-use bit_table_fields::{Digits, HiLo};
+use bit_table_fields::Digits;
 use bit_table_layout::{Cause, Fault, Layout};
+use bit_table_script::Table;
 use std::alloc::{AllocError, Global};
 use std::process::Abort;
 use std::test::Fail;

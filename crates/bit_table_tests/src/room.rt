@@ -6,10 +6,10 @@ ghost use Rattle.bit_table_layout.specs.declared.layout.TheConstants.{MAX_ROW_BI
 use bit_addressing_memory::Lsb0;
 use bit_slice_views::BitViewSized;
 use bit_slice_words::WordPaths;
-use bit_table::Table;
 use bit_table_commands::{Command, Reply};
 use bit_table_fields::Digits;
 use bit_table_layout::{Fault, Layout};
+use bit_table_script::Table;
 use std::alloc::{AllocError, Global};
 use std::test::Fail;
 

@@ -2,8 +2,8 @@
 ghost use Rattle.std.specs.Prelude.{◌≤◌, Some};
 
 use bit_addressing_memory::Lsb0;
-use bit_table::{Input, Output, RunError, run};
 use bit_table_samples::{Cut, Narrow, Stop};
+use bit_table_script::{Input, Output, RunError, run};
 use std::io::{self, Write};
 use std::test::Fail;
 

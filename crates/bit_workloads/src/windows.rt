@@ -4,7 +4,7 @@ ghost use Rattle.std.specs.Prelude.{◌≤◌};
 
 use crate::digest::Digest;
 use crate::random::Random;
-use bit_slice::{
+use bit_containers::{
     BitOrder, BitSlice, BitSliceMut, BitStore, Bits, BitsCopy, BitsFill, BitsMut, Lsb0, Msb0,
 };
 use bit_table::HiLo;

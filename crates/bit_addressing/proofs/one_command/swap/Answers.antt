@@ -1,56 +1,29 @@
-use Rattle.std.proofs.Common.{arith, ◌≡◌, ◌+◌}
+use Rattle.std.proofs.Common.{arith}
 use Rattle.std.proofs.lemmas.Bool.Decides.{nat_tests}
 use Rattle.bit_addressing_memory.specs.Memory.{read_by}
-use Rattle.bit_addressing.specs.Pointer.{memory_place}
 use Rattle.bit_addressing.proofs.BitCommandLemmas.{carried_swap}
-use Rattle.bit_addressing.proofs.CommandLemmas.{lies_in_memory, place_fits, refused}
-use Rattle.bit_addressing_span.specs.Span.{span_place}
+use Rattle.bit_addressing.proofs.CommandLemmas.{refused}
 use Rattle.bit_addressing.proofs.one_command.swap.Goals as goal
 
 pub returns-then-i-len : goal.returns-then-i-len
 returns-then-i-len g c =
     record {
       carried =
-          refused (read_by g.R.BitRegister g.O.Positions.position) c.args.memory.now
-          c.args.span
-          _ c.raw_parts-word.ensures.index c.requires.fits (grind (arith, nat_tests, c.then-i-len.either));
+          refused (read_by g.R.BitRegister g.O.Positions.position) c.args.memory.now c.args.span _
+          c.raw_parts-len.ensures.index c.requires.fits (grind (arith, nat_tests, c.then-i-len.either));
     }
 
-pub bit_at-other-requires : goal.bit_at-other-requires
-bit_at-other-requires g c =
-    let parts = c.raw_parts-word.ensures in
-    place_fits g.R.BitRegister.BITS c.args.span _ _ c.args.j parts.word parts.head parts.index parts.within.1
-    (omega arith)
-
-pub bit_at-requires : goal.bit_at-requires
-bit_at-requires g c =
-    let parts = c.raw_parts-word.ensures in
-    place_fits g.R.BitRegister.BITS c.args.span _ _ c.args.i parts.word parts.head parts.index parts.within.1
-    (omega arith)
-
 pub swap_within-requires-clause-within : goal.swap_within-requires-clause-within
-swap_within-requires-clause-within g c =
-    let b = g.R.BitRegister.BITS in
-    let place : memory_place b c.bit_at.result ≡ span_place b c.args.span + c.args.i = cc in
-    lies_in_memory b c.args.span c.bit_at.result c.args.i 1 _ c.bit_at.ensures.word place
-    c.raw_parts-word.ensures.index c.requires.fits (omega arith) (omega arith)
+swap_within-requires-clause-within g c = c.bit_at.ensures.lies 1 _ c.requires.fits (omega arith) (omega arith)
 
 pub swap_within-requires-clause-with_within : goal.swap_within-requires-clause-with_within
 swap_within-requires-clause-with_within g c =
-    let b = g.R.BitRegister.BITS in
-    let place : memory_place b c.bit_at-other.result ≡ span_place b c.args.span + c.args.j = cc in
-    lies_in_memory b c.args.span c.bit_at-other.result c.args.j 1 _ c.bit_at-other.ensures.word place
-    c.raw_parts-word.ensures.index c.requires.fits (omega arith) (omega arith)
+    c.bit_at-other.ensures.lies 1 _ c.requires.fits (omega arith) (omega arith)
 
 pub returns : goal.returns
-returns g c =
-    let b = g.R.BitRegister.BITS in
-    let place : memory_place b c.bit_at.result ≡ span_place b c.args.span + c.args.i = cc in
-    let other : memory_place b c.bit_at-other.result ≡ span_place b c.args.span + c.args.j = cc in
-    record {
-      carried =
-          carried_swap (read_by g.R.BitRegister g.O.Positions.position) c.args.memory.now _ c.args.span
-          c.args.i
-          c.args.j _ _ c.raw_parts-word.ensures.index c.requires.fits (omega arith) (omega arith) place other
-          c.swap_within.ensures.swapped;
-    }
+returns g c = record {
+  carried =
+      carried_swap (read_by g.R.BitRegister g.O.Positions.position) c.args.memory.now _ c.args.span c.args.i c.args.j
+      _ _ c.raw_parts-len.ensures.index c.requires.fits (omega arith) (omega arith) c.bit_at.ensures.place
+      c.bit_at-other.ensures.place c.swap_within.ensures.swapped;
+}

@@ -2,7 +2,7 @@ use Rattle.std.proofs.Common.{arith}
 use Rattle.std.specs.Simd.Lanes.{zip2}
 use Rattle.bit_addressing_memory.specs.Memory.{read_by}
 use Rattle.bit_containers_vector.specs.Vector.{vec_bits}
-use Rattle.bit_table_commands.specs.Letters.{combined}
+use Rattle.bit_table_layout.specs.Letters.{combined}
 use Rattle.bit_table_rows.specs.Lists.{HasBits}
 use Rattle.bit_table_rows.proofs.WalkLemmas.{changed_alone, changed_in_back, changed_in_front}
 use Rattle.bit_table_rows.proofs.combine.combine_lists.Goals as goal

@@ -1,7 +1,7 @@
 use Rattle.std.proofs.Common.{◌<◌, arith}
 use Rattle.bit_addressing_memory.specs.Memory.{read_by}
 use Rattle.bit_slice_words.proofs.ListLemmas.{combined_list}
-use Rattle.bit_table_commands.specs.Letters.{combined}
+use Rattle.bit_table_layout.specs.Letters.{combined}
 use Rattle.bit_table_rows.proofs.combine.combine_words.Goals as goal
 
 pub returns-clause-list : goal.returns-clause-list

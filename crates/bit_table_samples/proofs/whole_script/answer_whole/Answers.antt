@@ -1,5 +1,5 @@
 use Rattle.std.proofs.lemmas.Result.{on_ok_weaker}
-use Rattle.bit_table.proofs.CallerLemmas.{script_answer-to_end}
+use Rattle.bit_table_script.proofs.CallerLemmas.{script_answer-to_end}
 use Rattle.bit_table_samples.proofs.whole_script.answer_whole.Goals as goal
 
 pub returns : goal.returns

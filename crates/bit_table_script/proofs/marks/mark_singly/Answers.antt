@@ -10,7 +10,7 @@ use Rattle.bit_containers_vector.specs.Vector.{vec_bits}
 use Rattle.bit_table_layout.specs.Readings.{rows_from}
 use Rattle.bit_table_layout.specs.Rows.{Row, new_row}
 use Rattle.bit_table_layout.proofs.RowLemmas.{length-rows_from}
-use Rattle.bit_table_commands.specs.LetterSets.{with_letter}
+use Rattle.bit_table_layout.specs.LetterSets.{with_letter}
 use Rattle.bit_table_commands.specs.Marks.{number_in_field, passes}
 use Rattle.bit_table_rows.proofs.RowListCallerLemmas.{number_within}
 use Rattle.bit_table_script.specs.Told.{told}

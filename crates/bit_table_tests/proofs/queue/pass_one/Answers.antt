@@ -3,7 +3,7 @@ use Rattle.bit_table_commands.specs.Edits.{edit}
 use Rattle.bit_table_commands.specs.Tables.{IsTable, TableShape}
 use Rattle.bit_table_commands.specs.declared.command.Command.TheVariants.{Delete}
 use Rattle.bit_table_commands.proofs.CallerLemmas.{edit-is_table}
-use Rattle.bit_table.proofs.AcceptedLemmas.{delete-accepted}
+use Rattle.bit_table_script.proofs.AcceptedLemmas.{delete-accepted}
 use Rattle.bit_table_tests.proofs.QueueLemmas.{one_less, one_more}
 use Rattle.bit_table_tests.proofs.queue.pass_one.Goals as goal
 

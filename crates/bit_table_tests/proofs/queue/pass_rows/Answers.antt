@@ -1,7 +1,7 @@
 use Rattle.std.proofs.Common.{◌≡◌, None, ap, ◌∙◌, arith}
 use Rattle.bit_table_commands.specs.Causes.{cause_in}
 use Rattle.bit_table_commands.specs.declared.command.Command.TheVariants.{Insert}
-use Rattle.bit_table.proofs.AcceptedLemmas.{insert-unkept}
+use Rattle.bit_table_script.proofs.AcceptedLemmas.{insert-unkept}
 use Rattle.bit_table_tests.proofs.QueueLemmas.{fits-one_more}
 use Rattle.bit_table_tests.proofs.queue.pass_rows.Goals as goal
 

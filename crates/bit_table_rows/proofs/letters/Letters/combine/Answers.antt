@@ -3,8 +3,8 @@ use Rattle.std.specs.Simd.Lanes.{zip2}
 use Rattle.std.proofs.lemmas.Simd.{length-zip2}
 use Rattle.bit_addressing_memory.specs.Memory.{read_by}
 use Rattle.bit_containers_vector.specs.Vector.{vec_bits}
-use Rattle.bit_table_commands.specs.Letters.{combined}
-use Rattle.bit_table_commands.specs.LetterSets.{bears}
+use Rattle.bit_table_layout.specs.Letters.{combined}
+use Rattle.bit_table_layout.specs.LetterSets.{bears}
 use Rattle.bit_table_rows.specs.Marks.{decided, list_of, marks_of}
 use Rattle.bit_table_rows.proofs.ColumnLemmas.{bits_changed, column_is, column_size, columns_changed, columns_count}
 use Rattle.bit_table_rows.proofs.ColumnLemmas.{some_list}

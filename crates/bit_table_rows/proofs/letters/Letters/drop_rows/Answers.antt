@@ -3,7 +3,7 @@ use Rattle.std.specs.List.{count_by, filter}
 use Rattle.std.proofs.lemmas.List.Sums.{count_by-le-length}
 use Rattle.bit_addressing_memory.specs.Memory.{read_by}
 use Rattle.bit_containers_vector.specs.Vector.{vec_bits}
-use Rattle.bit_table_commands.specs.LetterSets.{bears}
+use Rattle.bit_table_layout.specs.LetterSets.{bears}
 use Rattle.bit_table_rows.specs.Marks.{list_of, marks_of}
 use Rattle.bit_table_rows.proofs.ColumnLemmas.{column_after, column_is, column_size, columns_after, some_list}
 use Rattle.bit_table_rows.proofs.DropLemmas.{length-left_of, marks_dropped}

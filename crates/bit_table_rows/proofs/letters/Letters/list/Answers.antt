@@ -1,7 +1,7 @@
 use Rattle.std.proofs.Common.{map, sym, ap, ◌∙◌, arith}
 use Rattle.bit_addressing_memory.specs.Memory.{read_by}
 use Rattle.bit_containers_vector.specs.Vector.{vec_bits}
-use Rattle.bit_table_commands.specs.LetterSets.{bears}
+use Rattle.bit_table_layout.specs.LetterSets.{bears}
 use Rattle.bit_table_rows.proofs.ColumnLemmas.{column_is, column_size}
 use Rattle.bit_table_rows.proofs.MarkLemmas.{column_marked}
 use Rattle.bit_table_rows.proofs.SpaceLemmas.{sets_are}

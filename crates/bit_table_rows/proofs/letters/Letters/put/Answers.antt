@@ -3,7 +3,7 @@ use Rattle.std.specs.FinSet as set
 use Rattle.std.proofs.lemmas.List.{map-set}
 use Rattle.bit_addressing_memory.specs.Memory.{read_by}
 use Rattle.bit_containers_vector.specs.Vector.{vec_bits}
-use Rattle.bit_table_commands.specs.LetterSets.{with_letter}
+use Rattle.bit_table_layout.specs.LetterSets.{with_letter}
 use Rattle.bit_table_rows.specs.Marks.{marks_of}
 use Rattle.bit_table_rows.proofs.ColumnLemmas.{column_is, column_size, columns_count}
 use Rattle.bit_table_rows.proofs.MarkLemmas.{length-marks}

@@ -1,6 +1,6 @@
 use Rattle.std.proofs.Common.{sym, refl}
-use Rattle.bit_table_commands.specs.Letters.{combined}
-use Rattle.bit_table_commands.specs.LetterSets.{bears}
+use Rattle.bit_table_layout.specs.Letters.{combined}
+use Rattle.bit_table_layout.specs.LetterSets.{bears}
 use Rattle.bit_table_commands.specs.declared.command.Command.TheVariants.{Combine}
 use Rattle.bit_table_script.proofs.TableLemmas.{count_is, rows_decided, shape_after}
 use Rattle.bit_table_script.proofs.table.Table.combine.Goals as goal

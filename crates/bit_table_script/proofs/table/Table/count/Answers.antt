@@ -1,6 +1,6 @@
 use Rattle.std.proofs.Common.{count_by, ap, ◌∙◌}
 use Rattle.bit_table_layout.specs.Readings.{rows_from}
-use Rattle.bit_table_commands.specs.LetterSets.{bears}
+use Rattle.bit_table_layout.specs.LetterSets.{bears}
 use Rattle.bit_table_commands.specs.Marks.{row_bears}
 use Rattle.bit_table_commands.specs.declared.reply.Reply.TheVariants.{Count}
 use Rattle.bit_table_script.proofs.MarkedLemmas.{count-lettered}

@@ -5,7 +5,7 @@ use Rattle.std.proofs.lemmas.List.Sums.{count_by-le-length}
 use Rattle.bit_table_layout.specs.Layouts.{row_width}
 use Rattle.bit_table_layout.specs.Readings.{rows_from}
 use Rattle.bit_table_layout.proofs.RowLemmas.{length-rows_from}
-use Rattle.bit_table_commands.specs.LetterSets.{bears}
+use Rattle.bit_table_layout.specs.LetterSets.{bears}
 use Rattle.bit_table_commands.specs.declared.command.Command.TheVariants.{Drop}
 use Rattle.bit_addressing_memory.specs.Memory.{read_by}
 use Rattle.bit_containers_vector.specs.Vector.{vec_bits}

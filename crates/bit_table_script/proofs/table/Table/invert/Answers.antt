@@ -1,5 +1,5 @@
 use Rattle.std.proofs.Common.{not, refl}
-use Rattle.bit_table_commands.specs.LetterSets.{bears}
+use Rattle.bit_table_layout.specs.LetterSets.{bears}
 use Rattle.bit_table_commands.specs.declared.command.Command.TheVariants.{Not}
 use Rattle.bit_table_script.proofs.TableLemmas.{rows_decided, shape_after}
 use Rattle.bit_table_script.proofs.table.Table.invert.Goals as goal

@@ -1,5 +1,5 @@
 use Rattle.std.proofs.Common.{map, ap, ◌∙◌}
-use Rattle.bit_table_commands.specs.LetterSets.{bears}
+use Rattle.bit_table_layout.specs.LetterSets.{bears}
 use Rattle.bit_table_script.proofs.MarkedLemmas.{bears-letters}
 use Rattle.bit_table_script.proofs.TableLemmas.{letters_are}
 use Rattle.bit_table_script.proofs.table.Table.letter_bits.Goals as goal

@@ -1,7 +1,7 @@
 -- Letters, and what two bits make.
 use Rattle.std.specs.Prelude.{ℕ, ◌-◌, ◌&&◌, ◌||◌, nat_le, not, Bool, true, false, Option, Some, None, if◌then◌else◌}
-use Rattle.bit_table_commands.specs.declared.bool_op.BoolOp.{BoolOp}
-use Rattle.bit_table_commands.specs.declared.bool_op.BoolOp.TheVariants.{And, Or, Xor}
+use Rattle.bit_table_layout.specs.declared.bool_op.BoolOp.{BoolOp}
+use Rattle.bit_table_layout.specs.declared.bool_op.BoolOp.TheVariants.{And, Or, Xor}
 
 -- the letter that a byte is, as its place in the alphabet, if it is one: 97 is `a`, 122 is `z`
 abbrev pub letter_of : ℕ → Option ℕ

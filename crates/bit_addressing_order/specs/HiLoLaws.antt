@@ -4,7 +4,7 @@ use Rattle.std.proofs.Math.Pow.{pow_mono}
 use Rattle.std.proofs.lemmas.Nat.{xor_lt}
 use Rattle.std.proofs.lemmas.Nat.Bits.{bit_at-lt, bit_at_xor, same_from_bits}
 use Rattle.std.specs.Int.{bit_at}
-use Rattle.bit_addressing_memory.specs.BitRegister.{IsRegisterSize}
+use Rattle.bit_addressing_order.specs.BitRegister.{IsRegisterSize}
 
 -- flipping the digit of weight 4 keeps an index of a register one
 pub flip_within : (bits i : ℕ) → IsRegisterSize bits → i < bits → bit_xor i 4 < bits

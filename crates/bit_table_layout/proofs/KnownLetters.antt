@@ -1,7 +1,7 @@
 -- Known letters, computed: a wrong rule among the definitions does not check.
 use Rattle.std.proofs.Common.{◌≡◌, true, false, Some, None, refl}
-use Rattle.bit_table_commands.specs.declared.bool_op.BoolOp.TheVariants.{And, Or, Xor}
-use Rattle.bit_table_commands.specs.Letters.{letter_of, combined}
+use Rattle.bit_table_layout.specs.declared.bool_op.BoolOp.TheVariants.{And, Or, Xor}
+use Rattle.bit_table_layout.specs.Letters.{letter_of, combined}
 
 -- `a` and `z`, and the bytes beside them; `A`
 letter-first : letter_of 97 ≡ Some 0

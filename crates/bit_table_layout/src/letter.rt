@@ -1,6 +1,6 @@
 //! Letters.
 ghost use Rattle.std.specs.Prelude.{◌≡◌, ◌<◌};
-ghost use Rattle.bit_table_commands.specs.Letters.{letter_of};
+ghost use Rattle.bit_table_layout.specs.Letters.{letter_of};
 
 use std::marker::Model;
 

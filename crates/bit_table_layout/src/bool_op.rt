@@ -1,6 +1,6 @@
 //! What two bits make.
 ghost use Rattle.std.specs.Prelude.{◌≡◌};
-ghost use Rattle.bit_table_commands.specs.Letters.{combined};
+ghost use Rattle.bit_table_layout.specs.Letters.{combined};
 
 /// An operation on two bits.
 #[derive(Clone, Copy, Debug, PartialEq, Eq)]

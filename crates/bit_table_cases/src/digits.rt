@@ -1,16 +1,16 @@
 //! Numbers in windows of a memory, rows of them, and the bits of an image.
 
 ghost use Rattle.std.specs.Prelude.{◌≡◌, ◌+◌, ◌≤◌, length};
-ghost use Rattle.bit_table.specs.Layouts.{row_width};
+ghost use Rattle.bit_table_script.specs.Layouts.{row_width};
 
 use crate::memory::{WORDS, push_words, read_words};
 use crate::text::{cut, push_bits, whole_number};
 use bit_addressing_sample_orders::texts::number;
-use bit_table::image::{read, write};
-use bit_table::{
+use bit_table_fields::{load_row, store_row};
+use bit_table_script::image::{read, write};
+use bit_table_script::{
     BitOrder, BitRegister, BitSlice, BitSliceMut, BitStore, Bits, Digits, Layout, Steps,
 };
-use bit_table_fields::{load_row, store_row};
 use std::alloc::{AllocError, Global};
 
 /// The numbers that a window of a memory holds, by both rules without a sign and with one, and the memory after another

@@ -2,7 +2,7 @@
 
 use crate::text::{cut, meant};
 use bit_addressing_sample_orders::texts::number;
-use bit_table::{Command, Layout, Rule};
+use bit_table_script::{Command, Layout, Rule};
 use std::alloc::{AllocError, Global};
 
 /// The layout of a text's first line, told, and the commands that its other lines spell.

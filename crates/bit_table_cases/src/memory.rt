@@ -6,7 +6,7 @@ use crate::order::StepsOfFive;
 use crate::text::cut;
 use bit_addressing_sample_orders::texts;
 use bit_addressing_sample_orders::texts::push_word;
-use bit_table::{BitRegister, BitStore, Digits, HiLo, Lsb0, Msb0};
+use bit_table_script::{BitRegister, BitStore, Digits, HiLo, Lsb0, Msb0};
 use std::alloc::{AllocError, Global};
 
 /// What a case of this kind is answered over the word and the order that the first two words name.

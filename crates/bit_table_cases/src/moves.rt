@@ -5,7 +5,7 @@ ghost use Rattle.std.specs.Prelude.{◌≡◌, ◌≤◌, ◌<◌, length};
 use crate::memory::{WORDS, push_words, read_words};
 use bit_addressing_memory::write_entry;
 use bit_addressing_sample_orders::texts::number;
-use bit_table::{
+use bit_table_script::{
     BitIdx, BitOrder, BitRegister, BitSlice, Sweep, Way, keep_rows, move_rows, way_for,
 };
 use std::alloc::{AllocError, Global};

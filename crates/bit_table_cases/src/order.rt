@@ -1,9 +1,9 @@
 //! An order of a user's own, with its word paths and its digits bit by bit: what a table wants of an order.
 
 ghost use Rattle.std.specs.Prelude.{◌≡◌, ℕ, ◌+◌, ◌*◌, ◌%◌, ◌^◌, ◌<◌, ◌≤◌, ◌↔◌, ◌&&◌, ◌||◌, length, IsTrue, true, false};
-ghost use Rattle.bit_table.specs.BitOrder.{selectors_from, masks_from};
+ghost use Rattle.bit_table_script.specs.BitOrder.{selectors_from, masks_from};
 
-use bit_table::{
+use bit_table_script::{
     BitOrder, BitRegister, BitsMut, Digits, OrderCandidate, Positions, Steps, WordPaths, by_bits,
     digits_by_bits, mask_from_at, select_from_at,
 };
@@ -36,13 +36,13 @@ impl<R: BitRegister> OrderCandidate<R> for StepsOfFive {
 
 impl<R: BitRegister> BitOrder<R> for StepsOfFive {
     ghost use Rattle.std.specs.Prelude.{refl};
-    ghost use Rattle.bit_table.specs.OrderLaws.{lawful_by_steps};
+    ghost use Rattle.bit_table_script.specs.OrderLaws.{lawful_by_steps};
 
     ghost lawful = { lawful_by_steps R.BITS 5 3 R.size refl };
 }
 
 impl<R: BitRegister> WordPaths<R> for StepsOfFive {
-    ghost use Rattle.bit_table.specs.PathLaws.{one_span, span_of_one};
+    ghost use Rattle.bit_table_script.specs.PathLaws.{one_span, span_of_one};
 
     ghost SPAN = { 1 };
 

@@ -1,12 +1,12 @@
 //! Whole scripts, run over memory.
 
 ghost use Rattle.std.specs.Prelude.{◌*◌, ◌≤◌};
-ghost use Rattle.bit_table.specs.LayoutLimits.{MAX_ROW_BITS};
+ghost use Rattle.bit_table_script.specs.LayoutLimits.{MAX_ROW_BITS};
 
 use crate::text::{cut, meant, push_answer};
 use bit_addressing_sample_orders::texts::number;
-use bit_table::{BitViewSized, Digits, Input, Output, RunError, WordPaths, run};
 use bit_table_samples::{Cut, Narrow, Stop, answer_to, answer_whole};
+use bit_table_script::{BitViewSized, Digits, Input, Output, RunError, WordPaths, run};
 use std::alloc::{AllocError, Global};
 
 /// What a script is answered that is read in pieces of so many bytes, or at once where these are 0.

@@ -1,13 +1,13 @@
 //! The storage of a script: a word and an order.
 
 ghost use Rattle.std.specs.Prelude.{◌*◌, ◌≤◌};
-ghost use Rattle.bit_table.specs.LayoutLimits.{MAX_ROW_BITS};
+ghost use Rattle.bit_table_script.specs.LayoutLimits.{MAX_ROW_BITS};
 
 use crate::order::StepsOfFive;
 use crate::scripts::{run_case, stopped_case};
 use crate::tables::table_case;
 use crate::text::cut;
-use bit_table::{BitViewSized, Digits, HiLo, Lsb0, Msb0, WordPaths};
+use bit_table_script::{BitViewSized, Digits, HiLo, Lsb0, Msb0, WordPaths};
 use std::alloc::{AllocError, Global};
 
 /// What a script is answered over the storage that the first two words name, by a run or by a table.

@@ -1,10 +1,10 @@
 //! Scripts carried out on a table line by line, with lines of this program's own, which begin with `!`.
 
 ghost use Rattle.std.specs.Prelude.{◌*◌, ◌≤◌};
-ghost use Rattle.bit_table.specs.LayoutLimits.{MAX_ROW_BITS};
+ghost use Rattle.bit_table_script.specs.LayoutLimits.{MAX_ROW_BITS};
 
 use crate::text::{cut, meant, push_answer, push_bits};
-use bit_table::{
+use bit_table_script::{
     BitViewSized, Bits, BoolOp, Command, Digits, Fault, HiLo, Layout, Letter, Lsb0, Msb0, Steps,
     Table, WordPaths,
 };

@@ -1,6 +1,6 @@
 //! What the words of a case mean, and how answers are written.
 
-use bit_table::Bits;
+use bit_table_script::Bits;
 use std::alloc::{AllocError, Global};
 
 /// A text up to its first space, and what stands behind that.

@@ -1,8 +1,6 @@
 -- Bits of an iterator gathered in a number, and added behind those of a vector.
-use Rattle.std.proofs.Common.{◌≡◌, ◌≢◌, ℕ, ◌+◌, ◌%◌, ◌^◌, ◌<◌, ◌≤◌, Bool, true, false, List, [], ◌∷◌, ◌++◌, length, refl, sym, ap}
+use Rattle.std.proofs.Common.{◌≡◌, ℕ, ◌+◌, ◌%◌, ◌^◌, ◌<◌, ◌≤◌, Bool, false, List, [], ◌∷◌, ◌++◌, length, refl, sym, ap}
 use Rattle.std.proofs.Common.{◌∙◌, inl, inr, arith, Option, append-nil, append_assoc, ◌*◌}
-use Rattle.std.specs.Prelude.{◌==◌}
-use Rattle.std.proofs.lemmas.Nat.Bits.{bit_at-zero}
 use Rattle.std.proofs.lemmas.Bool.{cases_lt}
 use Rattle.std.proofs.lemmas.List.{ext_get_or, get_or_append_left, get_or_push, length_push}
 use Rattle.bit_addressing_memory.proofs.OrderCallerLemmas.{digit_at-with_digit_same, digit_at-with_digit_other}
@@ -17,47 +15,29 @@ use Rattle.bit_containers_vector.specs.Vector.{vec_bits, IsAsBefore}
 use Rattle.bit_containers_vector.specs.declared.vector.BitVec.{BitVec}
 use Rattle.bit_containers_vector.proofs.ExtendLemmas.{extends_none, extends_more, extends_same}
 
-pub gathers_none : Gathers 0 0 []
-gathers_none = record {
-  size = refl;
-  same = λ i low. absurd (omega arith);
-  zero = λ i past small. ap (λ q. q == 1) (bit_at-zero i);
-}
+pub gathers_none : (number : ℕ) → Gathers number 0 []
+gathers_none number = record { size = refl; same = λ i low. absurd (omega arith) }
 
 -- one more
-gathers_next : (number next n : ℕ) (xs : List Bool) (bit : Bool) → Gathers number n xs
-    → digit_at (next % 2 ^ 64) n ≡ bit
-    → ((i : ℕ) → i ≢ n → digit_at (next % 2 ^ 64) i ≡ digit_at (number % 2 ^ 64) i)
-    → Gathers next (n + 1) (xs ++ bit ∷ [])
-gathers_next number next n xs bit had here others =
+pub gathers_more : (number next n : ℕ) (xs : List Bool) (bit : Bool)
+    → next % 2 ^ 64 ≡ with_digit (number % 2 ^ 64) n bit
+    → Gathers number n xs → Gathers next (n + 1) (xs ++ bit ∷ [])
+gathers_more number next n xs bit is had =
     let size = had.size in
     record {
       size = length_push xs bit ∙ omega (arith, size);
-      same = λ i low. elim (cases_lt i n) [
+      same = λ i low. ap (λ m. digit_at m i) is ∙ elim (cases_lt i n) [
         | inl before ↦
-            others i (omega arith)
+            digit_at-with_digit_other (number % 2 ^ 64) n bit i (omega arith)
             ∙ had.same i before
             ∙ sym (get_or_append_left xs (bit ∷ []) false i (omega (arith, size)))
         | inr past ↦
-            let last : i ≡ n = omega arith in
-            ap (digit_at (next % 2 ^ 64)) last
-            ∙ here
+            let here : i ≡ n = omega arith in
+            ap (digit_at (with_digit (number % 2 ^ 64) n bit)) here
+            ∙ digit_at-with_digit_same (number % 2 ^ 64) n bit
             ∙ sym (get_or_push xs bit false i (omega (arith, size)))
       ];
-      zero = λ i past small. others i (omega arith) ∙ had.zero i (omega arith) small;
     }
-
-pub gathers_one : (number next n : ℕ) (xs : List Bool) → next % 2 ^ 64 ≡ with_digit (number % 2 ^ 64) n true
-    → Gathers number n xs → Gathers next (n + 1) (xs ++ true ∷ [])
-gathers_one number next n xs is had =
-    gathers_next number next n xs true had
-    (ap (λ m. digit_at m n) is ∙ digit_at-with_digit_same (number % 2 ^ 64) n true)
-    (λ i other. ap (λ m. digit_at m i) is ∙ digit_at-with_digit_other (number % 2 ^ 64) n true i other)
-
-pub gathers_zero : (number n : ℕ) (xs : List Bool) → n < 64 → Gathers number n xs
-    → Gathers number (n + 1) (xs ++ false ∷ [])
-gathers_zero number n xs low had =
-    gathers_next number number n xs false had (had.zero n (omega arith) low) (λ i other. refl)
 
 -- as the first bits of a word
 pub gathers_piece : (number n : ℕ) (xs : List Bool) → n ≤ 64 → Gathers number n xs
@@ -89,23 +69,23 @@ module _ {T O : Type 0} {g : _} (reading : Reading T) where
     pub has : Gathers number n left
     pub grown : Extends reading old new added
 
-  pub gathering_none : (v : BitVec T O g) → Gathering v v 0 0 []
-  gathering_none v = record {
+  pub gathering_none : (v : BitVec T O g) (number : ℕ) → Gathering v v number 0 []
+  gathering_none v number = record {
     added = [];
     left = [];
     all = refl;
-    has = gathers_none;
+    has = gathers_none number;
     grown = extends_none reading v;
   }
 
   pub gathering_more : (old new : BitVec T O g) (number next n : ℕ) (items : List Bool) (bit : Bool)
-      → ((xs : List Bool) → Gathers number n xs → Gathers next (n + 1) (xs ++ bit ∷ []))
-      → Gathering old new number n items → Gathering old new next (n + 1) (items ++ bit ∷ [])
-  gathering_more old new number next n items bit more had = record {
+      → next % 2 ^ 64 ≡ with_digit (number % 2 ^ 64) n bit → Gathering old new number n items
+      → Gathering old new next (n + 1) (items ++ bit ∷ [])
+  gathering_more old new number next n items bit is had = record {
     added = had.added;
     left = had.left ++ bit ∷ [];
     all = ap (λ xs. xs ++ bit ∷ []) had.all ∙ append_assoc had.added had.left (bit ∷ []);
-    has = more had.left had.has;
+    has = gathers_more number next n had.left bit is had.has;
     grown = had.grown;
   }
 
@@ -120,13 +100,13 @@ module _ {T O : Type 0} {g : _} (reading : Reading T) where
       (extends_more reading old mid new had.added had.left some fits fits_mid fits_new had.grown
       (more had.left had.has))
 
-  pub gathering_anew : (old new : BitVec T O g) (items : List Bool) → Extends reading old new items
-      → Gathering old new 0 0 items
-  gathering_anew old new items grown = record {
+  pub gathering_anew : (old new : BitVec T O g) (number : ℕ) (items : List Bool) → Extends reading old new items
+      → Gathering old new number 0 items
+  gathering_anew old new number items grown = record {
     added = items;
     left = [];
     all = sym (append-nil items);
-    has = gathers_none;
+    has = gathers_none number;
     grown = grown;
   }
 

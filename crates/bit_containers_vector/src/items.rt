@@ -5,7 +5,6 @@ ghost use Rattle.std.specs.Iterator.{Drains, Yields, IsFinite, size};
 ghost use Rattle.bit_addressing_memory.specs.Memory.{memory, read_by};
 ghost use Rattle.bit_addressing_span.specs.declared.span.TheConstants.{MAX_BITS};
 ghost use Rattle.bit_containers_vector.specs.Answers.{Answers};
-ghost use Rattle.bit_containers_vector.specs.Gathered.{Gathers};
 ghost use Rattle.bit_containers_vector.specs.Grown.{Extends};
 ghost use Rattle.bit_containers_vector.specs.Vector.{vec_bits, vec_head, room, HasRoomFor, IsAsBefore, Shortens};
 
@@ -41,14 +40,14 @@ impl<T: BitStore, O: BitOrder<T>> BitVec<T, O> {
             ≤ room (read_by T.BitRegister O.position) self.new }
     {
         // As many as a number has digits are added at once.
-        let mut gathered = 0;
+        let mut gathered = 0u64;
         let mut count = 0;
         for item in items {
-            gathered = with_next(gathered, count, item);
+            let index = BitIdx::new_unchecked(count);
+            gathered = write_bit::<u64, Lsb0>(gathered, index, item);
             count += 1;
             if count == 64 {
                 self.extend_from_digits(gathered, 64)?;
-                gathered = 0;
                 count = 0;
             }
         }
@@ -203,18 +202,5 @@ impl<T: BitStore, O: BitOrder<T>> BitVec<T, O> {
             place += 1;
         }
         Ok(())
-    }
-}
-
-// The number with a bit behind the `count` that it has, and zeros behind it.
-#[inline(always)]
-fn with_next(number: u64, count: u8, bit: bool) -> u64
-    requires { count < 64 }
-    ensures { (xs : List Bool) → Gathers number count xs → Gathers result (count + 1) (xs ++ bit ∷ []) }
-{
-    if bit {
-        write_bit::<u64, Lsb0>(number, BitIdx::new_unchecked(count), true)
-    } else {
-        number
     }
 }

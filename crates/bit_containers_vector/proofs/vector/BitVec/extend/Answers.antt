@@ -15,12 +15,15 @@ loop-item-init g c =
     record {
       can = search (rules, same, c.requires.can);
       finite = search (rules, same, c.requires.finite);
-      gathering = gathering_none reading c.args.self.now;
+      gathering = gathering_none reading c.args.self.now 0;
       short = omega arith;
       most = search (rules, same, c.requires.most);
       few = omega (arith, ap (λ i. size (g.I.Iterator.remaining i)) same);
       room = omega arith;
     }
+
+pub new_unchecked-index-requires : goal.new_unchecked-index-requires
+new_unchecked-index-requires g c = c.loop-item.invariant.short
 
 pub extend_from_digits-requires-clause-most : goal.extend_from_digits-requires-clause-most
 extend_from_digits-requires-clause-most g c =
@@ -61,11 +64,11 @@ loop-item-preserved-then-count-eq64 g c =
     let old = c.args.self.now in
     let mid = c.loop-item.self in
     let new = c.extend_from_digits.new.self in
-    let gathered = c.with_next-gathered.result in
+    let gathered = c.write_bit-gathered.result in
     let items : List Bool = c.loop-item.yielded ++ c.in-Some.item ∷ [] in
     let more : Gathering reading old mid gathered (c.loop-item.count + 1) items =
     gathering_more reading old mid c.loop-item.gathered gathered c.loop-item.count c.loop-item.yielded c.in-Some.item
-    c.with_next-gathered.ensures was.gathering in
+    (rw c.new_unchecked-index.ensures at c.write_bit-gathered.ensures.value) was.gathering in
     let whole = rw c.if-count-eq64.true at more in
     let all = gathering_added reading old mid new gathered 64 items
     (omega (arith, g.met.T.BitRegister.least_bits)) old.fits mid.fits new.fits whole
@@ -83,7 +86,7 @@ loop-item-preserved-then-count-eq64 g c =
     record {
       can = search rules;
       finite = search rules;
-      gathering = gathering_anew reading old new items all;
+      gathering = gathering_anew reading old new gathered items all;
       short = omega arith;
       most = still MAX_BITS was.most;
       few = still _ was.few;
@@ -100,8 +103,8 @@ loop-item-preserved g c =
       finite = search rules;
       gathering =
           gathering_more (read_by g.T.BitRegister g.O.Positions.position) c.args.self.now c.loop-item.self
-          c.loop-item.gathered c.with_next-gathered.result c.loop-item.count c.loop-item.yielded c.in-Some.item
-          c.with_next-gathered.ensures was.gathering;
+          c.loop-item.gathered c.write_bit-gathered.result c.loop-item.count c.loop-item.yielded c.in-Some.item
+          (rw c.new_unchecked-index.ensures at c.write_bit-gathered.ensures.value) was.gathering;
       short = omega (arith, was.short, c.if-count-eq64.false);
       most = omega (arith, was.most, left);
       few = omega (arith, was.few, left);

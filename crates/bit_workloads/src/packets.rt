@@ -4,7 +4,7 @@ ghost use Rattle.std.specs.Prelude.{◌≤◌};
 
 use crate::digest::Digest;
 use crate::random::Random;
-use bit_table::containers::{
+use bit_slice::{
     BitField, BitFieldMut, BitSlice, BitSliceMut, Bits, BitsMut, BitsPieces, Lsb0, Msb0,
 };
 use std::alloc::{AllocError, Global};

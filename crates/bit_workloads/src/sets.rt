@@ -4,7 +4,7 @@ ghost use Rattle.std.specs.Prelude.{◌≤◌};
 
 use crate::digest::Digest;
 use crate::random::Random;
-use bit_table::containers::{BitVec, Bits, BitsIter, BitsMut, Lsb0, Retain};
+use bit_containers::{BitVec, Bits, BitsIter, BitsMut, Lsb0, Retain};
 use std::alloc::{AllocError, Global};
 
 type Set = BitVec<u64, Lsb0>;

@@ -4,10 +4,10 @@ ghost use Rattle.std.specs.Prelude.{◌≤◌};
 
 use crate::digest::Digest;
 use crate::random::Random;
-use bit_table::HiLo;
-use bit_table::containers::{
+use bit_slice::{
     BitOrder, BitSlice, BitSliceMut, BitStore, Bits, BitsCopy, BitsFill, BitsMut, Lsb0, Msb0,
 };
+use bit_table::HiLo;
 use std::alloc::{AllocError, Global};
 
 // Where a window begins.

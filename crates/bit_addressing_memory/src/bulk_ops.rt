@@ -135,8 +135,8 @@ pub const NEAR_WORDS: usize = 256;
 /// From how many bits on blocks begin at a word of the first memory, so that each lies in as few words as it can.
 pub const FROM_BORDER: usize = 256;
 
-/// From how many words on two windows are swapped by three combinations of whole words: of 1,000 bits of `u64` they take 160
-/// ns where copies of 1,024 bits take 120, of 4,000 some 240 and 450.
+/// From how many words on two windows are swapped by three combinations of whole words: of 1,000 bits of `u64` at 13 and 29
+/// they take 160 ns where copies of 1,024 bits take 120, of 1,000,000 bits 24,000 and 99,000.
 pub const SWAPPED_BY_WORDS: usize = 64;
 
 /// From how many narrow words on their ones are counted 64 bits at a time.

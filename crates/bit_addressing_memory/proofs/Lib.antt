@@ -10,6 +10,7 @@ pub mod PartialLemmas
 pub mod StoredLemmas
 pub mod PartsLemmas
 pub mod ShiftLemmas
+pub mod BlockLemmas
 pub mod Changes
 pub mod Gathers
 pub mod Puts

@@ -76,7 +76,7 @@ touched_words b place (suc m) first from last upto start end low some within any
     let tail : (place + m) / b ≡ last = ap (λ p. p / b) (sym at) ∙ div-mul-add last b (upto - 1) (omega arith) in
     omega (arith, head, tail)
 
-le_mul : (m b : ℕ) → 0 < b → m ≤ m * b
+pub le_mul : (m b : ℕ) → 0 < b → m ≤ m * b
 le_mul zero b some = omega arith
 le_mul (suc m) b some = omega (arith, le_mul m b some)
 

@@ -2,12 +2,14 @@
 --
 -- `puts_none`, `puts_one`: no word, and one that was gathered. `puts_up`, `puts_down`: more words, either way.
 -- `puts_all`: all of them. `puts`: what a search needs at both ends of a loop.
-use Rattle.std.proofs.Common.{◌≡◌, ℕ, ◌+◌, ◌-◌, ◌/◌, ◌<◌, ◌≤◌, length, set, refl, sym, ◌∙◌, arith}
-use Rattle.bit_addressing_memory.specs.Memory.{Reading}
+use Rattle.std.proofs.Common.{◌≡◌, ℕ, ◌+◌, ◌-◌, ◌*◌, ◌/◌, ◌<◌, ◌≤◌, List, length, set, refl, sym, ap, ◌∙◌, arith}
+use Rattle.bit_addressing_memory.proofs.Common.{Reading, entry}
 use Rattle.bit_addressing_memory.specs.declared.sweep.Sweep.{Sweep}
 use Rattle.bit_addressing_memory.specs.MoveSteps.{IsGathered, PutsWords}
 use Rattle.bit_addressing_memory.specs.Sweep.{SameButReads, sweep_lender, sweep_words, way_of, writes_of}
+use Rattle.bit_addressing_memory.specs.Moves.{Moves, changed}
 use Rattle.bit_addressing_memory.proofs.Changes.{changed-set}
+use Rattle.bit_addressing_memory.proofs.Gathers.{moved_bit_inside}
 use Rattle.bit_addressing_memory.proofs.ShiftedWords.{word_within}
 use Rattle.bit_addressing_memory.proofs.Sweeps.{first_le_last, swept_none, swept_one, swept_up, swept_down}
 use Rattle.bit_addressing_memory.proofs.WayLemmas.{fresh_down}
@@ -73,5 +75,37 @@ puts_all reading s t source target len low high b is first last had =
     let from : target / reading.bits ≡ low = rw (← is) (sym first) in
     let upto : (target + len - 1) / reading.bits + 1 ≡ high = rw (← is) (sym last) in
     rw (from, upto) had
+
+-- so many words with n bits of the words as they were
+pub puts_moved : {R : Type 0} (reading : Reading R) (s u : Sweep R) (source target len k size place n : ℕ)
+    → size * reading.bits ≡ n → target ≤ k * reading.bits → (k + size) * reading.bits ≤ target + len
+    → place ≡ source + (k * reading.bits - target)
+    → Moves reading (sweep_words s) (sweep_words u) place (k * reading.bits) n
+    → ((number : R → ℕ) (others : List R)
+    → changed number others (sweep_words u) ≤ changed number others (sweep_words s) + size)
+    → writes_of u ≡ writes_of s + size → way_of u ≡ way_of s → sweep_lender u ≡ sweep_lender s
+    → PutsWords reading s u source target len k (k + size)
+puts_moved reading s u source target len k size place n all begins ends from moved few writes way lender =
+    let b = reading.bits in
+    let end : (k + size) * b ≡ k * b + n = omega (arith, all) in
+    record {
+      swept = record {
+        written = λ p low high.
+            let i : ℕ = p - k * b in
+            let at : k * b + i ≡ p = omega arith in
+            let there : place + i ≡ source + (p - target) = omega arith in
+            ap (entry reading (sweep_words u)) (sym at)
+            ∙ moved.there i (omega (arith, end))
+            ∙ ap (entry reading (sweep_words s)) there
+            ∙ sym (moved_bit_inside reading (sweep_words s) source target len p (omega arith) (omega (arith, end)));
+        below = λ p low. moved.below p low;
+        above = λ p high. moved.above p (omega (arith, end));
+        words = moved.words;
+      };
+      writes = omega (arith, writes);
+      few_changed = λ number others. omega (arith, few number others);
+      way = way;
+      lender = lender;
+    }
 
 pub ruleset puts = (puts_all, puts_none, word_within, first_le_last, fresh_down)

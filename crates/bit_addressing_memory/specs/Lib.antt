@@ -1,6 +1,7 @@
 pub mod Prelude
 pub mod Lies
 pub mod Limbs
+pub mod Blocks
 pub mod Memory
 pub mod Place
 pub mod Partial

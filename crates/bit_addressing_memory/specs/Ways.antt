@@ -26,3 +26,13 @@ IsPast Down edge k = k < edge
 abbrev pub passed : Way → ℕ → ℕ → ℕ
 passed Up edge n = edge
 passed Down edge n = n - edge
+
+-- the words from low up to before high lie past the last written one, in the sweep's way
+abbrev pub ArePast : Way → ℕ → ℕ → ℕ → Type 0
+ArePast Up edge low high = edge ≤ low
+ArePast Down edge low high = high ≤ edge
+
+-- the edge lies behind no word but those up to before high, or from low on, in the sweep's way
+abbrev pub IsWithin : Way → ℕ → ℕ → ℕ → Type 0
+IsWithin Up edge low high = edge ≤ high
+IsWithin Down edge low high = low ≤ edge

@@ -52,6 +52,17 @@ impl<R: BitRegister, P: Positions<R>> Straight<R, P> {
         }
     }
 
+    // The same, found anew, so that a compiler knows the direction where this was handed to a function out of line.
+    #[inline(always)]
+    pub(crate) fn again(self) -> Self
+        ensures { result.direction ≡ self.direction }
+    {
+        match Self::find() {
+            Some(straight) => straight,
+            None => self,
+        }
+    }
+
     /// The direction in which the positions go, by `direction_of`: none where they go neither way.
     #[inline(always)]
     pub fn find() -> Option<Self>

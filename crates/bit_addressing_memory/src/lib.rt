@@ -2,6 +2,7 @@
 //! that counts itself.
 #![tactic(auto)]
 
+mod blocks;
 mod bulk_ops;
 mod copies;
 mod direction;

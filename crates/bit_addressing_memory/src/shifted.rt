@@ -11,6 +11,8 @@ ghost use Rattle.bit_addressing_memory.specs.MoveSteps.{BeginsWith, IsGathered, 
 ghost use Rattle.bit_addressing_memory.specs.Sweep.{IsFresh, SameButReads, edge_of, reads_of, sweep_lender, sweep_words, way_of};
 ghost use Rattle.bit_addressing_memory.specs.Ways.{IsPast, edge_after, way_for};
 
+use crate::blocks::block_words;
+use crate::bulk_ops::MOVED_BY_BLOCKS;
 use crate::direction::Straight;
 use crate::masking::stored;
 use crate::shift::{joined, raised};
@@ -161,7 +163,8 @@ pub(crate) fn put_joined_up<R: BitRegister, O: BitOrder<R>>(
     ensures edge { edge_of sweep.new ≤ high }
     ensures reads { reads_of sweep.new + 3 * low ≤ reads_of sweep.old + 3 * high }
 {
-    'up: for k in low..high {
+    let done = put_blocks_up::<R, O>(sweep, straight, low, high, word, by, source, target, len);
+    'up: for k in low + done..high {
         let whole = cut::<R, O>(sweep, straight, word + (k - low), by);
         sweep.put(k, whole);
     }
@@ -194,10 +197,88 @@ pub(crate) fn put_joined_down<R: BitRegister, O: BitOrder<R>>(
     ensures edge { low ≤ edge_of sweep.new }
     ensures reads { reads_of sweep.new + 3 * low ≤ reads_of sweep.old + 3 * high }
 {
-    'down: for k in (low..high).rev() {
+    let done = put_blocks_down::<R, O>(sweep, straight, low, high, word, by, source, target, len);
+    'down: for k in (low..high - done).rev() {
         let whole = cut::<R, O>(sweep, straight, word + (k - low), by);
         sweep.put(k, whole);
     }
+}
+
+// Puts the first of these words by blocks of 64 bits, if there are many and words are narrower, as far as there are whole
+// blocks, and returns how many.
+#[inline(always)]
+fn put_blocks_up<R: BitRegister, O: BitOrder<R>>(
+    sweep: &mut Sweep<'_, R>,
+    straight: Straight<R, O>,
+    low: usize,
+    high: usize,
+    word: usize,
+    by: usize,
+    source: usize,
+    target: usize,
+    len: usize,
+) -> usize
+    requires way { way_of sweep.old ≡ Up }
+    requires edge { edge_of sweep.old ≤ low }
+    requires order { low ≤ high }
+    requires ahead { target ≤ source }
+    requires begins { target ≤ low * R.BITS }
+    requires ends { high * R.BITS ≤ target + len }
+    requires index { by < R.BITS }
+    requires first { word * R.BITS + by ≡ source + (low * R.BITS - target) }
+    requires source_lies { Lies R.BITS (sweep_words sweep.old) source len }
+    requires target_lies { Lies R.BITS (sweep_words sweep.old) target len }
+    ensures most { low + result ≤ high }
+    ensures put { PutsWords (read_by R.BitRegister O.position) sweep.old sweep.new source target len low (low + result) }
+    ensures edge { edge_of sweep.new ≤ low + result }
+    ensures reads { reads_of sweep.new ≤ reads_of sweep.old + 3 * result }
+{
+    if R::BITS >= 64 || high - low < MOVED_BY_BLOCKS {
+        return 0;
+    }
+    let size = block_words::<R>();
+    let count = (high - low) / size as usize;
+    sweep.move_blocks::<O>(straight, word, by, low, count, size);
+    count * size as usize
+}
+
+// The same of the last of them.
+#[inline(always)]
+fn put_blocks_down<R: BitRegister, O: BitOrder<R>>(
+    sweep: &mut Sweep<'_, R>,
+    straight: Straight<R, O>,
+    low: usize,
+    high: usize,
+    word: usize,
+    by: usize,
+    source: usize,
+    target: usize,
+    len: usize,
+) -> usize
+    requires way { way_of sweep.old ≡ Down }
+    requires edge { high ≤ edge_of sweep.old }
+    requires order { low ≤ high }
+    requires behind { source ≤ target }
+    requires begins { target ≤ low * R.BITS }
+    requires ends { high * R.BITS ≤ target + len }
+    requires index { by < R.BITS }
+    requires first { word * R.BITS + by ≡ source + (low * R.BITS - target) }
+    requires source_lies { Lies R.BITS (sweep_words sweep.old) source len }
+    requires target_lies { Lies R.BITS (sweep_words sweep.old) target len }
+    ensures most { low + result ≤ high }
+    ensures put { PutsWords (read_by R.BitRegister O.position) sweep.old sweep.new source target len (high - result) high }
+    ensures edge { high - result ≤ edge_of sweep.new }
+    ensures reads { reads_of sweep.new ≤ reads_of sweep.old + 3 * result }
+{
+    if R::BITS >= 64 || high - low < MOVED_BY_BLOCKS {
+        return 0;
+    }
+    let size = block_words::<R>();
+    let count = (high - low) / size as usize;
+    let done = count * size as usize;
+    let rest = high - low - done;
+    sweep.move_blocks::<O>(straight, word + rest, by, low + rest, count, size);
+    done
 }
 
 // Puts one word, at an edge of the target.

@@ -3,11 +3,15 @@
 //!
 //! While a sweep is there, its words are read and written through it alone.
 
-ghost use Rattle.std.specs.Prelude.{◌≡◌, ◌≢◌, ℕ, ◌+◌, ◌-◌, ◌^◌, ◌<◌, ◌≤◌, length, min, slice_index_or, slice_set};
+ghost use Rattle.std.specs.Prelude.{◌≡◌, ◌≢◌, ℕ, List, ◌+◌, ◌-◌, ◌*◌, ◌^◌, ◌<◌, ◌≤◌, length, min, slice_index_or, slice_set};
 ghost use Rattle.bit_addressing_memory.specs.Prelude.{Lies, read_by, touched};
 ghost use Rattle.bit_addressing_memory.specs.Limbs.{HasEntries};
-ghost use Rattle.bit_addressing_memory.specs.Ways.{IsPast, edge_after, passed, way_for};
+ghost use Rattle.bit_addressing_memory.specs.Moves.{Moves, changed};
+ghost use Rattle.bit_addressing_memory.specs.declared.sweep.Way.TheVariants.{Up, Down};
+ghost use Rattle.bit_addressing_memory.specs.Ways.{ArePast, IsPast, IsWithin, edge_after, passed, way_for};
 
+use crate::blocks::move_blocks;
+use crate::direction::Straight;
 use crate::limbs::bits_in;
 use bit_addressing_order::mem::bits_of;
 use bit_addressing_order::{BitOrder, BitRegister};
@@ -147,7 +151,52 @@ impl<'a, R: Copy> Sweep<'a, R> {
 }
 
 impl<'a, R: BitRegister> Sweep<'a, R> {
-    ghost use Rattle.bit_addressing_memory.specs.Sweep.{SameButReads, reads_of, sweep_lender, sweep_words};
+    ghost use Rattle.bit_addressing_memory.specs.Sweep.{SameButReads, edge_of, reads_of, sweep_lender, sweep_words};
+    ghost use Rattle.bit_addressing_memory.specs.Sweep.{way_of, writes_of};
+
+    // Moves bits by blocks, those from the index `by` of the word `from` on to the word `low` and those behind it. Each word
+    // that is read or written is counted. Out of line, so that the counts stay in registers where words are put one by one.
+    #[inline(never)]
+    pub(crate) fn move_blocks<O: BitOrder<R>>(
+        &mut self,
+        straight: Straight<R, O>,
+        from: usize,
+        by: usize,
+        low: usize,
+        count: usize,
+        size: u8,
+    )
+        requires size { size * R.BITS ≡ 64 }
+        requires ahead { way_of self.old ≡ Up → low * R.BITS ≤ from * R.BITS + by }
+        requires behind { way_of self.old ≡ Down → from * R.BITS + by ≤ low * R.BITS }
+        requires index { by < R.BITS }
+        requires source { from * R.BITS + by + 64 * count ≤ length (sweep_words self.old) * R.BITS }
+        requires within { low + count * size ≤ length (sweep_words self.old) }
+        requires past { ArePast (way_of self.old) (edge_of self.old) low (low + count * size) }
+        ensures moved { Moves (read_by R.BitRegister O.position) (sweep_words self.old) (sweep_words self.new)
+            (from * R.BITS + by) (low * R.BITS) (64 * count) }
+        ensures few { (number : R → ℕ) → (others : List R) → changed number others (sweep_words self.new)
+            ≤ changed number others (sweep_words self.old) + count * size }
+        ensures edge { IsWithin (way_of self.old) (edge_of self.new) low (low + count * size) }
+        ensures writes { writes_of self.new ≡ writes_of self.old + count * size }
+        ensures reads { reads_of self.new ≤ reads_of self.old + 2 * (count * size) }
+        ensures way { way_of self.new ≡ way_of self.old }
+        ensures lender { sweep_lender self.new ≡ sweep_lender self.old }
+    {
+        let puts = count * size as usize;
+        let reads = if by == 0 {
+            puts
+        } else {
+            puts.saturating_add(count)
+        };
+        self.edge = match self.way {
+            Way::Up => low + puts,
+            Way::Down => low,
+        };
+        self.writes += puts;
+        self.reads = self.reads.saturating_add(reads as u64);
+        move_blocks::<R, O>(straight, self.words, self.way, from, by, low, count, size);
+    }
 
     // The `count` bits from a place on, 1 to 64, in any lawful order, as one number, as `bits_in` reads them. A read is
     // counted for each word that they touch, or for each half of a word of 128 bits.

@@ -1,11 +1,16 @@
 -- The digits of chunks moved, cut, and made of words.
-use Rattle.std.proofs.Common.{◌≡◌, ℕ, ◌+◌, ◌-◌, ◌*◌, ◌/◌, ◌%◌, ◌^◌, ◌==◌, ◌<◌, ◌≤◌, false, ap, ◌∙◌, arith}
-use Rattle.std.proofs.lemmas.Nat.Bits.{bit_at_above}
-use Rattle.std.specs.Int.{bit_at}
+use Rattle.std.proofs.Common.{◌≡◌, ℕ, ◌+◌, ◌-◌, ◌*◌, ◌/◌, ◌%◌, ◌^◌, ◌==◌, ◌<◌, ◌≤◌, true, false, bit_and, bit_or}
+use Rattle.std.proofs.Common.{inl, inr, refl, sym, ap, ◌∙◌, arith}
+use Rattle.std.proofs.lemmas.Bool.{cases_lt}
+use Rattle.std.proofs.lemmas.Nat.Bits.{bit_at_above, bit_at_and, bit_at_or, bit_at_not, bit_at-lt, bit_at-zero}
+use Rattle.std.specs.Int.{bit_at, bit_not, w64}
+use Rattle.bit_addressing_memory.specs.Bits.{digit_at}
 use Rattle.bit_addressing_memory.specs.declared.direction.Direction.{Direction}
 use Rattle.bit_addressing_memory.specs.declared.direction.Direction.TheVariants.{Ascending, Descending}
 use Rattle.bit_addressing_memory.proofs.ShiftLemmas.{bit_at_shr, bit_at_cut, bit_at_shl_low, bit_at_shl_high}
-use Rattle.bit_slice_chunks.specs.Chunk.{chunk_bit, IsLowered, IsRaised, IsCut, IsRest, IsPart, IsPlaced}
+use Rattle.bit_addressing_memory.specs.Straight.{straight}
+use Rattle.bit_addressing_memory.proofs.LimbLemmas.{no_digit}
+use Rattle.bit_slice_chunks.specs.Chunk.{chunk_bit, IsLowered, IsRaised, IsCut, IsRest, IsPart, IsPatched, IsPlaced}
 
 -- ---- digits as truth values, at a place that is known by an equation
 
@@ -81,6 +86,60 @@ rest_is direction n from mid r had then = record {
   above = λ i high low.
       let back : i - from + from ≡ i = omega arith in
       then.above i high low ∙ had.inside (i - from) (omega arith) ∙ ap (chunk_bit direction n) back;
+}
+
+straight_within : (direction : Direction) (i : ℕ) → i < 64 → straight 64 direction i < 64
+straight_within Ascending i small = small
+straight_within Descending i small = omega arith
+
+-- a digit of `n & !m | v`, where m has a 1 and where it has none
+hit : (n m v p : ℕ) → m < 2 ^ 64 → p < 64 → digit_at m p ≡ true
+    → digit_at (bit_or (bit_and n (bit_not w64 m)) v) p ≡ digit_at v p
+hit n m v p fits small one =
+    let is : bit_at m p ≡ 1 = grind (arith, one) in
+    let other = bit_at_not w64 m p fits small in
+    let kept = bit_at_and n (bit_not w64 m) p in
+    ap (λ d. d == 1) (omega (arith, is, other, kept, bit_at_or (bit_and n (bit_not w64 m)) v p, bit_at-lt v p))
+
+missed : (n m v p : ℕ) → m < 2 ^ 64 → p < 64 → digit_at m p ≡ false → digit_at v p ≡ false
+    → digit_at (bit_or (bit_and n (bit_not w64 m)) v) p ≡ digit_at n p
+missed n m v p fits small none empty =
+    let is = no_digit m p none in
+    let nothing = no_digit v p empty in
+    let other = bit_at_not w64 m p fits small in
+    let kept = bit_at_and n (bit_not w64 m) p in
+    ap (λ d. d == 1)
+    (omega (arith, is, nothing, other, kept, bit_at_or (bit_and n (bit_not w64 m)) v p, bit_at-lt n p))
+
+each_one : (direction : Direction) (i : ℕ) → i < 64 → chunk_bit direction (bit_not w64 0) i ≡ true
+each_one direction i small =
+    let p = straight 64 direction i in
+    ap (λ d. d == 1) (bit_at_not w64 0 p (omega arith) (straight_within direction i small) ∙ ap (λ d. 1 - d) (bit_at-zero p))
+
+-- put over those that are there
+pub patched_is : (direction : Direction) (n from count other ones mask few bits : ℕ) → from + count ≤ 64
+    → mask < 2 ^ 64 → IsCut direction (bit_not w64 0) count ones → IsRaised direction ones from mask
+    → IsCut direction other count few → IsRaised direction few from bits
+    → IsPatched direction n from count other (bit_or (bit_and n (bit_not w64 mask)) bits)
+patched_is direction n from count other ones mask few bits within fits all there own put = record {
+  inside = λ i low.
+      let back : from + i - from ≡ i = omega arith in
+      let one : chunk_bit direction mask (from + i) ≡ true =
+      there.above (from + i) (omega arith) (omega arith)
+      ∙ ap (chunk_bit direction ones) back
+      ∙ all.inside i low
+      ∙ each_one direction i (omega arith) in
+      hit n mask bits (straight 64 direction (from + i)) fits (straight_within direction (from + i) (omega arith)) one
+      ∙ put.above (from + i) (omega arith) (omega arith)
+      ∙ ap (chunk_bit direction few) back
+      ∙ own.inside i low;
+  below = λ i low.
+      missed n mask bits (straight 64 direction i) fits (straight_within direction i (omega arith)) (there.below i low)
+      (put.below i low);
+  above = λ i high small.
+      missed n mask bits (straight 64 direction i) fits (straight_within direction i small)
+      (there.above i (omega arith) small ∙ all.past (i - from) (omega arith) (omega arith))
+      (put.above i (omega arith) small ∙ own.past (i - from) (omega arith) (omega arith));
 }
 
 -- ---- a chunk of a word

@@ -1,6 +1,6 @@
 -- Chunks of 64 bits: of whole words, and of whole words and one more.
-use Rattle.bit_addressing_memory.proofs.Common.{◌≡◌, ℕ, ◌+◌, ◌-◌, ◌*◌, ◌/◌, ◌%◌, ◌^◌, ◌<◌, ◌≤◌, Bool, List, length}
-use Rattle.bit_addressing_memory.proofs.Common.{get_or, set, bit_or, refl, ap, ◌∙◌, inl, inr, arith, cases_lt}
+use Rattle.bit_addressing_memory.proofs.Common.{◌≡◌, ◌⊎◌, ℕ, ◌+◌, ◌-◌, ◌*◌, ◌/◌, ◌%◌, ◌^◌, ◌<◌, ◌≤◌, Bool, List, length}
+use Rattle.bit_addressing_memory.proofs.Common.{get_or, set, bit_or, refl, sym, ap, ◌∙◌, inl, inr, arith, cases_lt}
 use Rattle.bit_addressing_memory.proofs.Common.{cases_eq, Reading, entry, reading_in, Overwrites, IsStored}
 use Rattle.std.proofs.Math.Nat.{mul-le-mul_right}
 use Rattle.std.proofs.lemmas.List.{get_or_default}
@@ -12,7 +12,7 @@ use Rattle.bit_addressing_memory.specs.Straight.{straight, Goes}
 use Rattle.bit_addressing_memory.proofs.OverwriteLemmas.{overwrites_join}
 use Rattle.bit_addressing_memory.proofs.PlaceLemmas.{first_word}
 use Rattle.bit_addressing_memory.proofs.LimbLemmas.{or_left, or_right}
-use Rattle.bit_slice_chunks.specs.Chunk.{chunk_bit, IsChunk, ReadTo, IsCut, IsLowered, IsRaised, IsPart}
+use Rattle.bit_slice_chunks.specs.Chunk.{chunk_bit, IsChunk, ReadTo, IsCut, IsLowered, IsPatched, IsRaised, IsPart}
 use Rattle.bit_slice_chunks.specs.Chunk.{IsPlaced}
 use Rattle.bit_slice_chunks.proofs.TransferLemmas.{part_entry}
 use Rattle.bit_slice_chunks.proofs.TransferLemmas.{less_words}
@@ -89,6 +89,37 @@ chunk_cut reading words place n count direction chunk r few had cut = record {
   past = cut.past;
 }
 
+-- those from an index on
+pub chunk_inside : {R : Type 0} (reading : Reading R) (words : List R) (place from count : ℕ) (direction : Direction)
+    (chunk moved r : ℕ) → from + count ≤ 64 → IsChunk reading words place 64 direction chunk
+    → IsLowered direction chunk from moved → IsCut direction moved count r
+    → IsChunk reading words (place + from) count direction r
+chunk_inside reading words place from count direction chunk moved r within had lower cut = record {
+  inside = λ i low.
+      let here : place + (i + from) ≡ place + from + i = omega arith in
+      cut.inside i low
+      ∙ lower.inside i (omega arith)
+      ∙ had.inside (i + from) (omega arith)
+      ∙ ap (entry reading words) here;
+  past = cut.past;
+}
+
+-- and with them the memory has as many
+pub block_within : (b bits first words : ℕ) → IsRegisterSize b → b ≤ 64 → bits ≡ b → 64 / bits ≤ words - first
+    → first < words
+    → first * b + 64 ≤ words * b
+block_within b bits first words size most is enough low =
+    let row : (first + 64 / bits) * b ≤ words * b = mul-le-mul_right b (omega arith) in
+    omega (arith, words_of_64 b bits size most is)
+
+-- the words that make the 64 bits in which a place lies
+pub block_begins : (b bits place : ℕ) → IsRegisterSize b → b ≤ 64 → bits ≡ b
+    → place / 64 * (64 / bits) * b + place % 64 ≡ place
+block_begins b bits place size most is =
+    let row : place / 64 * (64 / bits * b) ≡ place / 64 * 64 =
+    ap (λ n. place / 64 * n) (words_of_64 b bits size most is) in
+    omega arith
+
 -- all of them
 pub read_whole : {R : Type 0} (reading : Reading R) (words : List R) (place end : ℕ) (direction : Direction)
     (chunk : ℕ) → end ≡ place + 64 → ReadTo reading words place end direction chunk
@@ -138,6 +169,42 @@ pub overwrites_of : {R : Type 0} (reading : Reading R) (before after : List R) (
     (now : ℕ → Bool) → place ≡ at → n ≡ count → Overwrites reading before after place n now
     → Overwrites reading before after at count now
 overwrites_of reading before after place n at count now same_place same_count is = rw (← same_place, ← same_count) is
+
+-- a part of a chunk's words
+pub patched_chunk : {R : Type 0} (reading : Reading R) (before after : List R) (place from count : ℕ)
+    (direction : Direction) (chunk other r : ℕ) → from + count ≤ 64 → IsChunk reading before place 64 direction chunk
+    → IsPatched direction chunk from count other r
+    → Overwrites reading before after place 64 (chunk_bit direction r)
+    → Overwrites reading before after (place + from) count (chunk_bit direction other)
+patched_chunk reading before after place from count direction chunk other r within had is wrote =
+    let kept : (p : ℕ) → place ≤ p → p < place + 64 → (p - place < from) ⊎ (from + count ≤ p - place)
+    → entry reading after p ≡ entry reading before p =
+    λ p over under beside.
+    let i : ℕ = p - place in
+    let here : place + i ≡ p = omega arith in
+    let same : chunk_bit direction r i ≡ chunk_bit direction chunk i = elim beside [
+      | inl low ↦ is.below i low
+      | inr high ↦ is.above i high (omega arith)
+    ] in
+    ap (entry reading after) (sym here)
+    ∙ wrote.there i (omega arith)
+    ∙ same
+    ∙ had.inside i (omega arith)
+    ∙ ap (entry reading before) here in
+    record {
+      there = λ k small.
+          let here : place + from + k ≡ place + (from + k) = omega arith in
+          ap (entry reading after) here ∙ wrote.there (from + k) (omega arith) ∙ is.inside k small;
+      below = λ p low. elim (cases_lt p place) [
+        | inl under ↦ wrote.below p under
+        | inr over ↦ kept p over (omega arith) (inl (omega arith))
+      ];
+      above = λ p high. elim (cases_lt p (place + 64)) [
+        | inl under ↦ kept p (omega arith) under (inr (omega arith))
+        | inr over ↦ wrote.above p over
+      ];
+      words = wrote.words;
+    }
 
 -- one whole word more
 pub scattered_more : {R : Type 0} (b : ℕ) (number : R → ℕ) (at : ℕ → ℕ) (direction : Direction) → Goes b at direction

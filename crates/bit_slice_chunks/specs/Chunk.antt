@@ -43,6 +43,12 @@ pub record IsRest (direction : Direction) (chunk from result : ℕ) : Type 0 whe
   pub below : (i : ℕ) → i < from → chunk_bit direction result i ≡ false
   pub above : (i : ℕ) → from ≤ i → i < 64 → chunk_bit direction result i ≡ chunk_bit direction chunk i
 
+-- n bits of a chunk, from bit `from` on, are the first of another, and the others are as they were
+pub record IsPatched (direction : Direction) (chunk from n other result : ℕ) : Type 0 where
+  pub inside : (i : ℕ) → i < n → chunk_bit direction result (from + i) ≡ chunk_bit direction other i
+  pub below : (i : ℕ) → i < from → chunk_bit direction result i ≡ chunk_bit direction chunk i
+  pub above : (i : ℕ) → from + n ≤ i → i < 64 → chunk_bit direction result i ≡ chunk_bit direction chunk i
+
 -- the bits of a chunk in a direction are those of another in a direction of its own
 abbrev pub IsFaced : Direction → Direction → ℕ → ℕ → Type 0
 IsFaced from to chunk result = (i : ℕ) → i < 64 → chunk_bit to result i ≡ chunk_bit from chunk i

@@ -3,7 +3,7 @@
 ghost use Rattle.std.specs.Prelude.{◌≡◌, ℕ, ◌+◌, ◌-◌, ◌*◌, ◌/◌, ◌%◌, ◌^◌, ◌<◌, ◌≤◌, false};
 ghost use Rattle.bit_addressing_memory.specs.declared.direction.Direction.{Direction};
 ghost use Rattle.bit_slice_chunks.specs.Chunk.{chunk_bit, word_bit, IsLowered, IsRaised, IsPart, IsPlaced, IsCut, IsRest};
-ghost use Rattle.bit_slice_chunks.specs.Chunk.{IsFaced, IsTurned};
+ghost use Rattle.bit_slice_chunks.specs.Chunk.{IsFaced, IsPatched, IsTurned};
 
 use crate::reversal::reversed;
 use bit_addressing_memory::{BitRegister, Direction};
@@ -54,6 +54,19 @@ pub fn last_bits(direction: Direction, chunk: u64, from: u8) -> u64
     ensures { IsRest direction chunk from result }
 {
     raised(direction, lowered(direction, chunk, from), from)
+}
+
+/// The chunk with `count` of its bits, from bit `from` on, made the first bits of another.
+#[inline(always)]
+#[tactic(auto, using(crate::proofs::ChunkLemmas::patched_is))]
+pub(crate) fn patched(direction: Direction, chunk: u64, from: u8, count: u8, other: u64) -> u64
+    requires some { 0 < count }
+    requires within { from + count ≤ 64 }
+    ensures { IsPatched direction chunk from count other result }
+{
+    let mask = raised(direction, first_bits(direction, !0, count), from);
+    let bits = raised(direction, first_bits(direction, other, count), from);
+    chunk & !mask | bits
 }
 
 /// The chunk of the direction `to` that has the bits of a chunk of the direction `from`, in the same places.

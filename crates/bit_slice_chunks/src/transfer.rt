@@ -13,7 +13,7 @@ use bit_addressing_memory::{BitEnd, BitIdx, BitOrder, BitRegister, Straight, sto
 // Whether 64 bits from a place on are read at once: words have up to 64 bits, and there is one behind those that they fill.
 #[inline(always)]
 #[tactic(auto, using(crate::proofs::WholeLemmas::chunk_within))]
-fn has_chunk<R: BitRegister>(words: &[R], place: usize) -> bool
+pub(crate) fn has_chunk<R: BitRegister>(words: &[R], place: usize) -> bool
     ensures within { result ≡ true → place + 64 ≤ length words.now * R.BITS }
     ensures ends { result ≡ true → place + 64 < 2 ^ 64 }
 {

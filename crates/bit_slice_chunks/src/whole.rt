@@ -5,7 +5,7 @@ ghost use Rattle.std.specs.Prelude.{◌≡◌, ◌+◌, ◌*◌, ◌<◌, ◌≤
 ghost use Rattle.bit_addressing_memory.specs.Prelude.{Lies, read_by, Overwrites};
 ghost use Rattle.bit_slice_chunks.specs.Chunk.{chunk_bit, IsChunk};
 
-use crate::chunk::{lowered, part, placed, raised};
+use crate::chunk::{first_bits, lowered, part, patched, placed, raised};
 use crate::transfer::read_counted;
 use bit_addressing_memory::mem::bits_of;
 use bit_addressing_memory::{BitOrder, BitRegister, Straight};
@@ -75,7 +75,7 @@ pub(crate) fn gathered<R: BitRegister, O: BitOrder<R>>(
     first: usize,
 ) -> u64
     requires narrow { R.BITS ≤ 64 }
-    requires lies { Lies R.BITS words.now (first * R.BITS) 64 }
+    requires lies { first * R.BITS + 64 ≤ length words.now * R.BITS }
     ensures { IsChunk (read_by R.BitRegister O.position) words.now (first * R.BITS) 64 straight.direction result }
 {
     let bits = bits_of::<R>();
@@ -96,16 +96,62 @@ pub(crate) fn scattered<R: BitRegister, O: BitOrder<R>>(
     chunk: u64,
 )
     requires narrow { R.BITS ≤ 64 }
-    requires lies { Lies R.BITS words.old (first * R.BITS) 64 }
+    requires lies { first * R.BITS + 64 ≤ length words.old * R.BITS }
     ensures { Overwrites (read_by R.BitRegister O.position) words.old words.new (first * R.BITS) 64
         (chunk_bit straight.direction chunk) }
 {
     let bits = bits_of::<R>();
+    // As many words as a `usize` counts, and so each of their numbers is one.
+    let _words = words.len();
     for k in 0..64 / bits {
         let rest = lowered(straight.direction, chunk, (k * bits) as u8);
         let word = placed::<R>(straight.direction, rest, 0);
         replace(words, first + k, word);
     }
+}
+
+/// Up to 64 bits from an index of the words from one on, of those that make a chunk, as `read_bits` has them.
+#[inline(always)]
+#[tactic(auto, using(crate::proofs::WholeLemmas::chunk_inside))]
+pub(crate) fn read_within<R: BitRegister, O: BitOrder<R>>(
+    straight: Straight<R, O>,
+    words: &[R],
+    first: usize,
+    from: u8,
+    count: u8,
+) -> u64
+    requires narrow { R.BITS ≤ 64 }
+    requires some { 0 < count }
+    requires within { from + count ≤ 64 }
+    requires lies { first * R.BITS + 64 ≤ length words.now * R.BITS }
+    ensures { IsChunk (read_by R.BitRegister O.position) words.now (first * R.BITS + from) count straight.direction result }
+{
+    let all = gathered::<R, O>(straight, words, first);
+    let moved = lowered(straight.direction, all, from);
+    first_bits(straight.direction, moved, count)
+}
+
+/// Makes these bits those of a chunk, as `write_bits` does: all words that make a chunk are put.
+#[inline(always)]
+#[tactic(auto, using(crate::proofs::WholeLemmas::patched_chunk))]
+pub(crate) fn write_within<R: BitRegister, O: BitOrder<R>>(
+    straight: Straight<R, O>,
+    words: &mut [R],
+    first: usize,
+    from: u8,
+    count: u8,
+    chunk: u64,
+)
+    requires narrow { R.BITS ≤ 64 }
+    requires some { 0 < count }
+    requires within { from + count ≤ 64 }
+    requires lies { first * R.BITS + 64 ≤ length words.old * R.BITS }
+    ensures { Overwrites (read_by R.BitRegister O.position) words.old words.new (first * R.BITS + from) count
+        (chunk_bit straight.direction chunk) }
+{
+    let all = gathered::<R, O>(straight, words, first);
+    let now = patched(straight.direction, all, from, count, chunk);
+    scattered::<R, O>(straight, words, first, now);
 }
 
 // Puts a word.

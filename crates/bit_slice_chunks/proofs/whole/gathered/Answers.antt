@@ -13,7 +13,7 @@ loop-k-preserved g c =
     let some : 0 < b = omega (arith, g.met.R.BitRegister.least_bits) in
     let within : first + k < length c.args.words.now =
     word_of_chunk b bits first k (length c.args.words.now) size c.requires.narrow c.bits_of-bits.ensures some
-    (omega arith) c.requires.lies.within in
+    (omega arith) c.requires.lies in
     let row : k * bits ≡ k * b = ap (λ n. k * n) c.bits_of-bits.ensures in
     read_more b g.R.BitRegister.number g.O.Positions.position c.args.straight.direction c.args.straight.goes c.args.words.now
     (first * b) (first + k) (k * bits) c.loop-k.chunk c.part-next.result c.raised-chunk.result _ _

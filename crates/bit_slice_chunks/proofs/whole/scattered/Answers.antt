@@ -3,13 +3,21 @@ use Rattle.bit_slice_chunks.specs.Chunk.{chunk_bit}
 use Rattle.bit_slice_chunks.proofs.WholeLemmas.{words_of_64, word_of_chunk, word_begins, scattered_more, overwrites_of}
 use Rattle.bit_slice_chunks.proofs.whole.scattered.Goals as goal
 
+pub overflow_add-first : goal.overflow_add-first
+overflow_add-first g c =
+    let some : 0 < g.R.BitRegister.BITS = omega (arith, g.met.R.BitRegister.least_bits) in
+    let within =
+    word_of_chunk g.R.BitRegister.BITS c.bits_of-bits.result c.args.first c.loop-k.k (length c.args.words.now)
+    g.met.R.BitRegister.size c.requires.narrow c.bits_of-bits.ensures some (omega arith) c.requires.lies in
+    omega (arith, within)
+
 pub replace-requires : goal.replace-requires
 replace-requires g c =
     let size = g.met.R.BitRegister.size in
     let some : 0 < g.R.BitRegister.BITS = omega (arith, g.met.R.BitRegister.least_bits) in
     let within =
     word_of_chunk g.R.BitRegister.BITS c.bits_of-bits.result c.args.first c.loop-k.k (length c.args.words.now) size
-    c.requires.narrow c.bits_of-bits.ensures some (omega arith) c.requires.lies.within in
+    c.requires.narrow c.bits_of-bits.ensures some (omega arith) c.requires.lies in
     omega (arith, c.loop-k.invariant.words)
 
 pub loop-k-preserved : goal.loop-k-preserved
@@ -23,7 +31,7 @@ loop-k-preserved g c =
     let low : k < 64 / bits = omega arith in
     let inside =
     word_of_chunk b bits first k (length c.args.words.now) size c.requires.narrow c.bits_of-bits.ensures some
-    low c.requires.lies.within in
+    low c.requires.lies in
     let within : first + k < length c.loop-k.words = omega (arith, c.loop-k.invariant.words) in
     let row : k * bits ≡ k * b = ap (λ n. k * n) c.bits_of-bits.ensures in
     let fits = word_begins b bits k size c.requires.narrow c.bits_of-bits.ensures low in

@@ -1,6 +1,7 @@
 pub mod AnyOrderLemmas
 pub mod ChunkLemmas
 pub mod CombineLemmas
+pub mod DigitsLemmas
 mod ExchangeLemmas
 pub mod KnownRows
 pub mod TransferLemmas

@@ -1,10 +1,12 @@
 -- Chunks: numbers of 64 digits, their bits counted up from the lowest digit or down from the highest.
 --
--- A bit: `chunk_bit`. What a chunk of a memory is: `IsChunk`. The steps: the other records.
-use Rattle.std.specs.Prelude.{ℕ, ◌+◌, ◌-◌, ◌<◌, ◌≤◌, ◌≡◌, ◌≢◌, Bool, false, List}
+-- A bit: `chunk_bit`. What a chunk of a memory is: `IsChunk`. Numbers by their digits: `digits_in`, `HoldsDigits`,
+-- `ReadsDigits`. The steps: the other records.
+use Rattle.std.specs.Prelude.{ℕ, ◌+◌, ◌-◌, ◌/◌, ◌^◌, ◌<◌, ◌≤◌, ◌≡◌, ◌≢◌, Bool, false, List}
 use Rattle.bit_addressing_memory.specs.Memory.{Reading, entry}
 use Rattle.bit_addressing_memory.specs.Bits.{digit_at}
 use Rattle.bit_addressing_memory.specs.declared.direction.Direction.{Direction}
+use Rattle.bit_addressing_memory.specs.declared.direction.Direction.TheVariants.{Ascending, Descending}
 use Rattle.bit_addressing_memory.specs.Straight.{straight}
 
 -- the digit of a word of b bits at an index, counted in a direction
@@ -20,6 +22,21 @@ pub record IsChunk {R : Type 0} (reading : Reading R) (words : List R) (place n 
     (chunk : ℕ) : Type 0 where
   pub inside : (i : ℕ) → i < n → chunk_bit direction chunk i ≡ entry reading words (place + i)
   pub past : (i : ℕ) → n ≤ i → i < 64 → chunk_bit direction chunk i ≡ false
+
+-- the number whose n digits a chunk has, and zeros behind them
+abbrev pub digits_in : Direction → ℕ → ℕ → ℕ
+digits_in Ascending n chunk = chunk
+digits_in Descending n chunk = chunk / 2 ^ (64 - n)
+
+-- the first n bits of a chunk are the lowest digits of a number
+abbrev pub HoldsDigits : Direction → ℕ → ℕ → ℕ → Type 0
+HoldsDigits direction d n chunk = (i : ℕ) → i < n → chunk_bit direction chunk i ≡ digit_at d (straight n direction i)
+
+-- a number has the n entries of a memory from a place on as its digits, and no others
+pub record ReadsDigits {R : Type 0} (reading : Reading R) (words : List R) (place n : ℕ) (direction : Direction)
+    (d : ℕ) : Type 0 where
+  pub digits : (i : ℕ) → i < n → digit_at d (straight n direction i) ≡ entry reading words (place + i)
+  pub small : d < 2 ^ n
 
 -- the chunk has the entries of a memory from a place on that lie below an end, and zeros behind them
 pub record ReadTo {R : Type 0} (reading : Reading R) (words : List R) (place end : ℕ) (direction : Direction)

@@ -3,12 +3,13 @@
 
 ghost use Rattle.std.specs.Prelude.{◌≡◌, ◌+◌, ◌-◌, ◌*◌, ◌^◌, ◌<◌, ◌≤◌, length, true};
 ghost use Rattle.bit_addressing_memory.specs.Prelude.{Lies, read_by, touched, Overwrites};
-ghost use Rattle.bit_slice_chunks.specs.Chunk.{chunk_bit, IsChunk};
+ghost use Rattle.bit_addressing_memory.specs.Straight.{straight};
+ghost use Rattle.bit_slice_chunks.specs.Chunk.{chunk_bit, IsChunk, ReadsDigits};
 
 use crate::chunk::{first_bits, lowered, part, placed, raised};
 use crate::whole::read_chunk;
 use bit_addressing_memory::mem::bits_of;
-use bit_addressing_memory::{BitEnd, BitIdx, BitOrder, BitRegister, Straight, store_in};
+use bit_addressing_memory::{BitEnd, BitIdx, BitOrder, BitRegister, Direction, Straight, store_in};
 
 // Whether 64 bits from a place on are read at once: words have up to 64 bits, and there is one behind those that they fill.
 #[inline(always)]
@@ -96,6 +97,42 @@ pub fn read_part<R: BitRegister, O: BitOrder<R>>(
     )
 }
 
+/// The number whose digits the `count` bits of one word of a memory are from an index on, 1 to 64: `digits_of` what
+/// `read_part` returns, by one shift.
+#[inline(always)]
+pub fn read_digits<R: BitRegister, O: BitOrder<R>>(
+    straight: Straight<R, O>,
+    words: &[R],
+    word: usize,
+    from: u8,
+    count: u8,
+) -> u64
+    requires some { 0 < count }
+    requires few { count ≤ 64 }
+    requires inside { word < length words.now }
+    requires within { from + count ≤ R.BITS }
+    ensures { ReadsDigits (read_by R.BitRegister O.position) words.now (word * R.BITS + from) count straight.direction
+        result }
+{
+    let below = digits_below(straight.direction, R::BITS, from, count);
+    let chunk = part::<R>(Direction::Ascending, words[word], below);
+    first_bits(Direction::Ascending, chunk, count)
+}
+
+// How many digits of a word lie below those of `count` bits from an index on.
+#[inline(always)]
+fn digits_below(direction: Direction, bits: u8, from: u8, count: u8) -> u8
+    requires some { 0 < count }
+    requires within { from + count ≤ bits }
+    ensures lowest { result + straight count direction 0 ≡ straight bits direction from }
+    ensures within { result + count ≤ bits }
+{
+    match direction {
+        Direction::Ascending => from,
+        Direction::Descending => bits - from - count,
+    }
+}
+
 /// Makes the `count` bits of a memory from a place on, 1 to 64, those of a chunk: entry `place + k` is bit k of
 /// it. Every other bit of the memory stays.
 pub fn write_bits<R: BitRegister, O: BitOrder<R>>(
@@ -146,6 +183,26 @@ pub fn write_counted<R: BitRegister, O: BitOrder<R>>(
         writes += 1;
     }
     writes
+}
+
+/// Makes the `count` bits of one word of a memory from an index on, 1 to 64, those of a chunk, as `write_bits` does.
+#[inline(always)]
+pub fn write_part<R: BitRegister, O: BitOrder<R>>(
+    straight: Straight<R, O>,
+    words: &mut [R],
+    word: usize,
+    from: u8,
+    count: u8,
+    chunk: u64,
+)
+    requires some { 0 < count }
+    requires few { count ≤ 64 }
+    requires inside { word < length words.old }
+    requires within { from + count ≤ R.BITS }
+    ensures { Overwrites (read_by R.BitRegister O.position) words.old words.new (word * R.BITS + from) count
+        (chunk_bit straight.direction chunk) }
+{
+    put::<R, O>(straight, words, word, from, from + count, chunk);
 }
 
 // Writes the first bits of a chunk into a part of one word.

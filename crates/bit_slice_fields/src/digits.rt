@@ -5,10 +5,9 @@ ghost use Rattle.std.specs.Prelude.{◌≡◌, ℕ, ◌+◌, ◌-◌, ◌*◌, �
 ghost use Rattle.std.specs.Prelude.{if◌then◌else◌};
 ghost use Rattle.bit_addressing_memory.specs.Bits.{bits_in_order, digit_at};
 ghost use Rattle.bit_addressing_memory.specs.Memory.{memory, piece, read_by, Overwrites};
-ghost use Rattle.bit_slice_chunks.specs.Chunk.{IsChunk};
 ghost use Rattle.bit_slice_fields.specs.Digits.{cut_weight, Gathered, HasDigits};
 ghost use Rattle.bit_slice_fields.specs.Number.{field_bits, segment_end, CountsFrom};
-ghost use Rattle.bit_slice_fields.specs.Pieces.{way_for, digits_in, least_bit, ChunkOf, IsPiece};
+ghost use Rattle.bit_slice_fields.specs.Pieces.{way_for, least_bit, ChunkOf, IsPiece};
 ghost use Rattle.bit_slice_fields.specs.Segments.{IsSegment};
 ghost use Rattle.bit_slice_fields.specs.Whole.{FitsIn};
 ghost use Rattle.bit_slice_views.specs.View.{view_bits, view_head};
@@ -16,7 +15,9 @@ ghost use Rattle.bit_slice_views_mut.specs.Frame.{KeepsBeside};
 
 use crate::integral::Integral;
 use bit_addressing_memory::{BitOrder, BitRegister, Direction, Straight, mem};
-use bit_slice_chunks::{read_bits, read_field, read_part, write_bits, write_counted, write_field};
+use bit_slice_chunks::{
+    chunk_of, digits_of, read_bits, read_digits, read_field, write_bits, write_field, write_part,
+};
 use bit_slice_views::{BitSlice, Bits};
 
 // How the bits of a window weigh: which end of a word counts lowest, whether the first segment does, and the index of
@@ -124,7 +125,8 @@ fn is_one_piece(cut: Cut, bits: usize, n: usize) -> bool
     requires few { bits ≤ 128 }
     requires head { cut.head < bits }
     requires short { n ≤ 128 }
-    ensures { result ≡ true → IsPiece (cut_weight cut bits n) n (way_for cut.low) 0 n 0 }
+    ensures piece { result ≡ true → IsPiece (cut_weight cut bits n) n (way_for cut.low) 0 n 0 }
+    ensures word { result ≡ true → (cut.low ≡ cut.le → ⊥) → cut.head + n ≤ bits }
 {
     if n == 0 || n > 64 {
         return false;
@@ -153,26 +155,16 @@ fn straight_of<T: BitRegister, O: BitOrder<T>>(low: bool) -> Straight<T, O>
     Straight::new(way_of(low))
 }
 
-// The digits that the first bits of a chunk are, and zeros behind them.
-#[inline(always)]
-fn digits_of(chunk: u64, low: bool, len: usize) -> u64
-    requires some { 0 < len }
-    requires few { len ≤ 64 }
-    ensures { result ≡ digits_in (way_for low) len chunk }
-{
-    if low { chunk } else { chunk >> (64 - len) }
-}
-
 // The chunk whose first bits are the digits of a number from the digit `weight` on.
 #[inline(always)]
-fn chunk_of(digits: u128, low: bool, weight: usize, len: usize) -> u64
+fn chunk_from(digits: u128, low: bool, weight: usize, len: usize) -> u64
     requires some { 0 < len }
     requires few { len ≤ 64 }
     requires within { weight < 128 }
     ensures { ChunkOf (way_for low) digits weight len result }
 {
     let lowest = ((digits >> weight) % (1 << 64)) as u64;
-    if low { lowest } else { lowest << (64 - len) }
+    chunk_of(way_of(low), lowest, len as u8)
 }
 
 // A number with the digits of a piece put in.
@@ -246,14 +238,9 @@ fn with_segment<T: BitRegister, O: BitOrder<T>>(
         len,
     } = segment;
     let weight = weight_of_segment(cut.low, n, from, len);
-    let chunk = read_part::<T, O>(
-        straight_of::<T, O>(cut.low),
-        words,
-        word,
-        index as u8,
-        len as u8,
-    );
-    with_few(digits, digits_of(chunk, cut.low, len), weight)
+    let straight = straight_of::<T, O>(cut.low);
+    let more = read_digits::<T, O>(straight, words, word, index as u8, len as u8);
+    with_few(digits, more, weight)
 }
 
 // The number of a window that goes by words, from the first word on.
@@ -316,8 +303,12 @@ fn gathered<T: BitRegister, O: BitOrder<T>>(view: BitSlice<'_, T, O>, cut: Cut) 
     let (words, head, len) = view.parts();
     if is_one_piece(cut, bits, len) {
         let straight = straight_of::<T, O>(cut.low);
+        if cut.low != cut.le {
+            let digits = read_digits::<T, O>(straight, words, 0, head, len as u8);
+            return u128::from(digits);
+        }
         let all = read_field::<T, O>(straight, words, head as usize, len);
-        return u128::from(digits_of(all, cut.low, len));
+        return u128::from(digits_of(straight.direction, all, len as u8));
     }
     if goes_by_words(cut, bits, len) {
         return u128::from(gathered_by_words::<T, O>(words, len, cut));
@@ -343,7 +334,7 @@ fn gathered_by_pieces<T: BitRegister, O: BitOrder<T>>(view: BitSlice<'_, T, O>, 
     while from < len {
         let piece = piece_of(cut, bits, len, from);
         let chunk = read_bits::<T, O>(straight, words, head as usize + from, piece.len);
-        let more = digits_of(chunk, cut.low, piece.len);
+        let more = digits_of(straight.direction, chunk, piece.len as u8);
         digits = with_piece(digits, more, piece.weight);
         from += piece.len;
     }
@@ -370,7 +361,7 @@ fn scatter<T: BitRegister, O: BitOrder<T>>(
 {
     let bits = mem::bits_of::<T>();
     if is_one_piece(cut, bits, len) {
-        let all = chunk_of(digits, cut.low, 0, len);
+        let all = chunk_from(digits, cut.low, 0, len);
         write_field::<T, O>(straight_of::<T, O>(cut.low), words, place, len, all);
         return;
     }
@@ -403,7 +394,7 @@ fn scatter_by_pieces<T: BitRegister, O: BitOrder<T>>(
     let mut from = 0;
     while from < len {
         let piece = piece_of(cut, bits, len, from);
-        let chunk = chunk_of(digits, cut.low, piece.weight, piece.len);
+        let chunk = chunk_from(digits, cut.low, piece.weight, piece.len);
         write_bits::<T, O>(straight, words, place + from, piece.len, chunk);
         from += piece.len;
     }
@@ -437,9 +428,9 @@ fn put_segment<T: BitRegister, O: BitOrder<T>>(
         len,
     } = segment;
     let weight = weight_of_segment(cut.low, n, from, len);
-    let chunk = chunk_of(digits, cut.low, weight, len);
-    let at = word * mem::bits_of::<T>() + index;
-    write_counted::<T, O>(straight_of::<T, O>(cut.low), words, at, len, chunk);
+    let chunk = chunk_from(digits, cut.low, weight, len);
+    let straight = straight_of::<T, O>(cut.low);
+    write_part::<T, O>(straight, words, word, index as u8, len as u8, chunk);
 }
 
 // The same as `scatter_by_pieces` of a window that goes by words, from the first word on.

@@ -10,7 +10,7 @@ ghost use Rattle.bit_table_fields.specs.Chunks.{rule_way};
 ghost use Rattle.bit_table_fields.specs.Windows.{number_held};
 ghost use Rattle.bit_table_layout.specs.Rows.{field_bits};
 
-use crate::digits_by_chunks::{chunk_of, number_in, way_of};
+use crate::digits_by_chunks::{chunk_for, number_in, way_of};
 use bit_addressing_memory::{BitOrder, BitRegister, Straight};
 use bit_slice_chunks::{read_counted, write_counted};
 use bit_slice_views_mut::BitsMut;
@@ -96,7 +96,7 @@ fn write_number<R: BitRegister, O: BitOrder<R>>(
     ensures beside { KeepsBeside (read_by R.BitRegister O.position) words.old words.new place all }
     ensures writes { result ≡ touched R.BITS (place + at) width }
 {
-    let chunk = chunk_of(rule, value, width);
+    let chunk = chunk_for(rule, value, width);
     write_counted::<R, O>(
         Straight::new(way_of(rule)),
         words,

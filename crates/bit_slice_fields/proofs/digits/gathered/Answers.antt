@@ -1,9 +1,9 @@
-use Rattle.std.proofs.Common.{◌≡◌, ◌+◌, ◌<◌, length, refl, ap, ◌∙◌, arith}
+use Rattle.std.proofs.Common.{◌≡◌, ◌+◌, ◌*◌, ◌<◌, length, refl, ap, ◌∙◌, arith}
 use Rattle.bit_addressing_memory.specs.Memory.{memory, piece, read_by}
 use Rattle.bit_slice_views.specs.View.{view_bits}
 use Rattle.bit_slice_fields.specs.Digits.{cut_weight}
 use Rattle.bit_slice_fields.specs.Pieces.{way_for}
-use Rattle.bit_slice_fields.proofs.PieceLemmas.{piece_digits, whole_digits}
+use Rattle.bit_slice_fields.proofs.PieceLemmas.{piece_read, piece_digits, whole_digits}
 use Rattle.bit_slice_fields.proofs.digits.gathered.Goals as goal
 
 pub returns-then-is_one_piece : goal.returns-then-is_one_piece
@@ -14,14 +14,32 @@ returns-then-is_one_piece g c =
     let head = c.parts-head.result.1 in
     let len = c.parts-head.result.2 in
     let some : 0 < g.T.BitRegister.BITS = omega (arith, g.met.T.BitRegister.least_bits) in
-    let is = c.is_one_piece.ensures c.if-is_one_piece.true in
+    let is = c.is_one_piece.ensures.piece c.if-is_one_piece.true in
     let chunk = rw c.straight_of-straight.ensures at c.read_field-all.ensures in
     let has =
     piece_digits (way_for cut.low) reading c.parts-head.result.0.now head len 0 len head c.read_field-all.result
     c.digits_of.result shown some (omega arith) is.some is.few (omega arith) c.parts-head.ensures.bits
-    c.read_field-all.type_inv c.digits_of.ensures chunk in
-    rw c.from.ensures
+    c.read_field-all.type_inv (rw c.straight_of-straight.ensures at c.digits_of.ensures) chunk in
+    rw c.from-then-is_one_piece.ensures
     (whole_digits (cut_weight cut g.T.BitRegister.BITS (length shown)) (length shown) c.digits_of.result shown
+    (way_for cut.low) refl (rw (c.bits_of-bits.ensures, c.parts-head.ensures.len) at is)
+    (rw c.parts-head.ensures.len at has))
+
+pub returns-then-cut : goal.returns-then-cut
+returns-then-cut g c =
+    let reading = read_by g.T.BitRegister g.O.Positions.position in
+    let shown = view_bits reading c.args.view in
+    let cut = c.args.cut in
+    let head = c.parts-head.result.1 in
+    let len = c.parts-head.result.2 in
+    let some : 0 < g.T.BitRegister.BITS = omega (arith, g.met.T.BitRegister.least_bits) in
+    let is = c.is_one_piece.ensures.piece c.if-is_one_piece.true in
+    let has =
+    piece_read (way_for cut.low) reading c.parts-head.result.0.now head len 0 len
+    (0 * g.T.BitRegister.BITS + head) c.read_digits-digits.result shown some is.inside (omega arith)
+    c.parts-head.ensures.bits (rw c.straight_of-straight.ensures at c.read_digits-digits.ensures) in
+    rw c.from.ensures
+    (whole_digits (cut_weight cut g.T.BitRegister.BITS (length shown)) (length shown) c.read_digits-digits.result shown
     (way_for cut.low) refl (rw (c.bits_of-bits.ensures, c.parts-head.ensures.len) at is)
     (rw c.parts-head.ensures.len at has))
 

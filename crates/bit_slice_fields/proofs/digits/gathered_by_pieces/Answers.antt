@@ -30,7 +30,7 @@ loop-from-preserved g c =
     let has =
     piece_digits (way_for cut.low) reading c.parts-head.result.0.now head len from piece.len (head + from)
     c.read_bits-chunk.result c.digits_of-more.result shown some is.inside is.some is.few refl
-    c.parts-head.ensures.bits c.read_bits-chunk.type_inv c.digits_of-more.ensures chunk in
+    c.parts-head.ensures.bits c.read_bits-chunk.type_inv (rw c.straight_of-straight.ensures at c.digits_of-more.ensures) chunk in
     record {
       digits =
           gathered_more cut.low cut.le 128 g.T.BitRegister.BITS c.bits_of-bits.result cut.head (length shown) len from

@@ -13,9 +13,9 @@ returns-then-is_one_piece g c =
     let reading = read_by g.T.BitRegister g.O.Positions.position in
     let weighs = cut_weight c.args.cut g.T.BitRegister.BITS c.args.len in
     let digits = λ (k : ℕ). digit_at c.args.digits (weighs k) in
-    let is = rw c.bits_of-bits.ensures at (c.is_one_piece.ensures c.if-is_one_piece.true) in
+    let is = rw c.bits_of-bits.ensures at (c.is_one_piece.ensures.piece c.if-is_one_piece.true) in
     let wrote = rw c.straight_of.ensures at c.write_field.ensures in
     scattered_piece reading c.args.words.now c.args.words.now c.write_field.new.words weighs c.args.place c.args.len 0
-    c.args.len 0 c.args.digits c.chunk_of-all.result c.args.place c.args.len (way_for c.args.cut.low) is
-    c.chunk_of-all.ensures (omega arith) (omega arith)
+    c.args.len 0 c.args.digits c.chunk_from-all.result c.args.place c.args.len (way_for c.args.cut.low) is
+    c.chunk_from-all.ensures (omega arith) (omega arith)
     (write_none reading c.args.words.now c.args.place 0 digits refl) wrote

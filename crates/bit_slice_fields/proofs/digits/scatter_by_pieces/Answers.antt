@@ -26,8 +26,8 @@ loop-from-preserved g c =
       written =
           scattered_piece (read_by g.T.BitRegister g.O.Positions.position) c.args.words.now c.loop-from.words
           c.write_bits.new.words (cut_weight cut g.T.BitRegister.BITS c.args.len) c.args.place c.args.len from piece.len
-          piece.weight c.args.digits c.chunk_of-chunk.result (c.args.place + from) (from + piece.len) (way_for cut.low)
-          is c.chunk_of-chunk.ensures refl refl c.loop-from.invariant.written wrote;
+          piece.weight c.args.digits c.chunk_from-chunk.result (c.args.place + from) (from + piece.len) (way_for cut.low)
+          is c.chunk_from-chunk.ensures refl refl c.loop-from.invariant.written wrote;
       upto = omega (arith, is.inside);
     }
 

@@ -1,7 +1,7 @@
 //! The orders under which a window holds numbers.
 
 ghost use Rattle.std.specs.Prelude.{Bool, true, false};
-ghost use Rattle.bit_slice_fields.specs.Number.{CountsFrom};
+ghost use Rattle.bit_slice_words.specs.Orders.{CountsFrom};
 
 use bit_addressing_memory::{BitOrder, BitRegister, Lsb0, Msb0};
 

@@ -1,7 +1,8 @@
 -- The digits of chunks moved, cut, and made of words.
 use Rattle.std.proofs.Common.{◌≡◌, ℕ, ◌+◌, ◌-◌, ◌*◌, ◌/◌, ◌%◌, ◌^◌, ◌==◌, ◌<◌, ◌≤◌, true, false, bit_and, bit_or}
-use Rattle.std.proofs.Common.{inl, inr, refl, sym, ap, ◌∙◌, arith}
-use Rattle.std.proofs.lemmas.Bool.{cases_lt}
+use Rattle.std.proofs.Common.{sym, ap, ◌∙◌, arith}
+use Rattle.std.proofs.Math.Nat.{div-le_self, mod-eq_of_lt}
+use Rattle.std.proofs.Math.Pow.{pow_mono}
 use Rattle.std.proofs.lemmas.Nat.Bits.{bit_at_above, bit_at_and, bit_at_or, bit_at_not, bit_at-lt, bit_at-zero}
 use Rattle.std.specs.Int.{bit_at, bit_not, w64}
 use Rattle.bit_addressing_memory.specs.Bits.{digit_at}
@@ -158,6 +159,14 @@ part_up_is b n from r fits is = record {
       ∙ bit_at_shr n from i
       ∙ bit_at_above n b (i + from) fits (omega arith));
 }
+
+-- of a word of up to 64
+pub part_narrow_is : (b n from r : ℕ) → n < 2 ^ b → b ≤ 64 → r ≡ n % 2 ^ 64 / 2 ^ from → IsPart Ascending b n from r
+part_narrow_is b n from r fits narrow is =
+    let small : n < 2 ^ 64 = omega (arith, pow_mono {i = b} {j = 64} narrow) in
+    let same : n % 2 ^ 64 ≡ n = mod-eq_of_lt small in
+    let less : n / 2 ^ from ≤ n = div-le_self n (2 ^ from) in
+    part_up_is b n from r fits (is ∙ ap (λ m. m / 2 ^ from) same ∙ sym (mod-eq_of_lt (omega arith)))
 
 pub part_down_is : (b n from s r : ℕ) → b ≤ 128 → from < b → s ≡ 128 - b + from → r ≡ n * 2 ^ s % 2 ^ 128 / 2 ^ 64
     → IsPart Descending b n from r

@@ -2,6 +2,7 @@
 
 ghost use Rattle.std.specs.Prelude.{◌≡◌, ℕ, ◌+◌, ◌-◌, ◌*◌, ◌/◌, ◌%◌, ◌^◌, ◌<◌, ◌≤◌, false};
 ghost use Rattle.bit_addressing_memory.specs.declared.direction.Direction.{Direction};
+ghost use Rattle.bit_addressing_memory.specs.declared.direction.Direction.TheVariants.{Ascending};
 ghost use Rattle.bit_slice_chunks.specs.Chunk.{chunk_bit, word_bit, IsLowered, IsRaised, IsPart, IsPlaced, IsCut, IsRest};
 ghost use Rattle.bit_slice_chunks.specs.Chunk.{IsFaced, IsPatched, IsTurned};
 
@@ -115,6 +116,19 @@ fn part_down(value: u128, by: u8) -> u64
     ensures { result ≡ value * 2 ^ by % 2 ^ 128 / 2 ^ 64 }
 {
     ((value << by) >> 64) as u64
+}
+
+// The digits of a word from one on, as many as a chunk has. A word of up to 64 is shifted as such a number.
+#[inline(always)]
+pub(crate) fn digits_from<R: BitRegister>(word: R, below: u8) -> u64
+    requires { below < R.BITS }
+    ensures { IsPart Ascending R.BITS (R.number word) below result }
+{
+    if R::BITS > 64 {
+        return part::<R>(Direction::Ascending, word, below);
+    }
+    let digits = (word.value() % (1 << 64)) as u64;
+    digits >> below
 }
 
 // A word with the bits of a chunk from an index on.

@@ -6,7 +6,7 @@ ghost use Rattle.bit_addressing_memory.specs.Prelude.{Lies, read_by, touched, Ov
 ghost use Rattle.bit_addressing_memory.specs.Straight.{straight};
 ghost use Rattle.bit_slice_chunks.specs.Chunk.{chunk_bit, IsChunk, ReadsDigits};
 
-use crate::chunk::{first_bits, lowered, part, placed, raised};
+use crate::chunk::{digits_from, first_bits, lowered, part, placed, raised};
 use crate::whole::read_chunk;
 use bit_addressing_memory::mem::bits_of;
 use bit_addressing_memory::{BitEnd, BitIdx, BitOrder, BitRegister, Direction, Straight, store_in};
@@ -115,7 +115,7 @@ pub fn read_digits<R: BitRegister, O: BitOrder<R>>(
         result }
 {
     let below = digits_below(straight.direction, R::BITS, from, count);
-    let chunk = part::<R>(Direction::Ascending, words[word], below);
+    let chunk = digits_from::<R>(words[word], below);
     first_bits(Direction::Ascending, chunk, count)
 }
 

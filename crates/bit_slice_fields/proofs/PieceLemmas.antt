@@ -9,7 +9,7 @@ use Rattle.std.proofs.Math.Nat.{div-eq_of_lt, mod-le, mul-le-mul_right, suc-mul}
 use Rattle.std.proofs.Math.Pow.{pow_mono, pow_pos}
 use Rattle.std.proofs.lemmas.Bool.{cases_lt}
 use Rattle.std.proofs.lemmas.Nat.{or_lt, pow-add}
-use Rattle.std.proofs.lemmas.Nat.Bits.{bit_at_or, bit_at_above, same_from_bits_below}
+use Rattle.std.proofs.lemmas.Nat.Bits.{bit_at_or, bit_at_above}
 use Rattle.bit_addressing_memory.specs.Bits.{digit_at}
 use Rattle.bit_addressing_memory.specs.Memory.{Reading, entry, memory, piece, Overwrites}
 use Rattle.bit_addressing_memory.proofs.ShiftLemmas.{bit_at_shr, bit_at_cut, bit_at_shl_low, bit_at_shl_high}
@@ -18,7 +18,6 @@ use Rattle.bit_addressing_memory.specs.declared.direction.Direction.{Direction}
 use Rattle.bit_addressing_memory.specs.declared.direction.Direction.TheVariants.{Ascending, Descending}
 use Rattle.bit_addressing_memory.specs.Straight.{straight, Goes}
 use Rattle.bit_addressing_memory.proofs.OverwriteLemmas.{overwrites_join}
-use Rattle.bit_addressing_memory.proofs.LimbLemmas.{no_digit}
 use Rattle.bit_slice_chunks.specs.Chunk.{chunk_bit, digits_in, HoldsDigits, IsChunk, ReadsDigits}
 use Rattle.bit_slice_chunks.proofs.DigitsLemmas.{digits_read}
 use Rattle.bit_slice_fields.specs.Digits.{Gathered, HasDigits}

@@ -125,13 +125,24 @@ fn is_one_piece(cut: Cut, bits: usize, n: usize) -> bool
     requires few { bits ≤ 128 }
     requires head { cut.head < bits }
     requires short { n ≤ 128 }
-    ensures piece { result ≡ true → IsPiece (cut_weight cut bits n) n (way_for cut.low) 0 n 0 }
-    ensures word { result ≡ true → (cut.low ≡ cut.le → ⊥) → cut.head + n ≤ bits }
+    ensures { result ≡ true → IsPiece (cut_weight cut bits n) n (way_for cut.low) 0 n 0 }
 {
     if n == 0 || n > 64 {
         return false;
     }
     cut.low == cut.le || cut.head + n <= bits
+}
+
+// Whether a window lies in one word, and is quicker read there than by a block of 64 bits: of a wider word, or where the
+// digits do not go with the order from word to word.
+#[inline(always)]
+fn goes_by_word(cut: Cut, bits: usize, n: usize) -> bool
+    requires head { cut.head < bits }
+    requires few { bits ≤ 128 }
+    requires short { n ≤ 128 }
+    ensures { result ≡ true → cut.head + n ≤ bits }
+{
+    cut.head + n <= bits && (bits > 64 || cut.low != cut.le)
 }
 
 // The direction in which the bits of a word weigh.
@@ -303,7 +314,7 @@ fn gathered<T: BitRegister, O: BitOrder<T>>(view: BitSlice<'_, T, O>, cut: Cut) 
     let (words, head, len) = view.parts();
     if is_one_piece(cut, bits, len) {
         let straight = straight_of::<T, O>(cut.low);
-        if cut.low != cut.le {
+        if goes_by_word(cut, bits, len) {
             let digits = read_digits::<T, O>(straight, words, 0, head, len as u8);
             return u128::from(digits);
         }
@@ -361,8 +372,20 @@ fn scatter<T: BitRegister, O: BitOrder<T>>(
 {
     let bits = mem::bits_of::<T>();
     if is_one_piece(cut, bits, len) {
+        let straight = straight_of::<T, O>(cut.low);
         let all = chunk_from(digits, cut.low, 0, len);
-        write_field::<T, O>(straight_of::<T, O>(cut.low), words, place, len, all);
+        if bits > 64 && goes_by_word(cut, bits, len) {
+            write_part::<T, O>(
+                straight,
+                words,
+                place / bits,
+                cut.head as u8,
+                len as u8,
+                all,
+            );
+            return;
+        }
+        write_field::<T, O>(straight, words, place, len, all);
         return;
     }
     if goes_by_words(cut, bits, len) {

@@ -3,17 +3,16 @@
 -- Read: `held_digits`, a number from a chunk of its bits. Written:
 -- `lowest_digit`, `chunk_holds`, the chunk of a number; `number_written`, it in a window.
 use Rattle.std.proofs.Common.{◌≡◌, ℕ, suc, ◌+◌, ◌-◌, ◌*◌, ◌/◌, ◌%◌, ◌^◌, ◌==◌, ◌<◌, ◌≤◌, Bool, true, false}
-use Rattle.std.proofs.Common.{List, [], ◌∷◌, length, get_or, reverse, cond, refl, sym, ap, ◌∙◌, inl, inr, arith}
+use Rattle.std.proofs.Common.{List, [], ◌∷◌, length, get_or, reverse, cond, refl, sym, ap, ◌∙◌, arith}
 use Rattle.std.proofs.Common.{pow-suc, ℤ, SFits}
 use mir.Syntax.{w128}
-use Rattle.std.proofs.Math.Pow.{pow_pos}
-use Rattle.std.proofs.lemmas.Bool.{cases_lt, eqb-true}
+use Rattle.std.proofs.lemmas.Bool.{eqb-true}
 use Rattle.std.proofs.lemmas.List.{get_or-reverse, length-reverse}
-use Rattle.std.proofs.lemmas.Nat.Bits.{bit_at-suc, bit_at_lowest, bit_at_above, same_from_bits_below}
+use Rattle.std.proofs.lemmas.Nat.Bits.{bit_at-suc, bit_at_lowest}
 use Rattle.std.specs.Int.{bit_at, cast_unsigned}
 use Rattle.bit_addressing_memory.specs.Bits.{digit_at}
 use Rattle.bit_addressing_memory.specs.Memory.{Reading, memory, piece, with_piece, Overwrites}
-use Rattle.bit_addressing_memory.proofs.ShiftLemmas.{bit_at_shr, bit_at_cut, bit_at_shl_high}
+use Rattle.bit_addressing_memory.proofs.ShiftLemmas.{bit_at_cut}
 use Rattle.bit_addressing_memory.proofs.WindowLemmas.{window_bit, length-window, window_overwritten}
 use Rattle.bit_addressing_memory.proofs.LimbLemmas.{no_digit}
 use Rattle.bit_addressing_memory.specs.declared.direction.Direction.TheVariants.{Ascending, Descending}

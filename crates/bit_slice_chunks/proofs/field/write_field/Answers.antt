@@ -1,4 +1,4 @@
-use Rattle.std.proofs.Common.{◌≡◌, ◌+◌, ◌-◌, ◌*◌, ◌/◌, ◌%◌, ◌<◌, ◌≤◌, length, ap, ◌∙◌, arith}
+use Rattle.std.proofs.Common.{◌≡◌, ◌+◌, ◌-◌, ◌*◌, ◌/◌, ◌%◌, ◌≤◌, length, ap, ◌∙◌, arith}
 use Rattle.bit_addressing_memory.specs.Prelude.{read_by}
 use Rattle.bit_slice_chunks.specs.Chunk.{chunk_bit}
 use Rattle.bit_slice_chunks.proofs.TransferLemmas.{less_words, overwrites_join}

@@ -1,4 +1,4 @@
-use Rattle.std.proofs.Common.{◌≡◌, ◌+◌, ◌*◌, ◌<◌, length, refl, ap, ◌∙◌, arith}
+use Rattle.std.proofs.Common.{◌+◌, ◌*◌, ◌<◌, length, refl, ap, ◌∙◌, arith}
 use Rattle.bit_addressing_memory.specs.Memory.{memory, piece, read_by}
 use Rattle.bit_slice_views.specs.View.{view_bits}
 use Rattle.bit_slice_fields.specs.Digits.{cut_weight}
@@ -14,7 +14,7 @@ returns-then-is_one_piece g c =
     let head = c.parts-head.result.1 in
     let len = c.parts-head.result.2 in
     let some : 0 < g.T.BitRegister.BITS = omega (arith, g.met.T.BitRegister.least_bits) in
-    let is = c.is_one_piece.ensures.piece c.if-is_one_piece.true in
+    let is = c.is_one_piece.ensures c.if-is_one_piece.true in
     let chunk = rw c.straight_of-straight.ensures at c.read_field-all.ensures in
     let has =
     piece_digits (way_for cut.low) reading c.parts-head.result.0.now head len 0 len head c.read_field-all.result
@@ -25,15 +25,15 @@ returns-then-is_one_piece g c =
     (way_for cut.low) refl (rw (c.bits_of-bits.ensures, c.parts-head.ensures.len) at is)
     (rw c.parts-head.ensures.len at has))
 
-pub returns-then-cut : goal.returns-then-cut
-returns-then-cut g c =
+pub returns-then-goes_by_word : goal.returns-then-goes_by_word
+returns-then-goes_by_word g c =
     let reading = read_by g.T.BitRegister g.O.Positions.position in
     let shown = view_bits reading c.args.view in
     let cut = c.args.cut in
     let head = c.parts-head.result.1 in
     let len = c.parts-head.result.2 in
     let some : 0 < g.T.BitRegister.BITS = omega (arith, g.met.T.BitRegister.least_bits) in
-    let is = c.is_one_piece.ensures.piece c.if-is_one_piece.true in
+    let is = c.is_one_piece.ensures c.if-is_one_piece.true in
     let has =
     piece_read (way_for cut.low) reading c.parts-head.result.0.now head len 0 len
     (0 * g.T.BitRegister.BITS + head) c.read_digits-digits.result shown some is.inside (omega arith)

@@ -1,4 +1,4 @@
-use Rattle.std.proofs.Common.{◌≡◌, ◌+◌, ◌<◌, refl, subst, arith}
+use Rattle.std.proofs.Common.{◌≡◌, ◌+◌, refl, subst, arith}
 use Rattle.bit_addressing_memory.specs.Bits.{digit_at}
 use Rattle.bit_addressing_memory.specs.Memory.{read_by, Overwrites}
 use Rattle.bit_slice_chunks.proofs.TransferLemmas.{write_none}

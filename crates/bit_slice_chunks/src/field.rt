@@ -6,7 +6,7 @@ ghost use Rattle.bit_addressing_memory.specs.Prelude.{Lies, read_by, Overwrites}
 ghost use Rattle.bit_slice_chunks.specs.Chunk.{chunk_bit, IsChunk};
 
 use crate::chunk::{first_bits, lowered};
-use crate::transfer::{has_chunk, read_bits, write_bits};
+use crate::transfer::{has_chunk, read_counted, write_bits};
 use crate::whole::{read_chunk, read_within, write_within};
 use bit_addressing_memory::mem::bits_of;
 use bit_addressing_memory::{BitOrder, BitRegister, Straight};
@@ -49,7 +49,23 @@ pub fn read_field<R: BitRegister, O: BitOrder<R>>(
         let chunk = read_chunk::<R, O>(straight, words, place);
         return first_bits(straight.direction, chunk, count as u8);
     }
-    read_bits::<R, O>(straight, words, place, count)
+    read_last::<R, O>(straight, words, place, count)
+}
+
+// The same of the last bits of a memory. Out of line, so that the others are read by a short function.
+#[inline(never)]
+fn read_last<R: BitRegister, O: BitOrder<R>>(
+    straight: Straight<R, O>,
+    words: &[R],
+    place: usize,
+    count: usize,
+) -> u64
+    requires some { 0 < count }
+    requires few { count ≤ 64 }
+    requires lies { Lies R.BITS words.now place count }
+    ensures { IsChunk (read_by R.BitRegister O.position) words.now place count straight.direction result }
+{
+    read_counted::<R, O>(straight, words, place, count).0
 }
 
 // The first of the words that make the 64 bits in which a place lies.
@@ -95,5 +111,23 @@ pub fn write_field<R: BitRegister, O: BitOrder<R>>(
         write_within::<R, O>(straight, words, behind, 0, (count - inner) as u8, rest);
         return;
     }
+    write_last::<R, O>(straight, words, place, count, chunk);
+}
+
+// The same of the last bits of a memory. Out of line, so that the others are written by a short function.
+#[inline(never)]
+fn write_last<R: BitRegister, O: BitOrder<R>>(
+    straight: Straight<R, O>,
+    words: &mut [R],
+    place: usize,
+    count: usize,
+    chunk: u64,
+)
+    requires some { 0 < count }
+    requires few { count ≤ 64 }
+    requires lies { Lies R.BITS words.old place count }
+    ensures { Overwrites (read_by R.BitRegister O.position) words.old words.new place count
+        (chunk_bit straight.direction chunk) }
+{
     write_bits::<R, O>(straight, words, place, count, chunk);
 }

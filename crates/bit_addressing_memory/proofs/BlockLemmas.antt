@@ -1,30 +1,25 @@
--- Blocks of 64 bits, made of words and cut into them.
+-- Blocks of 64 bits, read, written and moved, word by word.
 --
--- `words_of_64`, `word_fits`, `small_words`: how many words make a block. `has_word`, `word_has`: one word in a block.
--- `block_none`, `block_more`, `block_whole`: words read into a block. `put_more`: a block written, a word more.
--- `blocks_joined`: two blocks joined.
-use Rattle.bit_addressing_memory.proofs.Common.{◌≡◌, ℕ, ◌+◌, ◌-◌, ◌*◌, ◌/◌, ◌%◌, ◌^◌, ◌==◌, ◌<◌, ◌≤◌, Bool}
-use Rattle.bit_addressing_memory.proofs.Common.{false, List, length, get_or, set, bit_or, refl, sym, ap, ◌∙◌, inl, inr, arith}
+-- `words_of_64`, `word_of_chunk`, `word_begins`, `next_word`: how many words make a block, and where they lie. `read_whole`,
+-- `read_across`: words read into a block. `scattered_more`: a block written, a word more. `moves_up`, `moves_down`: blocks
+-- moved.
+use Rattle.bit_addressing_memory.proofs.Common.{◌≡◌, ℕ, zero, suc, ◌+◌, ◌-◌, ◌*◌, ◌/◌, ◌^◌, ◌<◌, ◌≤◌, Bool}
+use Rattle.bit_addressing_memory.proofs.Common.{List, length, get_or, set, bit_or, refl, sym, ap, ◌∙◌, inl, inr, arith}
 use Rattle.bit_addressing_memory.proofs.Common.{cases_lt, cases_eq, Reading, entry, reading_in, Overwrites, IsStored}
 use Rattle.std.proofs.Math.Nat.{mul-le-mul_right}
 use Rattle.std.proofs.lemmas.List.{get_or_default}
-use Rattle.std.proofs.lemmas.Nat.{div-add-mod'}
-use Rattle.std.proofs.lemmas.Nat.Bits.{bit_at_above, bit_at-zero}
-use Rattle.std.specs.Int.{bit_at}
+use Rattle.std.proofs.lemmas.Nat.{div-add-mod', div-mul-add}
 use Rattle.bit_addressing_order.specs.Bits.{digit_at}
 use Rattle.bit_addressing_order.specs.BitRegister.{IsRegisterSize}
-use Rattle.bit_addressing_memory.specs.Blocks.{HasWord, IsBlock, block_bit, block_reading, word_start}
+use Rattle.bit_addressing_memory.specs.Chunk.{chunk_bit, IsChunk, ReadTo, IsLowered, IsRaised, IsPart, IsPlaced}
 use Rattle.bit_addressing_memory.specs.Moves.{Moves}
-use Rattle.bit_addressing_memory.specs.ShiftSteps.{AreShifted}
-use Rattle.bit_addressing_memory.specs.Straight.{Goes, IsJoined, straight}
+use Rattle.bit_addressing_memory.specs.Straight.{Goes, straight}
 use Rattle.bit_addressing_memory.specs.declared.direction.Direction.{Direction}
-use Rattle.bit_addressing_memory.specs.declared.direction.Direction.TheVariants.{Ascending, Descending}
-use Rattle.bit_addressing_memory.proofs.EntryLemmas.{entry_read}
 use Rattle.bit_addressing_memory.proofs.LimbLemmas.{or_left, or_right}
 use Rattle.bit_addressing_memory.proofs.OverwriteLemmas.{overwrites_join}
 use Rattle.bit_addressing_memory.proofs.PartsLemmas.{stores_part}
 use Rattle.bit_addressing_memory.proofs.ShiftedWords.{less_words}
-use Rattle.bit_addressing_memory.proofs.ShiftLemmas.{bit_at_shr, bit_at_cut, bit_at_shl_low, bit_at_shl_high}
+use Rattle.bit_addressing_memory.proofs.TransferLemmas.{part_entry}
 
 -- words of at most 64 bits make up 64
 pub words_of_64 : (b bits : ℕ) → IsRegisterSize b → b ≤ 64 → bits ≡ b → 64 / bits * b ≡ 64
@@ -45,173 +40,101 @@ words_of_64 b bits size most is = elim (cases_eq size.0 3) [
   ]
 ]
 
--- each of them lies in the block
-pub word_fits : (b size t : ℕ) → size * b ≡ 64 → t < size → t * b + b ≤ 64
-word_fits b size t all low =
-    let row : (t + 1) * b ≤ size * b = mul-le-mul_right b (omega arith) in
-    omega (arith, all)
+-- each of these words is one of the memory's
+pub word_of_chunk : (b bits first k words : ℕ) → IsRegisterSize b → b ≤ 64 → bits ≡ b → 0 < b → k < 64 / bits
+    → first * b + 64 ≤ words * b → first + k < words
+word_of_chunk b bits first k words size most is some low within =
+    let row : (k + 1) * b ≤ 64 / bits * b = mul-le-mul_right b (omega arith) in
+    less_words (first + k) words b (omega (arith, words_of_64 b bits size most is))
 
--- ---- one word
+-- and the bits of each begin in the chunk
+pub word_begins : (b bits k : ℕ) → IsRegisterSize b → b ≤ 64 → bits ≡ b → k < 64 / bits → k * b + b ≤ 64
+word_begins b bits k size most is low =
+    let row : (k + 1) * b ≤ 64 / bits * b = mul-le-mul_right b (omega arith) in
+    omega (arith, words_of_64 b bits size most is)
 
--- `n % 2 ^ 64 << s` has the digits of n, a word of b bits, from the position s on, and zeros beside them
-up_inside : (n b s p : ℕ) → s ≤ p → p < s + b → s + b ≤ 64
-    → digit_at (n % 2 ^ 64 * 2 ^ s % 2 ^ 64) p ≡ digit_at n (p - s)
-up_inside n b s p low high fits =
-    ap (λ d. d == 1)
-    (bit_at_cut (n % 2 ^ 64 * 2 ^ s) 64 p (omega arith)
-    ∙ bit_at_shl_high (n % 2 ^ 64) s p low
-    ∙ bit_at_cut n 64 (p - s) (omega arith))
-
-up_below : (n s p : ℕ) → p < s → p < 64 → digit_at (n % 2 ^ 64 * 2 ^ s % 2 ^ 64) p ≡ false
-up_below n s p low small =
-    ap (λ d. d == 1) (bit_at_cut (n % 2 ^ 64 * 2 ^ s) 64 p small ∙ bit_at_shl_low (n % 2 ^ 64) s p low)
-
-up_above : (n b s p : ℕ) → n < 2 ^ b → s + b ≤ p → p < 64 → digit_at (n % 2 ^ 64 * 2 ^ s % 2 ^ 64) p ≡ false
-up_above n b s p fits high small =
-    ap (λ d. d == 1)
-    (bit_at_cut (n % 2 ^ 64 * 2 ^ s) 64 p small
-    ∙ bit_at_shl_high (n % 2 ^ 64) s p (omega arith)
-    ∙ bit_at_cut n 64 (p - s) (omega arith)
-    ∙ bit_at_above n b (p - s) fits (omega arith))
-
--- a word put into a block
-pub has_word : (direction : Direction) (b t n value start : ℕ) → t * b + b ≤ 64 → n < 2 ^ b → value ≡ n
-    → start ≡ word_start b direction t → HasWord b direction t n (value % 2 ^ 64 * 2 ^ start % 2 ^ 64)
-has_word Ascending b t n value start within fits is at = rw (is, at) (record {
-  inside = λ i low.
-      let back : t * b + i - t * b ≡ i = omega arith in
-      up_inside n b (t * b) (t * b + i) (omega arith) (omega arith) within ∙ ap (digit_at n) back;
-  below = λ i low. up_below n (t * b) i low (omega arith);
-  above = λ i high small. up_above n b (t * b) i fits high small;
-})
-has_word Descending b t n value start within fits is at = rw (is, at) (record {
-  inside = λ i low.
-      let back : 64 - 1 - (t * b + i) - (64 - b - t * b) ≡ b - 1 - i = omega arith in
-      up_inside n b (64 - b - t * b) (64 - 1 - (t * b + i)) (omega arith) (omega arith) (omega arith)
-      ∙ ap (digit_at n) back;
-  below = λ i low. up_above n b (64 - b - t * b) (64 - 1 - i) fits (omega arith) (omega arith);
-  above = λ i high small. up_below n (64 - b - t * b) (64 - 1 - i) (omega arith) (omega arith);
-})
-
--- a word of a block
-pub word_has : (direction : Direction) (b t block start value n : ℕ) → t * b + b ≤ 64
-    → start ≡ word_start b direction t → value ≡ block / 2 ^ start → n ≡ value % 2 ^ b
-    → (i : ℕ) → i < b → digit_at n (straight b direction i) ≡ block_bit direction block (t * b + i)
-word_has Ascending b t block start value n within at is cut i low =
-    let there : i + t * b ≡ t * b + i = omega arith in
-    rw (cut, is, at)
-    (ap (λ d. d == 1)
-    (bit_at_cut (block / 2 ^ (t * b)) b i low ∙ bit_at_shr block (t * b) i ∙ ap (bit_at block) there))
-word_has Descending b t block start value n within at is cut i low =
-    let there : b - 1 - i + (64 - b - t * b) ≡ 64 - 1 - (t * b + i) = omega arith in
-    rw (cut, is, at)
-    (ap (λ d. d == 1)
-    (bit_at_cut (block / 2 ^ (64 - b - t * b)) b (b - 1 - i) (omega arith)
-    ∙ bit_at_shr block (64 - b - t * b) (b - 1 - i)
-    ∙ ap (bit_at block) there))
+-- so is the word behind them, where the chunk goes on in it
+pub next_word : (b bits first by words : ℕ) → IsRegisterSize b → b ≤ 64 → bits ≡ b → 0 < by
+    → first * b + by + 64 ≤ words * b → first + 64 / bits < words
+next_word b bits first by words size most is some within =
+    less_words (first + 64 / bits) words b (omega (arith, words_of_64 b bits size most is))
 
 -- ---- blocks read and written
 
-zero_bits : (direction : Direction) (i : ℕ) → block_bit direction 0 i ≡ false
-zero_bits direction i = ap (λ d. d == 1) (bit_at-zero (straight 64 direction i))
-
--- no word
-pub block_none : {R : Type 0} (reading : Reading R) (words : List R) (place : ℕ) (direction : Direction)
-    → IsBlock reading words place 0 direction 0
-block_none reading words place direction = record {
-  inside = λ i low. absurd (omega arith);
-  past = λ i high small. zero_bits direction i;
+-- all of them
+pub read_whole : {R : Type 0} (reading : Reading R) (words : List R) (place end : ℕ) (direction : Direction)
+    (chunk : ℕ) → end ≡ place + 64 → ReadTo reading words place 64 end direction chunk
+    → IsChunk reading words place 64 direction chunk
+read_whole reading words place end direction chunk is had = record {
+  inside = λ i low. had.inside i low (omega arith);
+  past = λ i past small. absurd (omega arith);
 }
 
--- one word more
-pub block_more : {R : Type 0} (b : ℕ) (number : R → ℕ) (at : ℕ → ℕ) (direction : Direction) → Goes b at direction
-    → (words : List R) (first t made part r : ℕ) (x : R) → t * b + b ≤ 64 → first + t < length words
-    → x ≡ get_or words (first + t) x → HasWord b direction t (number x) part → r ≡ bit_or made part
-    → IsBlock (reading_in b number at) words (first * b) (t * b) direction made
-    → IsBlock (reading_in b number at) words (first * b) ((t + 1) * b) direction r
-block_more b number at direction goes words first t made part r x fits within read has put had = rw put (record {
-  inside = λ i low. elim (cases_lt i (t * b)) [
-    | inl before ↦ or_left made part (straight 64 direction i) (has.below i before) ∙ had.inside i before
-    | inr here ↦
-        let j : ℕ = i - t * b in
-        let index : t * b + j ≡ i = omega arith in
-        let small : j < b = omega arith in
-        let place : (first + t) * b + j ≡ first * b + i = omega arith in
-        or_right made part (straight 64 direction i) (had.past i here (omega arith))
-        ∙ ap (block_bit direction part) (sym index)
-        ∙ has.inside j small
-        ∙ ap (digit_at (number x)) (sym (goes j small))
-        ∙ entry_read (reading_in b number at) words (first + t) j x small within read
-        ∙ ap (entry (reading_in b number at) words) place
-  ];
-  past = λ i high small.
-      or_right made part (straight 64 direction i) (had.past i (omega arith) small) ∙ has.above i (omega arith) small;
-})
+-- a chunk from an index of a word on
+pub read_across : {R : Type 0} (reading : Reading R) (direction : Direction) (words : List R)
+    (place first by j low next down up r : ℕ) (x : R) → first * reading.bits + by ≡ place → 0 < by
+    → by < reading.bits → reading.bits ≤ 64 → j * reading.bits ≡ first * reading.bits + 64
+    → IsChunk reading words (first * reading.bits) 64 direction low → IsPart reading x 0 reading.bits direction next
+    → IsLowered direction low by down → IsRaised direction next (64 - by) up → r ≡ bit_or down up → j < length words
+    → x ≡ get_or words j x → IsChunk reading words place 64 direction r
+read_across reading direction words place first by j low next down up r x start some index narrow row whole is moved put
+    made within read = rw made (record {
+      inside = λ i small. elim (cases_lt (i + by) 64) [
+        | inl inside ↦
+            let here : first * reading.bits + (i + by) ≡ place + i = omega arith in
+            or_left down up (straight 64 direction i) (put.below i (omega arith))
+            ∙ moved.inside i inside
+            ∙ whole.inside (i + by) inside
+            ∙ ap (entry reading words) here
+        | inr across ↦
+            let here : j * reading.bits + (0 + (i - (64 - by))) ≡ place + i = omega arith in
+            or_right down up (straight 64 direction i) (moved.past i small across)
+            ∙ put.above i (omega arith) small
+            ∙ part_entry reading direction words j 0 reading.bits (i - (64 - by)) next x is within read (omega arith)
+            (omega arith) (omega arith)
+            ∙ ap (entry reading words) here
+      ];
+      past = λ i past small. absurd (omega arith);
+    })
 
--- one word of a block written more
-pub put_more : {R : Type 0} (b : ℕ) (number : R → ℕ) (at : ℕ → ℕ) (direction : Direction) → Goes b at direction
-    → (before mid : List R) (first t block : ℕ) (w : R) → 0 < b → first + t < length mid
-    → ((i : ℕ) → i < b → digit_at (number w) (straight b direction i) ≡ block_bit direction block (t * b + i))
-    → Overwrites (reading_in b number at) before mid (first * b) (t * b) (block_bit direction block)
-    → Overwrites (reading_in b number at) before (set mid (first + t) w) (first * b) ((t + 1) * b)
-    (block_bit direction block)
-put_more b number at direction goes before mid first t block w some within has had =
+-- the same stretch by other numbers
+pub overwrites_of : {R : Type 0} (reading : Reading R) (before after : List R) (place n at count : ℕ)
+    (now : ℕ → Bool) → place ≡ at → n ≡ count → Overwrites reading before after place n now
+    → Overwrites reading before after at count now
+overwrites_of reading before after place n at count now same_place same_count is = rw (← same_place, ← same_count) is
+
+-- one whole word more
+pub scattered_more : {R : Type 0} (b : ℕ) (number : R → ℕ) (at : ℕ → ℕ) (direction : Direction) → Goes b at direction
+    → (before mid : List R) (first k j by chunk rest : ℕ) (w : R) → 0 < b → j ≡ first + k → by ≡ k * b
+    → by + b ≤ 64 → j < length mid → IsLowered direction chunk by rest
+    → IsPlaced direction rest 0 b (number w)
+    → Overwrites (reading_in b number at) before mid (first * b) (k * b) (chunk_bit direction chunk)
+    → Overwrites (reading_in b number at) before (set mid j w) (first * b) ((k + 1) * b) (chunk_bit direction chunk)
+scattered_more b number at direction goes before mid first k j by chunk rest w some is_j is_by fits within moved
+    placed had =
     let reading = reading_in b number at in
-    let x = get_or mid (first + t) w in
-    let read : x ≡ get_or mid (first + t) x = get_or_default mid (first + t) w x within in
+    let x = get_or mid j w in
+    let read : x ≡ get_or mid j x = get_or_default mid j w x within in
     let stored : IsStored reading x w 0 b (reading.digit w) = record {
       inside = λ i _ _ small. refl;
       below = λ i none _. absurd (omega arith);
       above = λ i past small. absurd (omega arith);
     } in
-    overwrites_join reading before mid (set mid (first + t) w) (first * b) (t * b) ((first + t) * b + 0) (b - 0)
-    ((t + 1) * b) (block_bit direction block) (λ i. reading.digit w (0 + i)) (omega arith) (omega arith)
+    let row : j * b ≡ first * b + k * b = rw is_j (omega arith) in
+    overwrites_join reading before mid (set mid j w) (first * b) (k * b) (j * b + 0) (b - 0) ((k + 1) * b)
+    (chunk_bit direction chunk) (λ i. reading.digit w (0 + i)) (omega arith) (omega arith)
     (λ i low.
     let index : 0 + i ≡ i = omega arith in
-    ap (reading.digit w) index ∙ ap (digit_at (number w)) (goes i (omega arith)) ∙ has i (omega arith)) had
-    (stores_part reading mid (first + t) x w 0 b (reading.digit w) within read (omega arith) (omega arith) some stored)
-
--- two blocks joined
-pub joined_up : (first next r by : ℕ) → by < 64 → AreShifted 64 first next r by
-    → IsJoined (block_reading Ascending) first next r by
-joined_up first next r by small is = record {
-  from_first = λ i low. is.from_low i (omega arith) ∙ ap (digit_at first) (omega arith);
-  from_next = λ i high low. is.from_high i (omega arith) low ∙ ap (digit_at next) (omega arith);
-}
-
-pub joined_down : (first next r by : ℕ) → by < 64 → AreShifted 64 next first r (64 - by)
-    → IsJoined (block_reading Descending) first next r by
-joined_down first next r by small is = record {
-  from_first = λ i low. is.from_high (64 - 1 - i) (omega arith) (omega arith) ∙ ap (digit_at first) (omega arith);
-  from_next = λ i high low. is.from_low (64 - 1 - i) (omega arith) ∙ ap (digit_at next) (omega arith);
-}
-
--- a block and the word behind it, joined
-pub block_across : {R : Type 0} (b : ℕ) (number : R → ℕ) (at : ℕ → ℕ) (direction : Direction) → Goes b at direction
-    → (words : List R) (word size by block next r : ℕ) (x : R) → size * b ≡ 64 → by < b → 0 < by
-    → word + size < length words → x ≡ get_or words (word + size) x
-    → IsBlock (reading_in b number at) words (word * b) 64 direction block → HasWord b direction 0 (number x) next
-    → IsJoined (block_reading direction) block next r by
-    → (i : ℕ) → i < 64 → block_bit direction r i ≡ entry (reading_in b number at) words (word * b + by + i)
-block_across b number at direction goes words word size by block next r x all index some within read is has joined
-    i small = elim (cases_lt (by + i) 64) [
-      | inl inside ↦
-          let place : word * b + (by + i) ≡ word * b + by + i = omega arith in
-          joined.from_first i inside
-          ∙ is.inside (by + i) inside
-          ∙ ap (entry (reading_in b number at) words) place
-      | inr past ↦
-          let j : ℕ = by + i - 64 in
-          let low : j < b = omega arith in
-          let index : j ≡ 0 * b + j = omega arith in
-          let place : (word + size) * b + j ≡ word * b + by + i = omega (arith, all) in
-          joined.from_next i past small
-          ∙ ap (block_bit direction next) index
-          ∙ has.inside j low
-          ∙ ap (digit_at (number x)) (sym (goes j low))
-          ∙ entry_read (reading_in b number at) words (word + size) j x low within read
-          ∙ ap (entry (reading_in b number at) words) place
-    ]
+    let start : i - 0 ≡ i = omega arith in
+    let there : i + by ≡ k * b + i = omega arith in
+    ap (reading.digit w) index
+    ∙ ap (digit_at (number w)) (goes i (omega arith))
+    ∙ placed i (omega arith) (omega arith) (omega arith)
+    ∙ ap (chunk_bit direction rest) start
+    ∙ moved.inside i (omega arith)
+    ∙ ap (chunk_bit direction chunk) there)
+    had
+    (stores_part reading mid j x w 0 b (reading.digit w) within read (omega arith) (omega arith) some stored)
 
 -- ---- blocks moved
 
@@ -221,23 +144,30 @@ step_at b base m size by all =
     let row : m * (size * b) ≡ m * 64 = ap (λ k. m * k) all in
     omega (arith, row)
 
--- the words that it reads are some of the words
+-- what it reads, and what it writes, are some of the words
 pub step_reads : (b from m size by count words : ℕ) → size * b ≡ 64 → m < count → from * b + by + 64 * count ≤ words * b
-    → 0 < b → from + m * size + size ≤ words
-step_reads b from m size by count words all less within some =
-    let past : (from + m * size + size) * b < (words + 1) * b = omega (arith, step_at b from (m + 1) size by all) in
-    omega (arith, less_words (from + m * size + size) (words + 1) b past)
+    → (from + m * size) * b + by + 64 ≤ words * b
+step_reads b from m size by count words all less within = omega (arith, step_at b from m size by all)
 
-pub step_reads_next : (b from m size by count words : ℕ) → size * b ≡ 64 → m < count
-    → from * b + by + 64 * count ≤ words * b → 0 < by → from + m * size + size < words
-step_reads_next b from m size by count words all less within some =
-    less_words (from + m * size + size) words b (omega (arith, step_at b from (m + 1) size by all))
+pub step_writes : (b low m size count words : ℕ) → size * b ≡ 64 → m < count → low + count * size ≤ words
+    → (low + m * size) * b + 64 ≤ words * b
+step_writes b low m size count words all less within =
+    let most : (low + count * size) * b ≤ words * b = mul-le-mul_right b within in
+    omega (arith, most, step_at b low count size 0 all, step_at b low m size 0 all)
 
--- and those that it writes
-pub step_writes : (low m size count words : ℕ) → m < count → low + count * size ≤ words → low + m * size + size ≤ words
-step_writes low m size count words less within =
-    let row : (m + 1) * size ≤ count * size = mul-le-mul_right size (omega arith) in
-    omega (arith, row)
+-- and so begin in one
+pub step_begins : (b at by words : ℕ) → at * b + by + 64 ≤ words * b → at < words
+step_begins b at by words within = less_words at words b (omega arith)
+
+-- words of a block are narrow, and as many as 64 has of their bits
+pub narrow_words : (b size : ℕ) → size * b ≡ 64 → b ≤ 64
+narrow_words b zero all = absurd (omega (arith, all))
+narrow_words b (suc n) all = omega (arith, all)
+
+pub block_size : (b size : ℕ) → 0 < b → size * b ≡ 64 → 64 / b ≡ size
+block_size b size some all =
+    let whole : size * b + 0 ≡ 64 = omega (arith, all) in
+    ap (λ n. n / b) (sym whole) ∙ div-mul-add size b 0 some
 
 -- upwards, one step more
 pub moves_up : {R : Type 0} (reading : Reading R) (before now after : List R) (source target n w : ℕ) (bits : ℕ → Bool)

@@ -11,6 +11,8 @@ pub mod StoredLemmas
 pub mod PartsLemmas
 pub mod ShiftLemmas
 pub mod BlockLemmas
+pub mod ChunkLemmas
+pub mod TransferLemmas
 pub mod Changes
 pub mod Gathers
 pub mod Puts

@@ -1,16 +1,16 @@
-//! Blocks: 64 bits of words as one number, its digits in the direction in which the positions of the words go. A compiler
-//! makes one load or one store of the words of a block.
+//! Blocks: chunks of 64 bits that are whole words, and those that begin anywhere, where positions go straight. A compiler makes
+//! one load or one store of the words of a block.
 
-ghost use Rattle.std.specs.Prelude.{◌≡◌, ℕ, List, ◌+◌, ◌*◌, ◌<◌, ◌≤◌, length};
-ghost use Rattle.bit_addressing_memory.specs.Prelude.{entry, read_by, Overwrites};
-ghost use Rattle.bit_addressing_order.specs.Bits.{digit_at};
-ghost use Rattle.bit_addressing_memory.specs.Blocks.{HasWord, IsBlock, block_bit, block_reading, word_start};
+ghost use Rattle.std.specs.Prelude.{◌≡◌, ℕ, List, ◌+◌, ◌*◌, ◌/◌, ◌<◌, ◌≤◌, length, slice_set};
+ghost use Rattle.bit_addressing_memory.specs.Prelude.{read_by, Overwrites};
+ghost use Rattle.bit_addressing_memory.specs.Chunk.{chunk_bit, IsChunk};
 ghost use Rattle.bit_addressing_memory.specs.Moves.{Moves, changed};
-ghost use Rattle.bit_addressing_memory.specs.Straight.{IsJoined, straight};
 ghost use Rattle.bit_addressing_memory.specs.declared.sweep.Way.TheVariants.{Up, Down};
 
-use crate::direction::{Direction, Straight};
+use crate::chunk::{lowered, part, placed, raised};
+use crate::direction::Straight;
 use crate::sweep::Way;
+use bit_addressing_order::mem::bits_of;
 use bit_addressing_order::{BitOrder, BitRegister};
 
 // How many words make a block.
@@ -22,113 +22,82 @@ pub(crate) fn block_words<R: BitRegister>() -> u8
     64 / R::BITS
 }
 
-// The lowest position in a block of its word `t`.
+/// The bits of the words from one on, as many as make a block.
 #[inline(always)]
-fn word_start<R: BitRegister>(direction: Direction, t: u8) -> u8
-    requires { t * R.BITS + R.BITS ≤ 64 }
-    ensures { result ≡ word_start R.BITS direction t }
-{
-    match direction {
-        Direction::Ascending => t * R::BITS,
-        Direction::Descending => 64 - R::BITS - t * R::BITS,
-    }
-}
-
-// The block with a word as its word `t`, and zeros beside it.
-#[inline(always)]
-fn word_in_block<R: BitRegister>(direction: Direction, word: R, t: u8) -> u64
-    requires { t * R.BITS + R.BITS ≤ 64 }
-    ensures { HasWord R.BITS direction t (R.number word) result }
-{
-    let number = (word.value() % (1 << 64)) as u64;
-    number << word_start::<R>(direction, t)
-}
-
-// The word `t` of a block.
-#[inline(always)]
-fn word_of_block<R: BitRegister>(direction: Direction, block: u64, t: u8) -> R
-    requires { t * R.BITS + R.BITS ≤ 64 }
-    ensures { (i : ℕ) → i < R.BITS → digit_at (R.number result) (straight R.BITS direction i)
-        ≡ block_bit direction block (t * R.BITS + i) }
-{
-    R::from_value(u128::from(block >> word_start::<R>(direction, t)))
-}
-
-// The block that begins with the bits of one block from an index on, and goes on with those of the next.
-#[inline(always)]
-fn joined_blocks(direction: Direction, first: u64, next: u64, by: u8) -> u64
-    requires some { 0 < by }
-    requires within { by < 64 }
-    ensures { IsJoined (block_reading direction) first next result by }
-{
-    match direction {
-        Direction::Ascending => first >> by | next << (64 - by),
-        Direction::Descending => next >> (64 - by) | first << by,
-    }
-}
-
-// The bits of the words from one on, as many as make a block.
-#[inline(always)]
-fn block_of<R: BitRegister, O: BitOrder<R>>(
+#[tactic(auto, using(crate::proofs::BlockLemmas::word_of_chunk))]
+pub fn read_block<R: BitRegister, O: BitOrder<R>>(
     straight: Straight<R, O>,
     words: &[R],
     first: usize,
-    size: u8,
 ) -> u64
-    requires size { size * R.BITS ≡ 64 }
-    requires within { first + size ≤ length words.now }
-    ensures { IsBlock (read_by R.BitRegister O.position) words.now (first * R.BITS) 64 straight.direction result }
+    requires narrow { R.BITS ≤ 64 }
+    requires lies { first * R.BITS + 64 ≤ length words.now * R.BITS }
+    ensures { IsChunk (read_by R.BitRegister O.position) words.now (first * R.BITS) 64 straight.direction result }
 {
-    let mut block = 0u64;
-    for t in 0..size {
-        block |= word_in_block::<R>(straight.direction, words[first + t as usize], t);
+    let bits = bits_of::<R>();
+    let mut chunk = 0u64;
+    for k in 0..64 / bits {
+        let next = part::<R, O>(straight, words[first + k], 0);
+        chunk |= raised(straight.direction, next, (k * bits) as u8);
     }
-    block
+    chunk
 }
 
-// Makes the bits of the words from one on, as many as make a block, those of a block.
+/// Makes the bits of the words from one on, as many as make a block, those of a chunk.
 #[inline(always)]
-fn put_block_of<R: BitRegister, O: BitOrder<R>>(
+pub fn write_block<R: BitRegister, O: BitOrder<R>>(
     straight: Straight<R, O>,
     words: &mut [R],
     first: usize,
-    size: u8,
-    block: u64,
+    chunk: u64,
 )
-    requires size { size * R.BITS ≡ 64 }
-    requires within { first + size ≤ length words.old }
+    requires narrow { R.BITS ≤ 64 }
+    requires lies { first * R.BITS + 64 ≤ length words.old * R.BITS }
     ensures bits { Overwrites (read_by R.BitRegister O.position) words.old words.new (first * R.BITS) 64
-        (block_bit straight.direction block) }
+        (chunk_bit straight.direction chunk) }
     ensures few { (number : R → ℕ) → (others : List R)
-        → changed number others words.new ≤ changed number others words.old + size }
+        → changed number others words.new ≤ changed number others words.old + 64 / R.BITS }
 {
-    for t in 0..size {
-        words[first + t as usize] = word_of_block::<R>(straight.direction, block, t);
+    let bits = bits_of::<R>();
+    // As many words as a `usize` counts, and so each of their numbers is one.
+    let _words = words.len();
+    for k in 0..64 / bits {
+        let rest = lowered(straight.direction, chunk, (k * bits) as u8);
+        let word = placed::<R>(straight.direction, rest, 0);
+        replace(words, first + k, word);
     }
 }
 
-// The block that begins at the index `by` of a word, and goes on in the word behind it.
+// Puts a word.
 #[inline(always)]
-fn block_from<R: BitRegister, O: BitOrder<R>>(
+fn replace<R: BitRegister>(words: &mut [R], at: usize, word: R)
+    requires { at < length words.old }
+    ensures { words.new ≡ slice_set words.old at word }
+{
+    words[at] = word;
+}
+
+/// The 64 bits from an index of a word on.
+#[inline(always)]
+#[tactic(auto, using(crate::proofs::BlockLemmas::next_word))]
+pub fn read_block_from<R: BitRegister, O: BitOrder<R>>(
     straight: Straight<R, O>,
     words: &[R],
-    word: usize,
-    by: usize,
-    size: u8,
+    first: usize,
+    by: u8,
 ) -> u64
-    requires size { size * R.BITS ≡ 64 }
+    requires narrow { R.BITS ≤ 64 }
     requires index { by < R.BITS }
-    requires first { word + size ≤ length words.now }
-    requires next { 0 < by → word + size < length words.now }
-    ensures { (i : ℕ) → i < 64 → block_bit straight.direction result i
-        ≡ entry (read_by R.BitRegister O.position) words.now (word * R.BITS + by + i) }
+    requires lies { first * R.BITS + by + 64 ≤ length words.now * R.BITS }
+    ensures { IsChunk (read_by R.BitRegister O.position) words.now (first * R.BITS + by) 64 straight.direction result }
 {
-    let block = block_of::<R, O>(straight, words, word, size);
+    let low = read_block::<R, O>(straight, words, first);
     if by == 0 {
-        return block;
+        return low;
     }
-    let next = word_in_block::<R>(straight.direction, words[word + size as usize], 0);
-    joined_blocks(straight.direction, block, next, by as u8)
+    let behind = first + 64 / bits_of::<R>();
+    let next = part::<R, O>(straight, words[behind], 0);
+    lowered(straight.direction, low, by) | raised(straight.direction, next, 64 - by)
 }
 
 // Moves bits by so many blocks, those from the index `by` of the word `from` on to the word `low` and those behind it. In a
@@ -190,14 +159,14 @@ fn move_blocks_by<R: BitRegister, O: BitOrder<R>>(
     match way {
         Way::Up => {
             'up: for m in 0..count {
-                let block = block_from::<R, O>(straight, words, from + m * step, by, size);
-                put_block_of::<R, O>(straight, words, low + m * step, size, block);
+                let block = read_block_from::<R, O>(straight, words, from + m * step, by as u8);
+                write_block::<R, O>(straight, words, low + m * step, block);
             }
         }
         Way::Down => {
             'down: for m in (0..count).rev() {
-                let block = block_from::<R, O>(straight, words, from + m * step, by, size);
-                put_block_of::<R, O>(straight, words, low + m * step, size, block);
+                let block = read_block_from::<R, O>(straight, words, from + m * step, by as u8);
+                write_block::<R, O>(straight, words, low + m * step, block);
             }
         }
     }

@@ -2,6 +2,7 @@
 
 ghost use Rattle.std.specs.Prelude.{◌≡◌, ◌<◌, ◌↔◌, IsTrue, MatchOption};
 ghost use Rattle.bit_addressing_memory.specs.declared.direction.Direction.{Direction};
+ghost use Rattle.bit_addressing_memory.specs.Chunk.{IsOwn};
 ghost use Rattle.bit_addressing_memory.specs.Straight.{Goes, straight};
 
 use bit_addressing_order::{BitRegister, Positions};
@@ -73,6 +74,17 @@ impl<R: BitRegister, P: Positions<R>> Straight<R, P> {
             Some(direction) => Some(Self::new(direction)),
             None => None,
         }
+    }
+}
+
+/// The direction in which chunks of an order are had without a turn: that of its positions where they go straight, else up.
+#[inline(always)]
+pub fn direction_for<R: BitRegister, P: Positions<R>>() -> Direction
+    ensures { IsOwn R.BITS P.position result }
+{
+    match Straight::<R, P>::find() {
+        Some(straight) => straight.direction,
+        None => Direction::Ascending,
     }
 }
 

@@ -10,12 +10,12 @@ ghost use Rattle.bit_addressing_memory.specs.Sweep.{reads_of};
 ghost use Rattle.bit_addressing_memory.specs.Ways.{way_for};
 
 use crate::bulk_ops::{BulkOp, bit_loop_limit};
-use crate::direction::Straight;
+use crate::direction::{Straight, direction_for};
 use crate::entry::{read_bit, write_bit};
-use crate::limbs::with_bits;
 use crate::one_place::put_straight;
 use crate::shifted::with_shifted;
 use crate::sweep::{Sweep, Way};
+use crate::transfer::with_part;
 use bit_addressing_order::mem::bits_of;
 use bit_addressing_order::{BitIdx, BitOrder, BitRegister};
 
@@ -202,35 +202,30 @@ fn taken_by_limbs<R: BitRegister, O: BitOrder<R>>(
     ensures same { SameButReads sweep.old sweep.new }
     ensures lender { sweep_lender sweep.new ≡ sweep_lender sweep.old }
 {
-    if upto <= 64 {
-        return taken_limb::<R, O>(sweep, 0, place, own, from, upto);
+    if upto <= 64 || from >= 64 {
+        return taken_chunk::<R, O>(sweep, place, own, from, upto);
     }
-    if from >= 64 {
-        return taken_limb::<R, O>(sweep, 64, place, own, from, upto);
-    }
-    let begun = taken_limb::<R, O>(sweep, 0, place, own, from, 64);
+    let begun = taken_chunk::<R, O>(sweep, place, own, from, 64);
 
     // As many as a `u64` counts.
     let _read = sweep.reads();
     let behind = place + (64 - from) as usize;
-    taken_limb::<R, O>(sweep, 64, behind, begun, 64, upto)
+    taken_chunk::<R, O>(sweep, behind, begun, 64, upto)
 }
 
-// The same of indices in one limb, that from the index `base` on: one step that counts a read for each of its bits.
+// The same of up to 64 bits: one step that counts a read for each of its bits.
 #[inline(always)]
 #[tactic(auto, using(crate::proofs::PlaceLemmas::touched_few, crate::proofs::PlaceLemmas::touched_some))]
-fn taken_limb<R: BitRegister, O: BitOrder<R>>(
+fn taken_chunk<R: BitRegister, O: BitOrder<R>>(
     sweep: &mut Sweep<'_, R>,
-    base: u8,
     place: usize,
     own: R,
     from: u8,
     upto: u8,
 ) -> R
-    requires limb { base + min 64 R.BITS ≤ R.BITS }
-    requires low { base ≤ from }
     requires order { from < upto }
-    requires high { upto ≤ base + min 64 R.BITS }
+    requires index { upto ≤ R.BITS }
+    requires few { upto ≤ from + 64 }
     requires lies { Lies R.BITS (sweep_words sweep.old) place (upto - from) }
     ensures stored { IsStored (read_by R.BitRegister O.position) own result from upto
         (λ i. entry (read_by R.BitRegister O.position) (sweep_words sweep.old) (place + (i - from))) }
@@ -239,8 +234,9 @@ fn taken_limb<R: BitRegister, O: BitOrder<R>>(
     ensures same { SameButReads sweep.old sweep.new }
     ensures lender { sweep_lender sweep.new ≡ sweep_lender sweep.old }
 {
-    let bits = sweep.read_bits::<O>(place, (upto - from) as usize);
-    with_bits::<R, O>(own, base, from, upto, bits)
+    let direction = direction_for::<R, O>();
+    let chunk = sweep.read_bits::<O>(direction, place, (upto - from) as usize);
+    with_part::<R, O>(direction, own, from, upto, chunk)
 }
 
 // The same bit by bit: each is read by itself.

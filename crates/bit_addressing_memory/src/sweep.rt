@@ -5,14 +5,14 @@
 
 ghost use Rattle.std.specs.Prelude.{◌≡◌, ◌≢◌, ℕ, List, ◌+◌, ◌-◌, ◌*◌, ◌^◌, ◌<◌, ◌≤◌, length, min, slice_index_or, slice_set};
 ghost use Rattle.bit_addressing_memory.specs.Prelude.{Lies, read_by, touched};
-ghost use Rattle.bit_addressing_memory.specs.Limbs.{HasEntries};
+ghost use Rattle.bit_addressing_memory.specs.Chunk.{IsChunk, IsOwn};
 ghost use Rattle.bit_addressing_memory.specs.Moves.{Moves, changed};
 ghost use Rattle.bit_addressing_memory.specs.declared.sweep.Way.TheVariants.{Up, Down};
 ghost use Rattle.bit_addressing_memory.specs.Ways.{ArePast, IsPast, IsWithin, edge_after, passed, way_for};
 
 use crate::blocks::move_blocks;
-use crate::direction::Straight;
-use crate::limbs::bits_in;
+use crate::direction::{Direction, Straight};
+use crate::transfer::read_counted;
 use bit_addressing_order::mem::bits_of;
 use bit_addressing_order::{BitOrder, BitRegister};
 
@@ -198,14 +198,19 @@ impl<'a, R: BitRegister> Sweep<'a, R> {
         move_blocks::<R, O>(straight, self.words, self.way, from, by, low, count, size);
     }
 
-    // The `count` bits from a place on, 1 to 64, in any lawful order, as one number, as `bits_in` reads them. A read is
-    // counted for each word that they touch, or for each half of a word of 128 bits.
-    #[inline(always)]
-    pub(crate) fn read_bits<O: BitOrder<R>>(&mut self, place: usize, count: usize) -> u64
+    // The `count` bits from a place on, 1 to 64, as a chunk, as `read_counted` reads them. A read is counted for each word
+    // that they touch, or for each half of a word of 128 bits.
+    pub(crate) fn read_bits<O: BitOrder<R>>(
+        &mut self,
+        direction: Direction,
+        place: usize,
+        count: usize,
+    ) -> u64
+        requires own { IsOwn R.BITS O.position direction }
         requires some { 0 < count }
         requires few { count ≤ 64 }
         requires lies { Lies R.BITS (sweep_words self.old) place count }
-        ensures digits { HasEntries (read_by R.BitRegister O.position) (sweep_words self.old) place count result }
+        ensures digits { IsChunk (read_by R.BitRegister O.position) (sweep_words self.old) place count direction result }
         ensures reads { reads_of self.new
             ≡ min (reads_of self.old + touched (min 64 R.BITS) place count) (2 ^ 64 - 1) }
         ensures same { SameButReads self.old self.new }
@@ -213,9 +218,9 @@ impl<'a, R: BitRegister> Sweep<'a, R> {
     {
         let bits = bits_of::<R>().min(64);
         let limbs = (place + count - 1) / bits + 1 - place / bits;
-        let number = bits_in::<R, O>(self.all(), place, count);
+        let chunk = read_counted::<R, O>(direction, self.all(), place, count).0;
         self.reads = self.reads.saturating_add(limbs as u64);
-        number
+        chunk
     }
 
     /// How many of the first `count` words, which are there, hold the number of `word` before the first one that does not.

@@ -13,7 +13,7 @@ use Rattle.bit_addressing_memory.specs.declared.direction.Direction.{Direction}
 use Rattle.bit_addressing_memory.specs.declared.direction.Direction.TheVariants.{Ascending, Descending}
 use Rattle.bit_addressing_memory.specs.Straight.{straight, Goes}
 use Rattle.bit_addressing_memory.proofs.EntryLemmas.{entry_read}
-use Rattle.bit_slice_chunks.specs.Chunk.{digits_in, HoldsDigits, IsChunk, IsCut, IsPart, ReadsDigits}
+use Rattle.bit_addressing_memory.specs.Chunk.{digits_in, HoldsDigits, IsChunk, IsCut, IsPart, ReadsDigits}
 
 -- no digit from m on
 small_from_digits : (n m : ℕ) → n < 2 ^ 64 → m ≤ 64 → ((i : ℕ) → m ≤ i → i < 64 → bit_at n i ≡ 0) → n < 2 ^ m
@@ -47,7 +47,7 @@ digits_read Descending reading words place n chunk any few fits is = record {
 pub digits_in_word : {R : Type 0} (b : ℕ) (number : R → ℕ) (at : ℕ → ℕ) (direction : Direction) → Goes b at direction
     → (words : List R) (word from n below chunk d : ℕ) (x : R) → 0 < n → n ≤ 64 → from + n ≤ b → d < 2 ^ 64
     → below + straight n direction 0 ≡ straight b direction from
-    → IsPart Ascending b (number x) below chunk → IsCut Ascending chunk n d → word < length words
+    → IsPart (reading_in b number (λ i. i)) x below b Ascending chunk → IsCut Ascending chunk n d → word < length words
     → x ≡ get_or words word x → ReadsDigits (reading_in b number at) words (word * b + from) n direction d
 digits_in_word b number at Ascending goes words word from n below chunk d x any few within fits starts is cut low read = record {
   digits = λ i inside.

@@ -1,7 +1,7 @@
 //! Numbers and the chunks that hold their digits: the lowest first in one direction, the highest in the other.
 
 ghost use Rattle.std.specs.Prelude.{◌≡◌, ◌<◌, ◌≤◌};
-ghost use Rattle.bit_slice_chunks.specs.Chunk.{digits_in, HoldsDigits};
+ghost use Rattle.bit_addressing_memory.specs.Chunk.{digits_in, HoldsDigits};
 
 use bit_addressing_memory::Direction;
 

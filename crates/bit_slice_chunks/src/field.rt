@@ -3,13 +3,13 @@
 
 ghost use Rattle.std.specs.Prelude.{◌≡◌, ◌+◌, ◌*◌, ◌%◌, ◌<◌, ◌≤◌, length, true};
 ghost use Rattle.bit_addressing_memory.specs.Prelude.{Lies, read_by, Overwrites};
-ghost use Rattle.bit_slice_chunks.specs.Chunk.{chunk_bit, IsChunk};
+ghost use Rattle.bit_addressing_memory.specs.Chunk.{chunk_bit, IsChunk};
 
-use crate::chunk::{first_bits, lowered};
-use crate::transfer::{has_chunk, read_counted, write_bits};
-use crate::whole::{read_chunk, read_within, write_within};
+use crate::transfer::{has_chunk, write_own};
+use crate::whole::{read_whole, read_within, write_within};
+use bit_addressing_memory::chunk::{first_bits, lowered};
 use bit_addressing_memory::mem::bits_of;
-use bit_addressing_memory::{BitOrder, BitRegister, Straight};
+use bit_addressing_memory::{BitOrder, BitRegister, Straight, read_counted};
 
 // Whether the words from one on make a chunk: they have up to 64 bits, and there are enough.
 #[inline(always)]
@@ -46,7 +46,7 @@ pub fn read_field<R: BitRegister, O: BitOrder<R>>(
         return read_within::<R, O>(straight, words, first, from as u8, count as u8);
     }
     if has_chunk::<R>(words, place) {
-        let chunk = read_chunk::<R, O>(straight, words, place);
+        let chunk = read_whole::<R, O>(straight, words, place, 0);
         return first_bits(straight.direction, chunk, count as u8);
     }
     read_last::<R, O>(straight, words, place, count)
@@ -54,6 +54,7 @@ pub fn read_field<R: BitRegister, O: BitOrder<R>>(
 
 // The same of the last bits of a memory. Out of line, so that the others are read by a short function.
 #[inline(never)]
+#[tactic(auto, using(bit_addressing_memory::proofs::TransferLemmas::own_goes))]
 fn read_last<R: BitRegister, O: BitOrder<R>>(
     straight: Straight<R, O>,
     words: &[R],
@@ -65,7 +66,7 @@ fn read_last<R: BitRegister, O: BitOrder<R>>(
     requires lies { Lies R.BITS words.now place count }
     ensures { IsChunk (read_by R.BitRegister O.position) words.now place count straight.direction result }
 {
-    read_counted::<R, O>(straight, words, place, count).0
+    read_counted::<R, O>(straight.direction, words, place, count).0
 }
 
 // The first of the words that make the 64 bits in which a place lies.
@@ -80,6 +81,7 @@ fn block_of<R: BitRegister>(place: usize) -> usize
 
 /// Makes the `count` bits of a memory from a place on those of a chunk, as `write_bits` does.
 #[inline(always)]
+#[tactic(auto, using(bit_addressing_memory::proofs::TransferLemmas::own_goes))]
 pub fn write_field<R: BitRegister, O: BitOrder<R>>(
     straight: Straight<R, O>,
     words: &mut [R],
@@ -94,7 +96,7 @@ pub fn write_field<R: BitRegister, O: BitOrder<R>>(
         (chunk_bit straight.direction chunk) }
 {
     if R::BITS > 64 {
-        write_bits::<R, O>(straight, words, place, count, chunk);
+        write_own::<R, O>(straight.direction, words, place, count, chunk);
         return;
     }
     let first = block_of::<R>(place);
@@ -116,6 +118,7 @@ pub fn write_field<R: BitRegister, O: BitOrder<R>>(
 
 // The same of the last bits of a memory. Out of line, so that the others are written by a short function.
 #[inline(never)]
+#[tactic(auto, using(bit_addressing_memory::proofs::TransferLemmas::own_goes))]
 fn write_last<R: BitRegister, O: BitOrder<R>>(
     straight: Straight<R, O>,
     words: &mut [R],
@@ -129,5 +132,5 @@ fn write_last<R: BitRegister, O: BitOrder<R>>(
     ensures { Overwrites (read_by R.BitRegister O.position) words.old words.new place count
         (chunk_bit straight.direction chunk) }
 {
-    write_bits::<R, O>(straight, words, place, count, chunk);
+    write_own::<R, O>(straight.direction, words, place, count, chunk);
 }

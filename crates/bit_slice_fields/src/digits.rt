@@ -344,7 +344,7 @@ fn gathered_by_pieces<T: BitRegister, O: BitOrder<T>>(view: BitSlice<'_, T, O>, 
     let mut from = 0;
     while from < len {
         let piece = piece_of(cut, bits, len, from);
-        let chunk = read_bits::<T, O>(straight, words, head as usize + from, piece.len);
+        let chunk = read_bits::<T, O>(straight.direction, words, head as usize + from, piece.len);
         let more = digits_of(straight.direction, chunk, piece.len as u8);
         digits = with_piece(digits, more, piece.weight);
         from += piece.len;
@@ -418,7 +418,7 @@ fn scatter_by_pieces<T: BitRegister, O: BitOrder<T>>(
     while from < len {
         let piece = piece_of(cut, bits, len, from);
         let chunk = chunk_from(digits, cut.low, piece.weight, piece.len);
-        write_bits::<T, O>(straight, words, place + from, piece.len, chunk);
+        write_bits::<T, O>(straight.direction, words, place + from, piece.len, chunk);
         from += piece.len;
     }
 }

@@ -52,8 +52,8 @@ fn move_rest<R: BitRegister, O: BitOrder<R>>(
     ensures { Copies (read_by R.BitRegister O.position) words.old words.new
         (read_by R.BitRegister O.position) words.old source target count }
 {
-    let chunk = read_bits::<R, O>(straight, words, source, count);
-    write_bits::<R, O>(straight, words, target, count, chunk);
+    let chunk = read_bits::<R, O>(straight.direction, words, source, count);
+    write_bits::<R, O>(straight.direction, words, target, count, chunk);
 }
 
 // Copies 64 bits to another place of the same memory.
@@ -70,8 +70,8 @@ fn move_chunk<R: BitRegister, O: BitOrder<R>>(
     ensures { Copies (read_by R.BitRegister O.position) words.old words.new
         (read_by R.BitRegister O.position) words.old source target 64 }
 {
-    let chunk = read_chunk::<R, O>(straight, words, source);
-    write_chunk::<R, O>(straight, words, target, chunk);
+    let chunk = read_chunk::<R, O>(straight.direction, words, source);
+    write_chunk::<R, O>(straight.direction, words, target, chunk);
 }
 
 // Copies bits towards lower places, the lowest first.
@@ -205,10 +205,10 @@ fn swap_rest<R: BitRegister, O: BitOrder<R>>(
     ensures to_others { Copies (read_by R.BitRegister O.position) others.old others.new
         (read_by R.BitRegister O.position) words.old place other_place count }
 {
-    let chunk = read_bits::<R, O>(straight, words, place, count);
-    let other = read_bits::<R, O>(straight, others, other_place, count);
-    write_bits::<R, O>(straight, words, place, count, other);
-    write_bits::<R, O>(straight, others, other_place, count, chunk);
+    let chunk = read_bits::<R, O>(straight.direction, words, place, count);
+    let other = read_bits::<R, O>(straight.direction, others, other_place, count);
+    write_bits::<R, O>(straight.direction, words, place, count, other);
+    write_bits::<R, O>(straight.direction, others, other_place, count, chunk);
 }
 
 // Exchanges 64 bits.
@@ -228,10 +228,10 @@ fn swap_chunk<R: BitRegister, O: BitOrder<R>>(
     ensures to_others { Copies (read_by R.BitRegister O.position) others.old others.new
         (read_by R.BitRegister O.position) words.old place other_place 64 }
 {
-    let chunk = read_chunk::<R, O>(straight, words, place);
-    let other = read_chunk::<R, O>(straight, others, other_place);
-    write_chunk::<R, O>(straight, words, place, other);
-    write_chunk::<R, O>(straight, others, other_place, chunk);
+    let chunk = read_chunk::<R, O>(straight.direction, words, place);
+    let other = read_chunk::<R, O>(straight.direction, others, other_place);
+    write_chunk::<R, O>(straight.direction, words, place, other);
+    write_chunk::<R, O>(straight.direction, others, other_place, chunk);
 }
 
 /// Exchanges the bits of two stretches, a step for each 64.

@@ -55,7 +55,7 @@ pub(crate) fn first_in_block<R: BitRegister, O: BitOrder<R>>(
     ensures { IsFirst (bit_found (read_by R.BitRegister O.position) words.now bit)
         (place + 64 * k) (place + 64 * k + 64) result }
 {
-    let chunk = read_nth_chunk::<R, O>(straight, words, place, k);
+    let chunk = read_nth_chunk::<R, O>(straight.direction, words, place, k);
     let before = first_difference(straight.direction, chunk, chunk_without(bit));
     if before < 64 {
         Some(place + 64 * k + before)

@@ -1,8 +1,8 @@
 use Rattle.std.proofs.Common.{◌≡◌, ◌+◌, ◌-◌, ◌*◌, ◌/◌, ◌%◌, ◌≤◌, length, ap, ◌∙◌, arith}
 use Rattle.bit_addressing_memory.specs.Prelude.{read_by}
-use Rattle.bit_slice_chunks.specs.Chunk.{chunk_bit}
-use Rattle.bit_slice_chunks.proofs.TransferLemmas.{less_words, overwrites_join}
-use Rattle.bit_slice_chunks.proofs.WholeLemmas.{words_of_64, overwrites_of}
+use Rattle.bit_addressing_memory.specs.Chunk.{chunk_bit}
+use Rattle.bit_addressing_memory.proofs.TransferLemmas.{less_words, overwrites_join}
+use Rattle.bit_addressing_memory.proofs.BlockLemmas.{words_of_64, overwrites_of}
 use Rattle.bit_slice_chunks.proofs.field.write_field.Goals as goal
 
 pub has_block-requires-then-count-inner-2 : goal.has_block-requires-then-count-inner-2

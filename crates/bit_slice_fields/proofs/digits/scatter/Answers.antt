@@ -1,7 +1,7 @@
 use Rattle.std.proofs.Common.{◌≡◌, ℕ, ◌+◌, ◌*◌, ◌/◌, ◌%◌, refl, arith}
 use Rattle.bit_addressing_memory.specs.Bits.{digit_at}
 use Rattle.bit_addressing_memory.specs.Memory.{read_by}
-use Rattle.bit_slice_chunks.proofs.TransferLemmas.{first_word, write_none}
+use Rattle.bit_addressing_memory.proofs.TransferLemmas.{first_word, write_none}
 use Rattle.bit_slice_fields.specs.Digits.{cut_weight}
 use Rattle.bit_slice_fields.specs.Pieces.{way_for}
 use Rattle.bit_slice_fields.proofs.PieceLemmas.{scattered_piece}

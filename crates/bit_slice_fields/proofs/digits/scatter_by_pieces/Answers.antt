@@ -1,7 +1,7 @@
 use Rattle.std.proofs.Common.{◌≡◌, ◌+◌, refl, subst, arith}
 use Rattle.bit_addressing_memory.specs.Bits.{digit_at}
 use Rattle.bit_addressing_memory.specs.Memory.{read_by, Overwrites}
-use Rattle.bit_slice_chunks.proofs.TransferLemmas.{write_none}
+use Rattle.bit_addressing_memory.proofs.TransferLemmas.{write_none}
 use Rattle.bit_slice_fields.specs.Digits.{cut_weight}
 use Rattle.bit_slice_fields.specs.Pieces.{way_for}
 use Rattle.bit_slice_fields.proofs.PieceLemmas.{scattered_piece}

@@ -2,12 +2,11 @@
 --
 -- `words_of_64`, `word_fits`, `small_words`: how many words make a block. `has_word`, `word_has`: one word in a block.
 -- `block_none`, `block_more`, `block_whole`: words read into a block. `put_more`: a block written, a word more.
--- `blocks_joined`: two blocks joined.
+-- `block_across`: a block joined with the word behind it. `block_run`: which words of a move blocks put.
 use Rattle.bit_addressing_memory.proofs.Common.{◌≡◌, ℕ, ◌+◌, ◌-◌, ◌*◌, ◌/◌, ◌%◌, ◌^◌, ◌==◌, ◌<◌, ◌≤◌, Bool}
 use Rattle.bit_addressing_memory.proofs.Common.{false, List, length, get_or, set, bit_or, refl, sym, ap, ◌∙◌, inl, inr, arith}
 use Rattle.bit_addressing_memory.proofs.Common.{cases_lt, cases_eq, Reading, entry, reading_in, Overwrites, IsStored}
 use Rattle.std.proofs.Math.Nat.{mul-le-mul_right}
-use Rattle.std.proofs.lemmas.List.{get_or_default}
 use Rattle.std.proofs.lemmas.Nat.{div-add-mod'}
 use Rattle.std.proofs.lemmas.Nat.Bits.{bit_at_above, bit_at-zero}
 use Rattle.std.specs.Int.{bit_at}
@@ -15,15 +14,18 @@ use Rattle.bit_addressing_order.specs.Bits.{digit_at}
 use Rattle.bit_addressing_order.specs.BitRegister.{IsRegisterSize}
 use Rattle.bit_addressing_memory.specs.Blocks.{HasWord, IsBlock, block_bit, block_reading, word_start}
 use Rattle.bit_addressing_memory.specs.Moves.{Moves}
-use Rattle.bit_addressing_memory.specs.ShiftSteps.{AreShifted}
 use Rattle.bit_addressing_memory.specs.Straight.{Goes, IsJoined, straight}
 use Rattle.bit_addressing_memory.specs.declared.direction.Direction.{Direction}
 use Rattle.bit_addressing_memory.specs.declared.direction.Direction.TheVariants.{Ascending, Descending}
 use Rattle.bit_addressing_memory.proofs.EntryLemmas.{entry_read}
 use Rattle.bit_addressing_memory.proofs.LimbLemmas.{or_left, or_right}
 use Rattle.bit_addressing_memory.proofs.OverwriteLemmas.{overwrites_join}
-use Rattle.bit_addressing_memory.proofs.PartsLemmas.{stores_part}
-use Rattle.bit_addressing_memory.proofs.ShiftedWords.{less_words}
+use Rattle.bit_addressing_memory.proofs.PartsLemmas.{stores_whole}
+use Rattle.bit_addressing_memory.proofs.ShiftedWords.{less_words, run_part}
+use Rattle.bit_addressing_memory.specs.MoveSteps.{IsRun}
+use Rattle.bit_addressing_memory.specs.Ways.{by_way}
+use Rattle.bit_addressing_memory.specs.declared.sweep.Way.{Way}
+use Rattle.bit_addressing_memory.proofs.WayLemmas.{by_way_low}
 use Rattle.bit_addressing_memory.proofs.ShiftLemmas.{bit_at_shr, bit_at_cut, bit_at_shl_low, bit_at_shl_high}
 
 -- words of at most 64 bits make up 64
@@ -157,34 +159,12 @@ pub put_more : {R : Type 0} (b : ℕ) (number : R → ℕ) (at : ℕ → ℕ) (d
     (block_bit direction block)
 put_more b number at direction goes before mid first t block w some within has had =
     let reading = reading_in b number at in
-    let x = get_or mid (first + t) w in
-    let read : x ≡ get_or mid (first + t) x = get_or_default mid (first + t) w x within in
-    let stored : IsStored reading x w 0 b (reading.digit w) = record {
-      inside = λ i _ _ small. refl;
-      below = λ i none _. absurd (omega arith);
-      above = λ i past small. absurd (omega arith);
-    } in
     overwrites_join reading before mid (set mid (first + t) w) (first * b) (t * b) ((first + t) * b + 0) (b - 0)
     ((t + 1) * b) (block_bit direction block) (λ i. reading.digit w (0 + i)) (omega arith) (omega arith)
     (λ i low.
     let index : 0 + i ≡ i = omega arith in
     ap (reading.digit w) index ∙ ap (digit_at (number w)) (goes i (omega arith)) ∙ has i (omega arith)) had
-    (stores_part reading mid (first + t) x w 0 b (reading.digit w) within read (omega arith) (omega arith) some stored)
-
--- two blocks joined
-pub joined_up : (first next r by : ℕ) → by < 64 → AreShifted 64 first next r by
-    → IsJoined (block_reading Ascending) first next r by
-joined_up first next r by small is = record {
-  from_first = λ i low. is.from_low i (omega arith) ∙ ap (digit_at first) (omega arith);
-  from_next = λ i high low. is.from_high i (omega arith) low ∙ ap (digit_at next) (omega arith);
-}
-
-pub joined_down : (first next r by : ℕ) → by < 64 → AreShifted 64 next first r (64 - by)
-    → IsJoined (block_reading Descending) first next r by
-joined_down first next r by small is = record {
-  from_first = λ i low. is.from_high (64 - 1 - i) (omega arith) (omega arith) ∙ ap (digit_at first) (omega arith);
-  from_next = λ i high low. is.from_low (64 - 1 - i) (omega arith) ∙ ap (digit_at next) (omega arith);
-}
+    (stores_whole reading mid (first + t) w within some)
 
 -- a block and the word behind it, joined
 pub block_across : {R : Type 0} (b : ℕ) (number : R → ℕ) (at : ℕ → ℕ) (direction : Direction) → Goes b at direction
@@ -276,22 +256,13 @@ moves_down reading before now after source target n w bits order is had wrote = 
 pub whole_steps : (size n : ℕ) → n / size * size ≤ n
 whole_steps size n = omega (arith, div-add-mod' n size)
 
--- whole blocks end before the words do
-pub blocks_end : (b low high size end : ℕ) → size * b ≡ 64 → low ≤ high → high * b ≤ end
-    → low * b + 64 * ((high - low) / size) ≤ end
-blocks_end b low high size end all order ends =
-    let count : ℕ = (high - low) / size in
-    let most : low + count * size ≤ high = omega (arith, whole_steps size (high - low)) in
-    let row : (low + count * size) * b ≤ high * b = mul-le-mul_right b most in
-    let bits : count * (size * b) ≡ count * 64 = ap (λ k. count * k) all in
-    omega (arith, row, bits)
-
--- the last whole blocks end where the words do
-pub blocks_from : (b low high size : ℕ) → size * b ≡ 64 → low ≤ high
-    → (low + (high - low - (high - low) / size * size)) * b + 64 * ((high - low) / size) ≡ high * b
-blocks_from b low high size all order =
-    let count : ℕ = (high - low) / size in
-    let whole : low + (high - low - count * size) + count * size ≡ high = omega (arith, whole_steps size (high - low)) in
-    let row : (low + (high - low - count * size) + count * size) * b ≡ high * b = ap (λ k. k * b) whole in
-    let bits : count * (size * b) ≡ count * 64 = ap (λ k. count * k) all in
-    omega (arith, row, bits)
+-- the words of a run that whole blocks put, the first of them by way
+pub block_run : (w : Way) (b source target len low high word by size start : ℕ)
+    → start ≡ by_way w low (high - (high - low) / size * size) → IsRun b source target len low high word by
+    → IsRun b source target len start (start + (high - low) / size * size) (word + (start - low)) by
+block_run w b source target len low high word by size start at run =
+    let done : ℕ = (high - low) / size * size in
+    let most : low + done ≤ high = omega (arith, whole_steps size (high - low), run.order) in
+    let ends = by_way_low w low (high - done) (omega arith) in
+    run_part b source target len low high word by start (start + done) (rw at ends.0) (omega arith)
+    (omega (arith, at, ends.1, most)) run

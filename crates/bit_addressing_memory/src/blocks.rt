@@ -7,11 +7,12 @@ ghost use Rattle.bit_addressing_order.specs.Bits.{digit_at};
 ghost use Rattle.bit_addressing_memory.specs.Blocks.{HasWord, IsBlock, block_bit, block_reading, word_start};
 ghost use Rattle.bit_addressing_memory.specs.Moves.{Moves, changed};
 ghost use Rattle.bit_addressing_memory.specs.Straight.{IsJoined, straight};
-ghost use Rattle.bit_addressing_memory.specs.declared.sweep.Way.TheVariants.{Up, Down};
+ghost use Rattle.bit_addressing_memory.specs.Ways.{ReadsFirst};
 
 use crate::direction::{Direction, Straight};
+use crate::shift::joined;
 use crate::sweep::Way;
-use bit_addressing_order::{BitOrder, BitRegister};
+use bit_addressing_order::{BitOrder, BitRegister, Lsb0, Msb0};
 
 // How many words make a block.
 #[inline(always)]
@@ -62,8 +63,8 @@ fn joined_blocks(direction: Direction, first: u64, next: u64, by: u8) -> u64
     ensures { IsJoined (block_reading direction) first next result by }
 {
     match direction {
-        Direction::Ascending => first >> by | next << (64 - by),
-        Direction::Descending => next >> (64 - by) | first << by,
+        Direction::Ascending => joined::<u64, Lsb0>(direction, first, next, by),
+        Direction::Descending => joined::<u64, Msb0>(direction, first, next, by),
     }
 }
 
@@ -131,8 +132,7 @@ fn block_from<R: BitRegister, O: BitOrder<R>>(
     joined_blocks(straight.direction, block, next, by as u8)
 }
 
-// Moves bits by so many blocks, those from the index `by` of the word `from` on to the word `low` and those behind it. In a
-// function out of line a compiler finds the direction anew.
+// Moves bits by so many blocks, those from the index `by` of the word `from` on to the word `low` and those behind it.
 #[inline(always)]
 pub(crate) fn move_blocks<R: BitRegister, O: BitOrder<R>>(
     straight: Straight<R, O>,
@@ -145,39 +145,7 @@ pub(crate) fn move_blocks<R: BitRegister, O: BitOrder<R>>(
     size: u8,
 )
     requires size { size * R.BITS ≡ 64 }
-    requires ahead { way ≡ Up → low * R.BITS ≤ from * R.BITS + by }
-    requires behind { way ≡ Down → from * R.BITS + by ≤ low * R.BITS }
-    requires index { by < R.BITS }
-    requires source { from * R.BITS + by + 64 * count ≤ length words.old * R.BITS }
-    requires within { low + count * size ≤ length words.old }
-    ensures moved { Moves (read_by R.BitRegister O.position) words.old words.new (from * R.BITS + by) (low * R.BITS)
-        (64 * count) }
-    ensures few { (number : R → ℕ) → (others : List R)
-        → changed number others words.new ≤ changed number others words.old + count * size }
-{
-    let known = straight.again();
-    if by == 0 {
-        move_blocks_by::<R, O>(known, words, way, from, 0, low, count, size);
-    } else {
-        move_blocks_by::<R, O>(known, words, way, from, by, low, count, size);
-    }
-}
-
-// The same in line.
-#[inline(always)]
-fn move_blocks_by<R: BitRegister, O: BitOrder<R>>(
-    straight: Straight<R, O>,
-    words: &mut [R],
-    way: Way,
-    from: usize,
-    by: usize,
-    low: usize,
-    count: usize,
-    size: u8,
-)
-    requires size { size * R.BITS ≡ 64 }
-    requires ahead { way ≡ Up → low * R.BITS ≤ from * R.BITS + by }
-    requires behind { way ≡ Down → from * R.BITS + by ≤ low * R.BITS }
+    requires order { ReadsFirst way (from * R.BITS + by) (low * R.BITS) }
     requires index { by < R.BITS }
     requires source { from * R.BITS + by + 64 * count ≤ length words.old * R.BITS }
     requires within { low + count * size ≤ length words.old }

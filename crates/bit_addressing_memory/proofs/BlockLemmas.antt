@@ -5,7 +5,7 @@
 -- `block_across`: a block joined with the word behind it. `block_run`: which words of a move blocks put.
 use Rattle.bit_addressing_memory.proofs.Common.{◌≡◌, ℕ, ◌+◌, ◌-◌, ◌*◌, ◌/◌, ◌%◌, ◌^◌, ◌==◌, ◌<◌, ◌≤◌, Bool}
 use Rattle.bit_addressing_memory.proofs.Common.{false, List, length, get_or, set, bit_or, refl, sym, ap, ◌∙◌, inl, inr, arith}
-use Rattle.bit_addressing_memory.proofs.Common.{cases_lt, cases_eq, Reading, entry, reading_in, Overwrites, IsStored}
+use Rattle.bit_addressing_memory.proofs.Common.{cases_lt, cases_eq, Reading, entry, reading_in, Overwrites}
 use Rattle.std.proofs.Math.Nat.{mul-le-mul_right}
 use Rattle.std.proofs.lemmas.Nat.{div-add-mod'}
 use Rattle.std.proofs.lemmas.Nat.Bits.{bit_at_above, bit_at-zero}

@@ -3,7 +3,7 @@
 -- `moved_bit_inside`, `moved_bit_below`, `moved_bit_above`: what the move leaves at a place.
 -- `gathered_of`: the word whole, of one stored in a part. `few_reads`: how many words were read for it.
 use Rattle.bit_addressing_memory.proofs.Common.{◌≡◌, ℕ, ◌+◌, ◌-◌, ◌*◌, ◌^◌, ◌<◌, ◌≤◌, min, Bool, List, length, get_or}
-use Rattle.bit_addressing_memory.proofs.Common.{Option, Some, None, ap, sym, ◌∙◌, inl, inr, arith, cases_lt, touched}
+use Rattle.bit_addressing_memory.proofs.Common.{Option, Some, None, sym, ◌∙◌, inl, inr, arith, cases_lt, touched}
 use Rattle.bit_addressing_memory.proofs.Common.{Reading, entry, IsStored}
 use Rattle.std.specs.Prelude.{IfSome}
 use Rattle.std.proofs.lemmas.Bool.Decides.{nat_tests}

@@ -19,7 +19,7 @@ use Rattle.bit_addressing_memory.proofs.Gathers.{moved_bit_inside}
 use Rattle.bit_addressing_memory.proofs.PlaceLemmas.{begins_before, begins_behind}
 use Rattle.bit_addressing_memory.proofs.ShiftedWords.{less_words}
 use Rattle.bit_addressing_memory.proofs.Sweeps.{swept_more, swept_none, swept_one, swept_over}
-use Rattle.bit_addressing_memory.proofs.WayLemmas.{by_way_low, by_way_sum, edge_more, edge_put, fresh_past, next_past}
+use Rattle.bit_addressing_memory.proofs.WayLemmas.{by_way_sum, edge_more, edge_put, fresh_past, next_past}
 use Rattle.bit_addressing_memory.proofs.WayLemmas.{part_past, reads_first}
 
 -- ---- which words may be put

@@ -28,7 +28,7 @@ use bit_addressing_order::{BitIdx, BitOrder, BitRegister};
 /// Where the positions go straight with the indices, up or down over the whole word, each word is made
 /// by shifts, and at most three words are read for each that the target touches.
 #[inline(always)]
-#[tactic(auto, using(crate::proofs::Changes::unchanged))]
+#[tactic(auto, using(crate::proofs::Changes::unchanged, crate::proofs::Puts::can_all))]
 pub fn move_in<R: BitRegister, O: BitOrder<R>>(
     sweep: &mut Sweep<'_, R>,
     source: usize,
@@ -61,9 +61,24 @@ pub fn move_in<R: BitRegister, O: BitOrder<R>>(
     let first = target / bits;
     let last = (target + len - 1) / bits;
     match Straight::<R, O>::find() {
-        Some(straight) => put_straight::<R, O>(sweep, straight, first, last, source, target, len),
+        Some(straight) => {
+            let task = BitMove {
+                source,
+                target,
+                len,
+            };
+            put_straight::<R, O>(sweep, straight, first, last, task);
+        }
         None => put_gathered::<R, O>(sweep, first, last, source, target, len),
     }
+}
+
+// A move of `len` bits from the place `source` on to the place `target` on.
+#[derive(Clone, Copy)]
+pub(crate) struct BitMove {
+    pub(crate) source: usize,
+    pub(crate) target: usize,
+    pub(crate) len: usize,
 }
 
 // Puts the words from `first` to `last`, their bits gathered by limbs, or one by one.

@@ -9,7 +9,7 @@ ghost use Rattle.bit_addressing_memory.specs.Ways.{AreNear, by_way};
 
 use crate::direction::Straight;
 use crate::masking::stored;
-use crate::moves::part_of;
+use crate::moves::{BitMove, part_of};
 use crate::shift::{joined, raised};
 use crate::sweep::{Sweep, Way};
 use bit_addressing_order::mem::bits_of;
@@ -22,15 +22,13 @@ pub(crate) fn near_word<R: BitRegister, O: BitOrder<R>>(
     straight: Straight<R, O>,
     way: Way,
     k: usize,
-    source: usize,
-    target: usize,
-    len: usize,
+    task: BitMove,
 ) -> R
-    requires near { AreNear way source target }
-    requires can { CanPut R.BITS sweep.old source target len k (k + 1) }
-    ensures { Gathers (read_by R.BitRegister O.position) 3 sweep.old sweep.new source target len k result }
+    requires near { AreNear way task.source task.target }
+    requires can { CanPut R.BITS sweep.old task.source task.target task.len k (k + 1) }
+    ensures { Gathers (read_by R.BitRegister O.position) 3 sweep.old sweep.new task.source task.target task.len k result }
 {
-    let (from, upto) = part_of::<R>(k, target, len);
+    let (from, upto) = part_of::<R>(k, task.target, task.len);
     let own = sweep.read(k);
     let beside = bits_beside::<R, O>(sweep, straight, way, k, own, from, upto);
     let head = BitIdx::new_unchecked(from as u8);

@@ -15,7 +15,7 @@ use crate::blocks::block_words;
 use crate::bulk_ops::MOVED_BY_BLOCKS;
 use crate::direction::Straight;
 use crate::masking::stored;
-use crate::moves::put_word;
+use crate::moves::{BitMove, put_word};
 use crate::one_place::near_word;
 use crate::shift::{joined, raised};
 use crate::sweep::{Sweep, Way, by_way};
@@ -24,74 +24,30 @@ use bit_addressing_order::{BitEnd, BitIdx, BitOrder, BitRegister};
 
 // Puts the words from `first` to `last`, by shifts of one where source and target lie one place apart.
 #[inline(always)]
+#[tactic(auto, using(crate::proofs::WayLemmas::goes_down, crate::proofs::WayLemmas::goes_up))]
 pub(crate) fn put_straight<R: BitRegister, O: BitOrder<R>>(
     sweep: &mut Sweep<'_, R>,
     straight: Straight<R, O>,
     first: usize,
     last: usize,
-    source: usize,
-    target: usize,
-    len: usize,
+    task: BitMove,
 )
     requires order { first ≤ last }
-    requires can { CanPut R.BITS sweep.old source target len first (last + 1) }
-    ensures { PutsWords (read_by R.BitRegister O.position) 3 sweep.old sweep.new source target len first (last + 1) }
+    requires can { CanPut R.BITS sweep.old task.source task.target task.len first (last + 1) }
+    ensures { PutsWords (read_by R.BitRegister O.position) 3 sweep.old sweep.new task.source task.target task.len
+        first (last + 1) }
 {
-    if source + 1 == target {
-        put_words::<R, O>(
-            sweep,
-            straight,
-            Way::Down,
-            true,
-            first,
-            last,
-            source,
-            target,
-            len,
-        );
+    if task.source + 1 == task.target {
+        put_words::<R, O>(sweep, straight, Way::Down, true, first, last, task);
         return;
     }
-    if target + 1 == source {
-        put_words::<R, O>(
-            sweep,
-            straight,
-            Way::Up,
-            true,
-            first,
-            last,
-            source,
-            target,
-            len,
-        );
+    if task.target + 1 == task.source {
+        put_words::<R, O>(sweep, straight, Way::Up, true, first, last, task);
         return;
     }
     match sweep.way() {
-        Way::Up => {
-            put_words::<R, O>(
-                sweep,
-                straight,
-                Way::Up,
-                false,
-                first,
-                last,
-                source,
-                target,
-                len,
-            );
-        }
-        Way::Down => {
-            put_words::<R, O>(
-                sweep,
-                straight,
-                Way::Down,
-                false,
-                first,
-                last,
-                source,
-                target,
-                len,
-            );
-        }
+        Way::Up => put_words::<R, O>(sweep, straight, Way::Up, false, first, last, task),
+        Way::Down => put_words::<R, O>(sweep, straight, Way::Down, false, first, last, task),
     }
 }
 
@@ -104,34 +60,22 @@ fn put_words<R: BitRegister, O: BitOrder<R>>(
     near: bool,
     first: usize,
     last: usize,
-    source: usize,
-    target: usize,
-    len: usize,
+    task: BitMove,
 )
     requires way { way_of sweep.old ≡ way }
-    requires near { near ≡ true → AreNear way source target }
+    requires near { near ≡ true → AreNear way task.source task.target }
     requires order { first ≤ last }
-    requires can { CanPut R.BITS sweep.old source target len first (last + 1) }
-    ensures { PutsWords (read_by R.BitRegister O.position) 3 sweep.old sweep.new source target len first (last + 1) }
+    requires can { CanPut R.BITS sweep.old task.source task.target task.len first (last + 1) }
+    ensures { PutsWords (read_by R.BitRegister O.position) 3 sweep.old sweep.new task.source task.target task.len
+        first (last + 1) }
 {
     let head = by_way(way, first, last);
-    put_end::<R, O>(sweep, straight, way, near, head, source, target, len);
+    put_end::<R, O>(sweep, straight, way, near, head, task);
     if first < last {
-        let (word, by) = run_start::<R>(way, near, first, source, target, len);
-        put_run::<R, O>(
-            sweep,
-            straight,
-            way,
-            first + 1,
-            last,
-            word,
-            by,
-            source,
-            target,
-            len,
-        );
+        let (word, by) = run_start::<R>(way, near, first, task);
+        put_run::<R, O>(sweep, straight, way, first + 1, last, word, by, task);
         let tail = by_way(way, last, first);
-        put_end::<R, O>(sweep, straight, way, near, tail, source, target, len);
+        put_end::<R, O>(sweep, straight, way, near, tail, task);
     }
 }
 
@@ -143,19 +87,18 @@ fn put_end<R: BitRegister, O: BitOrder<R>>(
     way: Way,
     near: bool,
     k: usize,
-    source: usize,
-    target: usize,
-    len: usize,
+    task: BitMove,
 )
-    requires near { near ≡ true → AreNear way source target }
-    requires can { CanPut R.BITS sweep.old source target len k (k + 1) }
-    ensures { PutsWords (read_by R.BitRegister O.position) 3 sweep.old sweep.new source target len k (k + 1) }
+    requires near { near ≡ true → AreNear way task.source task.target }
+    requires can { CanPut R.BITS sweep.old task.source task.target task.len k (k + 1) }
+    ensures { PutsWords (read_by R.BitRegister O.position) 3 sweep.old sweep.new task.source task.target task.len
+        k (k + 1) }
 {
     if near {
-        let word = near_word::<R, O>(sweep, straight, way, k, source, target, len);
+        let word = near_word::<R, O>(sweep, straight, way, k, task);
         sweep.put(k, word);
     } else {
-        put_edge::<R, O>(sweep, straight, k, source, target, len);
+        put_edge::<R, O>(sweep, straight, k, task.source, task.target, task.len);
     }
 }
 
@@ -177,25 +120,18 @@ fn put_edge<R: BitRegister, O: BitOrder<R>>(
 
 // Where the bits of the word behind `first` come from: the word that the first of them lies in, and its index there.
 #[inline(always)]
-fn run_start<R: BitRegister>(
-    way: Way,
-    near: bool,
-    first: usize,
-    source: usize,
-    target: usize,
-    len: usize,
-) -> (usize, usize)
-    requires near { near ≡ true → AreNear way source target }
-    requires begins { target < first * R.BITS + R.BITS }
-    requires ends { first * R.BITS + R.BITS ≤ target + len }
-    requires source_ends { source + len < 2 ^ 64 }
-    requires target_ends { target + len < 2 ^ 64 }
+fn run_start<R: BitRegister>(way: Way, near: bool, first: usize, task: BitMove) -> (usize, usize)
+    requires near { near ≡ true → AreNear way task.source task.target }
+    requires begins { task.target < first * R.BITS + R.BITS }
+    requires ends { first * R.BITS + R.BITS ≤ task.target + task.len }
+    requires source_ends { task.source + task.len < 2 ^ 64 }
+    requires target_ends { task.target + task.len < 2 ^ 64 }
     ensures index { result.1 < R.BITS }
-    ensures first { result.0 * R.BITS + result.1 ≡ source + ((first + 1) * R.BITS - target) }
+    ensures first { result.0 * R.BITS + result.1 ≡ task.source + ((first + 1) * R.BITS - task.target) }
 {
     let bits = bits_of::<R>();
     if !near {
-        let place = source + ((first + 1) * bits - target);
+        let place = task.source + ((first + 1) * bits - task.target);
         return (place / bits, place % bits);
     }
     match way {
@@ -214,45 +150,24 @@ fn put_run<R: BitRegister, O: BitOrder<R>>(
     high: usize,
     word: usize,
     by: usize,
-    source: usize,
-    target: usize,
-    len: usize,
+    task: BitMove,
 )
     requires way { way_of sweep.old ≡ way }
-    requires run { IsRun R.BITS source target len low high word by }
-    requires can { CanPut R.BITS sweep.old source target len low high }
-    ensures { PutsWords (read_by R.BitRegister O.position) 3 sweep.old sweep.new source target len low high }
+    requires run { IsRun R.BITS task.source task.target task.len low high word by }
+    requires can { CanPut R.BITS sweep.old task.source task.target task.len low high }
+    ensures { PutsWords (read_by R.BitRegister O.position) 3 sweep.old sweep.new task.source task.target task.len
+        low high }
 {
-    let done = put_blocks::<R, O>(
-        sweep, straight, way, low, high, word, by, source, target, len,
-    );
+    let done = put_blocks::<R, O>(sweep, straight, way, low, high, word, by, task);
     match way {
         Way::Up => {
             'up: for k in low + done..high {
-                put_whole::<R, O>(
-                    sweep,
-                    straight,
-                    k,
-                    word + (k - low),
-                    by,
-                    source,
-                    target,
-                    len,
-                );
+                put_whole::<R, O>(sweep, straight, k, word + (k - low), by, task);
             }
         }
         Way::Down => {
             'down: for k in (low..high - done).rev() {
-                put_whole::<R, O>(
-                    sweep,
-                    straight,
-                    k,
-                    word + (k - low),
-                    by,
-                    source,
-                    target,
-                    len,
-                );
+                put_whole::<R, O>(sweep, straight, k, word + (k - low), by, task);
             }
         }
     }
@@ -269,15 +184,13 @@ fn put_blocks<R: BitRegister, O: BitOrder<R>>(
     high: usize,
     word: usize,
     by: usize,
-    source: usize,
-    target: usize,
-    len: usize,
+    task: BitMove,
 ) -> usize
     requires way { way_of sweep.old ≡ way }
-    requires run { IsRun R.BITS source target len low high word by }
-    requires can { CanPut R.BITS sweep.old source target len low high }
+    requires run { IsRun R.BITS task.source task.target task.len low high word by }
+    requires can { CanPut R.BITS sweep.old task.source task.target task.len low high }
     ensures most { low + result ≤ high }
-    ensures put { PutsWords (read_by R.BitRegister O.position) 3 sweep.old sweep.new source target len
+    ensures put { PutsWords (read_by R.BitRegister O.position) 3 sweep.old sweep.new task.source task.target task.len
         (by_way way low (high - result)) (by_way way (low + result) high) }
 {
     if R::BITS >= 64 || high - low < MOVED_BY_BLOCKS {
@@ -299,13 +212,12 @@ fn put_whole<R: BitRegister, O: BitOrder<R>>(
     k: usize,
     word: usize,
     by: usize,
-    source: usize,
-    target: usize,
-    len: usize,
+    task: BitMove,
 )
-    requires run { IsRun R.BITS source target len k (k + 1) word by }
-    requires can { CanPut R.BITS sweep.old source target len k (k + 1) }
-    ensures { PutsWords (read_by R.BitRegister O.position) 3 sweep.old sweep.new source target len k (k + 1) }
+    requires run { IsRun R.BITS task.source task.target task.len k (k + 1) word by }
+    requires can { CanPut R.BITS sweep.old task.source task.target task.len k (k + 1) }
+    ensures { PutsWords (read_by R.BitRegister O.position) 3 sweep.old sweep.new task.source task.target task.len
+        k (k + 1) }
 {
     let whole = cut::<R, O>(sweep, straight, word, by);
     sweep.put(k, whole);

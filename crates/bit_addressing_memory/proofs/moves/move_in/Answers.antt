@@ -1,19 +1,6 @@
 use Rattle.bit_addressing_memory.proofs.Common.{arith, read_by}
-use Rattle.bit_addressing_memory.proofs.Puts.{can_all}
 use Rattle.bit_addressing_memory.proofs.Sweeps.{moved_all}
 use Rattle.bit_addressing_memory.proofs.moves.move_in.Goals as goal
-
-pub put_straight-requires-clause-can : goal.put_straight-requires-clause-can
-put_straight-requires-clause-can g c =
-    can_all g.R.BitRegister.BITS c.bits_of-bits.result c.args.sweep.now c.args.source c.args.target c.args.len
-    c.bits_of-bits.ensures (omega (arith, g.met.R.BitRegister.least_bits)) (omega arith) c.requires.fresh
-    c.requires.source_within c.requires.source_ends c.requires.target_within c.requires.target_ends
-
-pub put_gathered-requires-clause-can : goal.put_gathered-requires-clause-can
-put_gathered-requires-clause-can g c =
-    can_all g.R.BitRegister.BITS c.bits_of-bits.result c.args.sweep.now c.args.source c.args.target c.args.len
-    c.bits_of-bits.ensures (omega (arith, g.met.R.BitRegister.least_bits)) (omega arith) c.requires.fresh
-    c.requires.source_within c.requires.source_ends c.requires.target_within c.requires.target_ends
 
 pub returns-in-Some-clause-moved : goal.returns-in-Some-clause-moved
 returns-in-Some-clause-moved g c =

@@ -1,4 +1,4 @@
-use Rattle.bit_addressing_memory.proofs.Common.{arith, ◌≡◌, ◌+◌, ◌-◌, ◌≤◌, sym, read_by}
+use Rattle.bit_addressing_memory.proofs.Common.{arith, ◌≡◌, ◌+◌, ◌-◌, sym, read_by}
 use Rattle.bit_addressing_memory.proofs.Puts.{can_step, puts_none, puts_step}
 use Rattle.bit_addressing_memory.proofs.moves.put_gathered.Goals as goal
 

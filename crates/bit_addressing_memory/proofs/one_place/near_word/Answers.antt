@@ -1,4 +1,4 @@
-use Rattle.bit_addressing_memory.proofs.Common.{◌≡◌, ◌+◌, ◌-◌, ◌*◌, ◌≤◌, ap, ◌∙◌, arith, entry, read_by}
+use Rattle.bit_addressing_memory.proofs.Common.{◌+◌, ◌-◌, ◌*◌, ◌≤◌, ap, ◌∙◌, arith, entry, read_by}
 use Rattle.bit_addressing_memory.specs.Sweep.{reads_of, sweep_words}
 use Rattle.bit_addressing_memory.specs.Ways.{by_way}
 use Rattle.bit_addressing_memory.proofs.Gathers.{gathered_of}
@@ -16,15 +16,15 @@ returns g c =
     let part = c.part_of-from.ensures in
     record {
       digits =
-          gathered_of reading words k c.args.source c.args.target c.args.len c.part_of-from.result.0
+          gathered_of reading words k c.args.task.source c.args.task.target c.args.task.len c.part_of-from.result.0
           c.part_of-from.result.1 c.read-own.result c.stored.result (reading.digit c.bits_beside-beside.result)
-          (can_word reading.bits s c.args.source c.args.target c.args.len k c.requires.can) c.read-own.ensures.value part
+          (can_word reading.bits s c.args.task.source c.args.task.target c.args.task.len k c.requires.can) c.read-own.ensures.value part
           (λ i high low.
-          let inside : c.args.target ≤ k * reading.bits + i = omega (arith, part.from_is, high) in
+          let inside : c.args.task.target ≤ k * reading.bits + i = omega (arith, part.from_is, high) in
           c.bits_beside-beside.ensures.digits i high low
           ∙ ap (λ ws. entry reading ws (by_way c.args.way (k * reading.bits + i + 1) (k * reading.bits + i - 1)))
           c.read-own.ensures.same.words
-          ∙ ap (entry reading words) (near_place c.args.way c.args.source c.args.target (k * reading.bits + i)
+          ∙ ap (entry reading words) (near_place c.args.way c.args.task.source c.args.task.target (k * reading.bits + i)
           c.requires.near inside))
           (rw (c.new_unchecked-head.ensures, c.new_unchecked-tail.ensures) at c.stored.ensures);
       reads = omega (

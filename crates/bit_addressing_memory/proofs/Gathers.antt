@@ -1,6 +1,6 @@
 -- One word of a move.
 --
--- `moved_bit_inside`, `moved_bit_below`, `moved_bit_above`: what the move leaves at a place.
+-- `moved_bit_inside`, `moved_bit_outside`: what the move leaves at a place.
 -- `gathered_of`: the word whole, of one stored in a part. `few_reads`: how many words were read for it.
 use Rattle.bit_addressing_memory.proofs.Common.{◌≡◌, ℕ, ◌+◌, ◌-◌, ◌*◌, ◌^◌, ◌<◌, ◌≤◌, min, Bool, List, length, get_or}
 use Rattle.bit_addressing_memory.proofs.Common.{Option, Some, None, sym, ◌∙◌, inl, inr, arith, cases_lt, touched}
@@ -17,15 +17,10 @@ pub moved_bit_inside : {R : Type 0} (reading : Reading R) (before : List R) (sou
 unfolding moved_bit
 moved_bit_inside reading before source target len p h g = grind (arith, nat_tests)
 
-pub moved_bit_below : {R : Type 0} (reading : Reading R) (before : List R) (source target len p : ℕ)
-    → p < target → moved_bit reading before source target len p ≡ entry reading before p
+pub moved_bit_outside : {R : Type 0} (reading : Reading R) (before : List R) (source target len p : ℕ)
+    → (target ≤ p → target + len ≤ p) → moved_bit reading before source target len p ≡ entry reading before p
 unfolding moved_bit
-moved_bit_below reading before source target len p h = grind (arith, nat_tests)
-
-pub moved_bit_above : {R : Type 0} (reading : Reading R) (before : List R) (source target len p : ℕ)
-    → target + len ≤ p → moved_bit reading before source target len p ≡ entry reading before p
-unfolding moved_bit
-moved_bit_above reading before source target len p h = grind (arith, nat_tests)
+moved_bit_outside reading before source target len p out = grind (arith, nat_tests)
 
 -- a word that has the source's bits where the target lies, and its own beside them
 pub gathered_of : {R : Type 0} (reading : Reading R) (before : List R) (k source target len from upto : ℕ) (own word : R)
@@ -39,7 +34,7 @@ gathered_of reading before k source target len from upto own word now within rea
       | inl low ↦
           stored.below i low small
           ∙ old
-          ∙ sym (moved_bit_below reading before source target len place (omega (arith, part.from_is)))
+          ∙ sym (moved_bit_outside reading before source target len place (λ start. absurd (omega (arith, part.from_is))))
       | inr high ↦ elim (cases_lt i upto) [
         | inl inside ↦
             stored.inside i high inside small
@@ -49,7 +44,7 @@ gathered_of reading before k source target len from upto own word now within rea
         | inr past ↦
             stored.above i past small
             ∙ old
-            ∙ sym (moved_bit_above reading before source target len place (omega (arith, part.upto_is)))
+            ∙ sym (moved_bit_outside reading before source target len place (λ _. omega (arith, part.upto_is)))
       ]
     ]
 

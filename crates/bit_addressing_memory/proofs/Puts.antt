@@ -1,7 +1,7 @@
 -- Words of a move put by a sweep, some after others.
 --
 -- `can_all`, `can_part`, `can_next`, `can_word`: which words it may put, at first and when some are put. `puts_none`, `puts_one`: no
--- word, and one that was gathered. `puts_more`: more words, either way. `puts_step`, `can_step`: the same of a loop by way.
+-- word, and one that was gathered. `puts_more`: more words, either way. `puts_step`: one more in a loop by way.
 -- `puts_three`: those between two ends, and these. `puts_moved`: many at once.
 use Rattle.bit_addressing_memory.proofs.Common.{◌≡◌, ℕ, ◌+◌, ◌-◌, ◌*◌, ◌/◌, ◌^◌, ◌<◌, ◌≤◌, List, length, set, refl, sym, ap}
 use Rattle.bit_addressing_memory.proofs.Common.{subst, ◌∙◌, arith, Reading, entry}
@@ -153,32 +153,31 @@ puts_more w reading most s t u source target len low mid high is order under ove
       lender = next.lender ∙ had.lender;
     }
 
--- a step of a loop over all words, by way
-pub can_step : {R : Type 0} (w : Way) (reading : Reading R) (most : ℕ) (s t : Sweep R)
+-- a step of a loop over all words, by way: the next one may be put, and what is put with it
+pub puts_step : {R : Type 0} (w : Way) (reading : Reading R) (most : ℕ) (s t : Sweep R)
     (source target len first last m k : ℕ) → way_of s ≡ w → first ≤ m → m ≤ last → k ≡ by_way w m (last - (m - first))
     → CanPut reading.bits s source target len first (last + 1)
     → PutsWords reading most s t source target len (by_way w first (last + 1 - (m - first))) (by_way w m (last + 1))
     → CanPut reading.bits t source target len k (k + 1)
-can_step Up reading most s t source target len first last m k is from upto at can had =
-    can_next Up reading.bits s t source target len first (last + 1) first m k (k + 1) is (omega arith) (omega arith)
-    (omega arith) can had.way had.swept.words had.edge
-can_step Down reading most s t source target len first last m k is from upto at can had =
-    can_next Down reading.bits s t source target len first (last + 1) (last + 1 - (m - first)) (last + 1) k (k + 1) is
-    (omega arith) (omega arith) (omega arith) can had.way had.swept.words had.edge
-
-pub puts_step : {R : Type 0} (w : Way) (reading : Reading R) (most : ℕ) (s t u : Sweep R)
-    (source target len first last m k : ℕ) → way_of s ≡ w → first ≤ m → m ≤ last → k ≡ by_way w m (last - (m - first))
-    → CanPut reading.bits s source target len first (last + 1)
-    → PutsWords reading most s t source target len (by_way w first (last + 1 - (m - first))) (by_way w m (last + 1))
-    → PutsWords reading most t u source target len k (k + 1)
-    → PutsWords reading most s u source target len (by_way w first (last + 1 - (m + 1 - first))) (by_way w (m + 1) (last + 1))
-puts_step Up reading most s t u source target len first last m k is from upto at can had next =
-    puts_more Up reading most s t u source target len first m (m + 1) is can.order from (omega arith) had (rw at at next)
-puts_step Down reading most s t u source target len first last m k is from upto at can had next =
+    × ((u : Sweep R) → PutsWords reading most t u source target len k (k + 1)
+    → PutsWords reading most s u source target len (by_way w first (last + 1 - (m + 1 - first)))
+    (by_way w (m + 1) (last + 1)))
+puts_step Up reading most s t source target len first last m k is from upto at can had = (
+  can_next Up reading.bits s t source target len first (last + 1) first m k (k + 1) is (omega arith) (omega arith)
+      (omega arith) can had.way had.swept.words had.edge,
+  λ u next.
+      puts_more Up reading most s t u source target len first m (m + 1) is can.order from (omega arith) had
+      (rw at at next),
+)
+puts_step Down reading most s t source target len first last m k is from upto at can had =
     let here : last + 1 - (m + 1 - first) ≡ k = omega arith in
-    let end : last + 1 - (m - first) ≡ k + 1 = omega arith in
-    rw here (puts_more Down reading most s t u source target len k (k + 1) (last + 1) is can.order (omega arith)
-    (omega arith) (rw end at had) next)
+    let end : last + 1 - (m - first) ≡ k + 1 = omega arith in (
+      can_next Down reading.bits s t source target len first (last + 1) (last + 1 - (m - first)) (last + 1) k (k + 1) is
+          (omega arith) (omega arith) (omega arith) can had.way had.swept.words had.edge,
+      λ u next.
+          rw here (puts_more Down reading most s t u source target len k (k + 1) (last + 1) is can.order (omega arith)
+          (omega arith) (rw end at had) next),
+    )
 
 -- the first word by way, those between, and the last
 pub puts_three : {R : Type 0} (w : Way) (reading : Reading R) (most : ℕ) (s t u v : Sweep R)

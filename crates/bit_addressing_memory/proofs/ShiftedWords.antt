@@ -1,31 +1,19 @@
 -- One word of a move, by shifts.
 --
--- `begins_aligned`, `begins_inside`, `begins_across`: a word that begins with the bits from a place on, of one word or
--- of two. `whole_word`: such a word is the word of a move. `place_at`: where a place lies. `less_words`, `word_within`:
--- what is read is there. `run_part`: some words of a run.
-use Rattle.bit_addressing_memory.proofs.Common.{◌≡◌, ℕ, ◌+◌, ◌-◌, ◌*◌, ◌/◌, ◌%◌, ◌<◌, ◌≤◌, List, length, get_or}
+-- `begins_inside`, `begins_across`: a word that begins with the bits from a place on, of one word or of two. `whole_word`:
+-- such a word is the word of a move. `less_words`: what is read is there. `run_part`: some words of a run.
+use Rattle.bit_addressing_memory.proofs.Common.{◌≡◌, ℕ, ◌+◌, ◌-◌, ◌*◌, ◌<◌, ◌≤◌, List, length, get_or}
 use Rattle.bit_addressing_memory.proofs.Common.{sym, ap, ◌∙◌, inl, inr, arith, cases_lt, Reading, entry}
 use Rattle.std.proofs.Math.Nat.{mul-le-mul_right}
-use Rattle.std.proofs.lemmas.Nat.{div-add-mod', div_below}
 use Rattle.bit_addressing_memory.proofs.EntryLemmas.{entry_read}
+use Rattle.bit_addressing_memory.proofs.PlaceLemmas.{word_within}
 use Rattle.bit_addressing_memory.specs.Straight.{IsJoined}
 use Rattle.bit_addressing_memory.specs.MoveSteps.{BeginsWith, IsGathered, IsRun}
 use Rattle.bit_addressing_memory.proofs.Gathers.{moved_bit_inside}
 
 -- fewer words where there are fewer bits
 pub less_words : (x y w : ℕ) → x * w < y * w → x < y
-less_words x y w less = elim (cases_lt x y) [
-  | inl low ↦ low
-  | inr high ↦ absurd (omega (arith, mul-le-mul_right w high))
-]
-
--- where a place lies in its word
-pub place_at : (w b p : ℕ) → b ≡ w → p / b * w + p % b ≡ p
-place_at w b p is = rw is (div-add-mod' p w)
-
--- the word of a place is one of the words
-pub word_within : (w b p n words : ℕ) → b ≡ w → 0 < w → 0 < n → p + n ≤ words * w → p / b < words
-word_within w b p n words is some any within = rw is (div_below p w words some (omega arith))
+less_words x y w less = word_within w x 0 y (omega arith)
 
 -- some of the words of a run
 pub run_part : (b source target len low high word by x y : ℕ) → low ≤ x → x ≤ y → y ≤ high
@@ -42,31 +30,16 @@ run_part b source target len low high word by x y from order upto run =
       first = omega (arith, row, start, run.begins, run.first);
     }
 
--- a word read that begins at the place
-pub begins_aligned : {R : Type 0} (reading : Reading R) (words : List R) (p n j : ℕ) (first : R)
-    → j * reading.bits ≡ p → n ≤ reading.bits → j < length words → first ≡ get_or words j first
-    → BeginsWith reading words p n first
-begins_aligned reading words p n j first at most within read i low =
-    let place : j * reading.bits + i ≡ p + i = omega arith in
-    entry_read reading words j i first (omega arith) within read ∙ ap (entry reading words) place
-
--- the first digits of two words joined
-from_one : {R : Type 0} (reading : Reading R) (words : List R) (p j q i : ℕ) (first next word : R)
-    → j * reading.bits + q ≡ p → q + i < reading.bits → j < length words
-    → first ≡ get_or words j first → IsJoined reading first next word q
-    → reading.digit word i ≡ entry reading words (p + i)
-from_one reading words p j q i first next word at low within read joined =
-    let place : j * reading.bits + (q + i) ≡ p + i = omega arith in
-    joined.from_first i low
-    ∙ entry_read reading words j (q + i) first low within read
-    ∙ ap (entry reading words) place
-
 -- bits that lie in one word
-pub begins_inside : {R : Type 0} (reading : Reading R) (words : List R) (p n j q : ℕ) (first next word : R)
-    → j * reading.bits + q ≡ p → q + n ≤ reading.bits → j < length words
-    → first ≡ get_or words j first → IsJoined reading first next word q → BeginsWith reading words p n word
-begins_inside reading words p n j q first next word at most within read joined i low =
-    from_one reading words p j q i first next word at (omega arith) within read joined
+pub begins_inside : {R : Type 0} (reading : Reading R) (words : List R) (p n j q : ℕ) (first word : R)
+    → j * reading.bits + q ≡ p → q + n ≤ reading.bits → j < length words → first ≡ get_or words j first
+    → ((i : ℕ) → q + i < reading.bits → reading.digit word i ≡ reading.digit first (q + i))
+    → BeginsWith reading words p n word
+begins_inside reading words p n j q first word at most within read is i low =
+    let place : j * reading.bits + (q + i) ≡ p + i = omega arith in
+    is i (omega arith)
+    ∙ entry_read reading words j (q + i) first (omega arith) within read
+    ∙ ap (entry reading words) place
 
 -- bits that go on in the next word
 pub begins_across : {R : Type 0} (reading : Reading R) (words : List R) (p n j q : ℕ) (first next word : R)
@@ -75,7 +48,9 @@ pub begins_across : {R : Type 0} (reading : Reading R) (words : List R) (p n j q
     → BeginsWith reading words p n word
 begins_across reading words p n j q first next word at index_low most within read read_next joined i low =
     elim (cases_lt (q + i) reading.bits) [
-      | inl one ↦ from_one reading words p j q i first next word at one (omega arith) read joined
+      | inl one ↦
+          begins_inside reading words p (i + 1) j q first word at (omega arith) (omega arith) read joined.from_first i
+          (omega arith)
       | inr other ↦
           let index : ℕ = q + i - reading.bits in
           let place : (j + 1) * reading.bits + index ≡ p + i = omega arith in

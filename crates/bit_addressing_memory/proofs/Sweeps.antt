@@ -18,7 +18,7 @@ use Rattle.bit_addressing_memory.specs.declared.sweep.Way.{Way}
 use Rattle.bit_addressing_memory.specs.declared.sweep.Way.TheVariants.{Up, Down}
 use Rattle.bit_addressing_memory.specs.Ways.{ReadsFirst, by_way}
 use Rattle.bit_addressing_memory.specs.MoveSteps.{moved_bit, IsGathered, Swept}
-use Rattle.bit_addressing_memory.proofs.Gathers.{moved_bit_inside, moved_bit_below, moved_bit_above}
+use Rattle.bit_addressing_memory.proofs.Gathers.{moved_bit_inside, moved_bit_outside}
 
 -- where the places that it reads are as before, the move leaves the same
 moved_bit_same : {R : Type 0} (reading : Reading R) (before now : List R) (source target len p : ℕ)
@@ -28,9 +28,9 @@ moved_bit_same : {R : Type 0} (reading : Reading R) (before now : List R) (sourc
 unfolding moved_bit
 moved_bit_same reading before now source target len p own other = elim (cases_lt p target) [
   | inl h ↦
-      moved_bit_below reading now source target len p h
+      moved_bit_outside reading now source target len p (λ start. absurd (omega arith))
       ∙ own
-      ∙ sym (moved_bit_below reading before source target len p h)
+      ∙ sym (moved_bit_outside reading before source target len p (λ start. absurd (omega arith)))
   | inr h ↦ ap₂ (cond (nat_le target p && nat_lt p (target + len))) (other h) own
 ]
 
@@ -132,10 +132,10 @@ moved_all reading before now source target len bits some any is had =
           ∙ ap (λ q. entry reading before (source + q)) back;
       below = λ p h. elim (cases_lt p (target / bits * reading.bits)) [
         | inl g ↦ had.others p (λ k. absurd (omega arith))
-        | inr g ↦ had.written p g (omega arith) ∙ moved_bit_below reading before source target len p h
+        | inr g ↦ had.written p g (omega arith) ∙ moved_bit_outside reading before source target len p (λ start. absurd (omega arith))
       ];
       above = λ p h. elim (cases_lt p (end * reading.bits)) [
-        | inl g ↦ had.written p (omega arith) g ∙ moved_bit_above reading before source target len p h
+        | inl g ↦ had.written p (omega arith) g ∙ moved_bit_outside reading before source target len p (λ _. h)
         | inr g ↦ had.others p (λ _. g)
       ];
       words = had.words;

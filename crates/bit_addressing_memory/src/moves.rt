@@ -60,16 +60,14 @@ pub fn move_in<R: BitRegister, O: BitOrder<R>>(
     let bits = bits_of::<R>();
     let first = target / bits;
     let last = (target + len - 1) / bits;
+    let task = BitMove {
+        source,
+        target,
+        len,
+    };
     match Straight::<R, O>::find() {
-        Some(straight) => {
-            let task = BitMove {
-                source,
-                target,
-                len,
-            };
-            put_straight::<R, O>(sweep, straight, first, last, task);
-        }
-        None => put_gathered::<R, O>(sweep, first, last, source, target, len),
+        Some(straight) => put_straight::<R, O>(sweep, straight, first, last, task),
+        None => put_gathered::<R, O>(sweep, first, last, task),
     }
 }
 
@@ -86,19 +84,17 @@ fn put_gathered<R: BitRegister, O: BitOrder<R>>(
     sweep: &mut Sweep<'_, R>,
     first: usize,
     last: usize,
-    source: usize,
-    target: usize,
-    len: usize,
+    task: BitMove,
 )
     requires order { first ≤ last }
-    requires can { CanPut R.BITS sweep.old source target len first (last + 1) }
-    ensures { PutsWords (read_by R.BitRegister O.position) (R.BITS + 1) sweep.old sweep.new source target len
-        first (last + 1) }
+    requires can { CanPut R.BITS sweep.old task.source task.target task.len first (last + 1) }
+    ensures { PutsWords (read_by R.BitRegister O.position) (R.BITS + 1) sweep.old sweep.new
+        task.source task.target task.len first (last + 1) }
 {
     let way = sweep.way();
     for m in first..last + 1 {
         let k = by_way(way, m, last - (m - first));
-        put_word::<R, O>(sweep, None, k, source, target, len);
+        put_word::<R, O>(sweep, None, k, task);
     }
 }
 
@@ -108,17 +104,15 @@ pub(crate) fn put_word<R: BitRegister, O: BitOrder<R>>(
     sweep: &mut Sweep<'_, R>,
     straight: Option<Straight<R, O>>,
     k: usize,
-    source: usize,
-    target: usize,
-    len: usize,
+    task: BitMove,
 )
-    requires { CanPut R.BITS sweep.old source target len k (k + 1) }
+    requires { CanPut R.BITS sweep.old task.source task.target task.len k (k + 1) }
     ensures { PutsWords (read_by R.BitRegister O.position) (most_reads straight R.BITS) sweep.old sweep.new
-        source target len k (k + 1) }
+        task.source task.target task.len k (k + 1) }
 {
-    let (from, upto) = part_of::<R>(k, target, len);
+    let (from, upto) = part_of::<R>(k, task.target, task.len);
     let own = sweep.read(k);
-    let place = source + (k * bits_of::<R>() + from - target);
+    let place = task.source + (k * bits_of::<R>() + from - task.target);
     let word = taken::<R, O>(sweep, straight, place, own, from as u8, upto as u8);
     sweep.put(k, word);
 }

@@ -98,7 +98,7 @@ fn put_end<R: BitRegister, O: BitOrder<R>>(
         let word = near_word::<R, O>(sweep, straight, way, k, task);
         sweep.put(k, word);
     } else {
-        put_edge::<R, O>(sweep, straight, k, task.source, task.target, task.len);
+        put_edge::<R, O>(sweep, straight, k, task);
     }
 }
 
@@ -108,14 +108,13 @@ fn put_edge<R: BitRegister, O: BitOrder<R>>(
     sweep: &mut Sweep<'_, R>,
     straight: Straight<R, O>,
     k: usize,
-    source: usize,
-    target: usize,
-    len: usize,
+    task: BitMove,
 )
-    requires { CanPut R.BITS sweep.old source target len k (k + 1) }
-    ensures { PutsWords (read_by R.BitRegister O.position) 3 sweep.old sweep.new source target len k (k + 1) }
+    requires { CanPut R.BITS sweep.old task.source task.target task.len k (k + 1) }
+    ensures { PutsWords (read_by R.BitRegister O.position) 3 sweep.old sweep.new task.source task.target task.len
+        k (k + 1) }
 {
-    put_word::<R, O>(sweep, Some(straight), k, source, target, len);
+    put_word::<R, O>(sweep, Some(straight), k, task);
 }
 
 // Where the bits of the word behind `first` come from: the word that the first of them lies in, and its index there.
@@ -226,7 +225,7 @@ fn put_whole<R: BitRegister, O: BitOrder<R>>(
 // A word that begins with so many bits of the memory, those from a place on: of the word there, and
 // of the next one where they go on in it.
 #[inline(always)]
-#[tactic(auto, using(crate::proofs::ShiftedWords::place_at))]
+#[tactic(auto, using(crate::proofs::PlaceLemmas::first_word))]
 fn bits_from<R: BitRegister, O: BitOrder<R>>(
     sweep: &mut Sweep<'_, R>,
     straight: Straight<R, O>,

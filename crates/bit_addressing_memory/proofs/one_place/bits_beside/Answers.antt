@@ -13,8 +13,8 @@ returns-then-upto-bits_of-clause-digits g c i from low =
     let place = c.args.k * reading.bits + 1 in
     let on : place + i ≡ c.args.k * reading.bits + i + 1 = omega arith in
     let inside : i < reading.bits - 1 = omega (arith, c.if-upto-bits_of.true, c.bits_of.ensures) in
-    rw c.in-Up.is (begins_inside reading words place (reading.bits - 1) c.args.k 1 c.args.own c.args.own c.joined.result refl
-    (omega arith) (less_words c.args.k (length words) reading.bits (omega arith)) c.requires.own c.joined.ensures i inside
+    rw c.in-Up.is (begins_inside reading words place (reading.bits - 1) c.args.k 1 c.args.own c.joined.result refl
+    (omega arith) (less_words c.args.k (length words) reading.bits (omega arith)) c.requires.own c.joined.ensures.from_first i inside
     ∙ ap (entry reading words) on)
 
 pub read-behind-requires : goal.read-behind-requires

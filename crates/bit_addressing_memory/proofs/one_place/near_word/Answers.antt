@@ -9,6 +9,7 @@ use Rattle.bit_addressing_memory.proofs.one_place.near_word.Goals as goal
 
 pub returns : goal.returns
 returns g c =
+    let task = c.args.task in
     let reading = read_by g.R.BitRegister g.O.Positions.position in
     let s = c.args.sweep.now in
     let words = sweep_words s in
@@ -16,15 +17,15 @@ returns g c =
     let part = c.part_of-from.ensures in
     record {
       digits =
-          gathered_of reading words k c.args.task.source c.args.task.target c.args.task.len c.part_of-from.result.0
+          gathered_of reading words k task.source task.target task.len c.part_of-from.result.0
           c.part_of-from.result.1 c.read-own.result c.stored.result (reading.digit c.bits_beside-beside.result)
-          (can_word reading.bits s c.args.task.source c.args.task.target c.args.task.len k c.requires.can) c.read-own.ensures.value part
+          (can_word reading.bits s task.source task.target task.len k c.requires.can) c.read-own.ensures.value part
           (λ i high low.
-          let inside : c.args.task.target ≤ k * reading.bits + i = omega (arith, part.from_is, high) in
+          let inside : task.target ≤ k * reading.bits + i = omega (arith, part.from_is, high) in
           c.bits_beside-beside.ensures.digits i high low
           ∙ ap (λ ws. entry reading ws (by_way c.args.way (k * reading.bits + i + 1) (k * reading.bits + i - 1)))
           c.read-own.ensures.same.words
-          ∙ ap (entry reading words) (near_place c.args.way c.args.task.source c.args.task.target (k * reading.bits + i)
+          ∙ ap (entry reading words) (near_place c.args.way task.source task.target (k * reading.bits + i)
           c.requires.near inside))
           (rw (c.new_unchecked-head.ensures, c.new_unchecked-tail.ensures) at c.stored.ensures);
       reads = omega (

@@ -12,11 +12,12 @@ cut-whole-requires-clause-next g c shift =
 
 pub returns : goal.returns
 returns g c =
+    let task = c.args.task in
     let reading = read_by g.R.BitRegister g.O.Positions.position in
-    puts_one reading 3 c.args.sweep.now c.cut-whole.new.sweep c.put.new.self c.args.task.source c.args.task.target c.args.task.len
+    puts_one reading 3 c.args.sweep.now c.cut-whole.new.sweep c.put.new.self task.source task.target task.len
     c.args.k c.cut-whole.result (omega (arith, g.met.R.BitRegister.least_bits)) c.requires.can
     (record {
-      digits = whole_word reading (sweep_words c.args.sweep.now) c.args.k c.args.task.source c.args.task.target c.args.task.len
+      digits = whole_word reading (sweep_words c.args.sweep.now) c.args.k task.source task.target task.len
           c.args.word c.args.by c.cut-whole.result c.requires.run c.cut-whole.ensures.digits;
       reads = omega (arith, c.cut-whole.ensures.reads);
       same = c.cut-whole.ensures.same;

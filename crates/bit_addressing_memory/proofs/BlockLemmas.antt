@@ -2,7 +2,7 @@
 --
 -- `words_of_64`, `word_of_chunk`, `word_begins`, `next_word`: how many words make a block, and where they lie. `read_whole`,
 -- `read_across`: words read into a block. `scattered_more`: a block written, a word more. `moves_up`, `moves_down`: blocks
--- moved.
+-- moved. `block_run`: which words of a move blocks put.
 use Rattle.bit_addressing_memory.proofs.Common.{◌≡◌, ℕ, zero, suc, ◌+◌, ◌-◌, ◌*◌, ◌/◌, ◌^◌, ◌<◌, ◌≤◌, Bool}
 use Rattle.bit_addressing_memory.proofs.Common.{List, length, get_or, set, bit_or, refl, sym, ap, ◌∙◌, inl, inr, arith}
 use Rattle.bit_addressing_memory.proofs.Common.{cases_lt, cases_eq, Reading, entry, reading_in, Overwrites, IsStored}
@@ -18,8 +18,12 @@ use Rattle.bit_addressing_memory.specs.declared.direction.Direction.{Direction}
 use Rattle.bit_addressing_memory.proofs.LimbLemmas.{or_left, or_right}
 use Rattle.bit_addressing_memory.proofs.OverwriteLemmas.{overwrites_join}
 use Rattle.bit_addressing_memory.proofs.PartsLemmas.{stores_part}
-use Rattle.bit_addressing_memory.proofs.ShiftedWords.{less_words}
+use Rattle.bit_addressing_memory.proofs.ShiftedWords.{less_words, run_part}
 use Rattle.bit_addressing_memory.proofs.TransferLemmas.{part_entry}
+use Rattle.bit_addressing_memory.proofs.WayLemmas.{by_way_low}
+use Rattle.bit_addressing_memory.specs.MoveSteps.{IsRun}
+use Rattle.bit_addressing_memory.specs.Ways.{by_way}
+use Rattle.bit_addressing_memory.specs.declared.sweep.Way.{Way}
 
 -- words of at most 64 bits make up 64
 pub words_of_64 : (b bits : ℕ) → IsRegisterSize b → b ≤ 64 → bits ≡ b → 64 / bits * b ≡ 64
@@ -206,22 +210,13 @@ moves_down reading before now after source target n w bits order is had wrote = 
 pub whole_steps : (size n : ℕ) → n / size * size ≤ n
 whole_steps size n = omega (arith, div-add-mod' n size)
 
--- whole blocks end before the words do
-pub blocks_end : (b low high size end : ℕ) → size * b ≡ 64 → low ≤ high → high * b ≤ end
-    → low * b + 64 * ((high - low) / size) ≤ end
-blocks_end b low high size end all order ends =
-    let count : ℕ = (high - low) / size in
-    let most : low + count * size ≤ high = omega (arith, whole_steps size (high - low)) in
-    let row : (low + count * size) * b ≤ high * b = mul-le-mul_right b most in
-    let bits : count * (size * b) ≡ count * 64 = ap (λ k. count * k) all in
-    omega (arith, row, bits)
-
--- the last whole blocks end where the words do
-pub blocks_from : (b low high size : ℕ) → size * b ≡ 64 → low ≤ high
-    → (low + (high - low - (high - low) / size * size)) * b + 64 * ((high - low) / size) ≡ high * b
-blocks_from b low high size all order =
-    let count : ℕ = (high - low) / size in
-    let whole : low + (high - low - count * size) + count * size ≡ high = omega (arith, whole_steps size (high - low)) in
-    let row : (low + (high - low - count * size) + count * size) * b ≡ high * b = ap (λ k. k * b) whole in
-    let bits : count * (size * b) ≡ count * 64 = ap (λ k. count * k) all in
-    omega (arith, row, bits)
+-- the words of a run that whole blocks put, the first of them by way
+pub block_run : (w : Way) (b source target len low high word by size start : ℕ)
+    → start ≡ by_way w low (high - (high - low) / size * size) → IsRun b source target len low high word by
+    → IsRun b source target len start (start + (high - low) / size * size) (word + (start - low)) by
+block_run w b source target len low high word by size start at run =
+    let done : ℕ = (high - low) / size * size in
+    let most : low + done ≤ high = omega (arith, whole_steps size (high - low), run.order) in
+    let ends = by_way_low w low (high - done) (omega arith) in
+    run_part b source target len low high word by start (start + done) (rw at ends.0) (omega arith)
+    (omega (arith, at, ends.1, most)) run

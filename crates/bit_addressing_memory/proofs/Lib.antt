@@ -17,7 +17,6 @@ pub mod Changes
 pub mod Gathers
 pub mod Puts
 pub mod ShiftedWords
-pub mod OnePlaceLemmas
 pub mod SpreadLemmas
 pub mod Sweeps
 pub mod WayLemmas

@@ -95,3 +95,11 @@ touched_some b place zero some any = absurd (omega arith)
 touched_some b place (suc m) some any =
     let last = le-div (place / b) (place + m) b some (omega (arith, div-add-mod' place b)) in
     omega (arith, last)
+
+-- and where they fit one word two words at most
+pub touched_two : (b place n : ℕ) → 0 < b → n ≤ b → touched b place n ≤ 2
+touched_two b place zero some most = omega arith
+touched_two b place (suc m) some most =
+    let rest = mod_below place b some in
+    let last = div_below (place + m) b (place / b + 2) some (omega (arith, div-add-mod' place b, rest)) in
+    omega (arith, last)

@@ -1,11 +1,26 @@
 -- The ways of a sweep, and what its edge says.
-use Rattle.std.specs.Prelude.{ℕ, ◌+◌, ◌-◌, ◌<◌, ◌≤◌, cond, nat_le}
+use Rattle.std.specs.Prelude.{ℕ, ◌+◌, ◌-◌, ◌<◌, ◌≤◌, ◌≡◌, cond, nat_le}
 use Rattle.bit_addressing_memory.specs.declared.sweep.Way.{Way}
 use Rattle.bit_addressing_memory.specs.declared.sweep.Way.TheVariants.{Up, Down}
 
 -- the way of a move from source to target: up where the target is not above the source
 abbrev pub way_for : ℕ → ℕ → Way
 way_for source target = cond (nat_le target source) Up Down
+
+-- a move that goes this way reads each source before it writes there
+abbrev pub ReadsFirst : Way → ℕ → ℕ → Type 0
+ReadsFirst Up source target = target ≤ source
+ReadsFirst Down source target = source ≤ target
+
+-- source and target of a move that goes this way lie one place apart
+abbrev pub AreNear : Way → ℕ → ℕ → Type 0
+AreNear Up source target = target + 1 ≡ source
+AreNear Down source target = source + 1 ≡ target
+
+-- the first of two numbers upwards, the second one downwards
+abbrev pub by_way : Way → ℕ → ℕ → ℕ
+by_way Up up down = up
+by_way Down up down = down
 
 -- where the edge of a fresh sweep over n words lies
 abbrev pub first_edge : Way → ℕ → ℕ

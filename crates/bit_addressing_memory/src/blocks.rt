@@ -5,7 +5,7 @@ ghost use Rattle.std.specs.Prelude.{◌≡◌, ℕ, List, ◌+◌, ◌*◌, ◌/
 ghost use Rattle.bit_addressing_memory.specs.Prelude.{read_by, Overwrites};
 ghost use Rattle.bit_addressing_memory.specs.Chunk.{chunk_bit, IsChunk};
 ghost use Rattle.bit_addressing_memory.specs.Moves.{Moves, changed};
-ghost use Rattle.bit_addressing_memory.specs.declared.sweep.Way.TheVariants.{Up, Down};
+ghost use Rattle.bit_addressing_memory.specs.Ways.{ReadsFirst};
 
 use crate::chunk::{lowered, part, placed, raised};
 use crate::direction::Straight;
@@ -100,8 +100,7 @@ pub fn read_block_from<R: BitRegister, O: BitOrder<R>>(
     lowered(straight.direction, low, by) | raised(straight.direction, next, 64 - by)
 }
 
-// Moves bits by so many blocks, those from the index `by` of the word `from` on to the word `low` and those behind it. In a
-// function out of line a compiler finds the direction anew.
+// Moves bits by so many blocks, those from the index `by` of the word `from` on to the word `low` and those behind it.
 #[inline(always)]
 pub(crate) fn move_blocks<R: BitRegister, O: BitOrder<R>>(
     straight: Straight<R, O>,
@@ -114,39 +113,7 @@ pub(crate) fn move_blocks<R: BitRegister, O: BitOrder<R>>(
     size: u8,
 )
     requires size { size * R.BITS ≡ 64 }
-    requires ahead { way ≡ Up → low * R.BITS ≤ from * R.BITS + by }
-    requires behind { way ≡ Down → from * R.BITS + by ≤ low * R.BITS }
-    requires index { by < R.BITS }
-    requires source { from * R.BITS + by + 64 * count ≤ length words.old * R.BITS }
-    requires within { low + count * size ≤ length words.old }
-    ensures moved { Moves (read_by R.BitRegister O.position) words.old words.new (from * R.BITS + by) (low * R.BITS)
-        (64 * count) }
-    ensures few { (number : R → ℕ) → (others : List R)
-        → changed number others words.new ≤ changed number others words.old + count * size }
-{
-    let known = straight.again();
-    if by == 0 {
-        move_blocks_by::<R, O>(known, words, way, from, 0, low, count, size);
-    } else {
-        move_blocks_by::<R, O>(known, words, way, from, by, low, count, size);
-    }
-}
-
-// The same in line.
-#[inline(always)]
-fn move_blocks_by<R: BitRegister, O: BitOrder<R>>(
-    straight: Straight<R, O>,
-    words: &mut [R],
-    way: Way,
-    from: usize,
-    by: usize,
-    low: usize,
-    count: usize,
-    size: u8,
-)
-    requires size { size * R.BITS ≡ 64 }
-    requires ahead { way ≡ Up → low * R.BITS ≤ from * R.BITS + by }
-    requires behind { way ≡ Down → from * R.BITS + by ≤ low * R.BITS }
+    requires order { ReadsFirst way (from * R.BITS + by) (low * R.BITS) }
     requires index { by < R.BITS }
     requires source { from * R.BITS + by + 64 * count ≤ length words.old * R.BITS }
     requires within { low + count * size ≤ length words.old }

@@ -7,8 +7,7 @@ ghost use Rattle.std.specs.Prelude.{◌≡◌, ◌≢◌, ℕ, List, ◌+◌, �
 ghost use Rattle.bit_addressing_memory.specs.Prelude.{Lies, read_by, touched};
 ghost use Rattle.bit_addressing_memory.specs.Chunk.{IsChunk, IsOwn};
 ghost use Rattle.bit_addressing_memory.specs.Moves.{Moves, changed};
-ghost use Rattle.bit_addressing_memory.specs.declared.sweep.Way.TheVariants.{Up, Down};
-ghost use Rattle.bit_addressing_memory.specs.Ways.{ArePast, IsPast, IsWithin, edge_after, passed, way_for};
+ghost use Rattle.bit_addressing_memory.specs.Ways.{ArePast, IsPast, IsWithin, ReadsFirst, by_way, edge_after, passed, way_for};
 
 use crate::blocks::move_blocks;
 use crate::direction::{Direction, Straight};
@@ -31,6 +30,17 @@ pub fn way_for(source: usize, target: usize) -> Way
     ensures { result ≡ way_for source target }
 {
     if target <= source { Way::Up } else { Way::Down }
+}
+
+// The first of two numbers upwards, the second one downwards.
+#[inline(always)]
+pub(crate) fn by_way(way: Way, up: usize, down: usize) -> usize
+    ensures { result ≡ by_way way up down }
+{
+    match way {
+        Way::Up => up,
+        Way::Down => down,
+    }
 }
 
 impl Sweep<'_, ()> {
@@ -155,7 +165,8 @@ impl<'a, R: BitRegister> Sweep<'a, R> {
     ghost use Rattle.bit_addressing_memory.specs.Sweep.{way_of, writes_of};
 
     // Moves bits by blocks, those from the index `by` of the word `from` on to the word `low` and those behind it. Each word
-    // that is read or written is counted. Out of line, so that the counts stay in registers where words are put one by one.
+    // that is read or written is counted. Out of line, so that the counts stay in registers where words are put one by one; there
+    // a compiler finds the direction anew.
     #[inline(never)]
     pub(crate) fn move_blocks<O: BitOrder<R>>(
         &mut self,
@@ -167,8 +178,7 @@ impl<'a, R: BitRegister> Sweep<'a, R> {
         size: u8,
     )
         requires size { size * R.BITS ≡ 64 }
-        requires ahead { way_of self.old ≡ Up → low * R.BITS ≤ from * R.BITS + by }
-        requires behind { way_of self.old ≡ Down → from * R.BITS + by ≤ low * R.BITS }
+        requires order { ReadsFirst (way_of self.old) (from * R.BITS + by) (low * R.BITS) }
         requires index { by < R.BITS }
         requires source { from * R.BITS + by + 64 * count ≤ length (sweep_words self.old) * R.BITS }
         requires within { low + count * size ≤ length (sweep_words self.old) }
@@ -195,7 +205,12 @@ impl<'a, R: BitRegister> Sweep<'a, R> {
         };
         self.writes += puts;
         self.reads = self.reads.saturating_add(reads as u64);
-        move_blocks::<R, O>(straight, self.words, self.way, from, by, low, count, size);
+        let known = straight.again();
+        if by == 0 {
+            move_blocks::<R, O>(known, self.words, self.way, from, 0, low, count, size);
+        } else {
+            move_blocks::<R, O>(known, self.words, self.way, from, by, low, count, size);
+        }
     }
 
     // The `count` bits from a place on, 1 to 64, as a chunk, as `read_counted` reads them. A read is counted for each word

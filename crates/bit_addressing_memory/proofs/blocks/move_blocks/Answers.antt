@@ -3,7 +3,7 @@ use Rattle.bit_addressing_memory.proofs.Common.{entry, read_by}
 use Rattle.bit_addressing_memory.specs.Chunk.{chunk_bit}
 use Rattle.bit_addressing_memory.proofs.BlockLemmas.{block_size, moves_down, moves_up, narrow_words}
 use Rattle.bit_addressing_memory.proofs.BlockLemmas.{step_at, step_begins, step_reads, step_writes}
-use Rattle.bit_addressing_memory.proofs.blocks.move_blocks_by.Goals as goal
+use Rattle.bit_addressing_memory.proofs.blocks.move_blocks.Goals as goal
 
 pub overflow_add-from : goal.overflow_add-from
 overflow_add-from g c =
@@ -38,7 +38,7 @@ up-preserved g c =
     let m = c.up.m in
     let source = c.args.from * b + c.args.by in
     let target = c.args.low * b in
-    let way = c.requires.ahead c.in-Up.is in
+    let way = rw c.in-Up.is at c.requires.order in
     let here : (c.args.low + m * c.args.size) * b ≡ target + 64 * m =
     omega (arith, step_at b c.args.low m c.args.size 0 c.requires.size) in
     let there = step_at b c.args.from m c.args.size c.args.by c.requires.size in
@@ -81,7 +81,7 @@ down-preserved g c =
     let m = c.down.m - 1 in
     let source = c.args.from * b + c.args.by in
     let target = c.args.low * b in
-    let way = c.requires.behind c.in-Down.is in
+    let way = rw c.in-Down.is at c.requires.order in
     let here : (c.args.low + m * c.args.size) * b ≡ target + 64 * m =
     omega (arith, step_at b c.args.low m c.args.size 0 c.requires.size) in
     let there = step_at b c.args.from m c.args.size c.args.by c.requires.size in

@@ -1,6 +1,6 @@
 use Rattle.bit_addressing_memory.proofs.Common.{ℕ, List, ◌+◌, ◌-◌, ◌*◌, ◌≤◌, read_by}
 use Rattle.bit_addressing_memory.specs.Moves.{Moves, changed}
-use Rattle.bit_addressing_memory.proofs.blocks.move_blocks_by.Given as goal
+use Rattle.bit_addressing_memory.proofs.blocks.move_blocks.Given as goal
 
 abbrev pub invariant-up : goal.invariant-up
 invariant-up g l =

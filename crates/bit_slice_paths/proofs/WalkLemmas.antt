@@ -11,6 +11,7 @@ use Rattle.bit_addressing_memory.specs.declared.direction.Direction.TheVariants.
 use Rattle.bit_addressing_memory.proofs.OverwriteLemmas.{overwrites_join}
 use Rattle.bit_slice_chunks.specs.Chunk.{chunk_bit, IsChunk}
 use Rattle.bit_slice_chunks.specs.Combined.{Combines}
+use Rattle.bit_slice_paths.specs.Agrees.{AreSame}
 
 -- ---- one chunk
 
@@ -118,7 +119,7 @@ same_chunks Descending x y low_x low_y same =
 pub chunks_equal : {R Q : Type 0} (reading : Reading R) (its : Reading Q) (words : List R) (others : List Q)
     (place other_place n : ℕ) (direction : Direction) (x y : ℕ) → x < 2 ^ 64 → y < 2 ^ 64
     → IsChunk reading words place n direction x → IsChunk its others other_place n direction y
-    → (x ≡ y) ↔ ((k : ℕ) → k < n → entry reading words (place + k) ≡ entry its others (other_place + k))
+    → (x ≡ y) ↔ AreSame reading words place its others other_place n
 chunks_equal reading its words others place other_place n direction x y low_x low_y mine theirs = (
   λ equal k low. sym (mine.inside k low) ∙ ap (λ c. chunk_bit direction c k) equal ∙ theirs.inside k low,
   λ same. same_chunks direction x y low_x low_y (λ i small. elim (cases_lt i n) [
@@ -130,9 +131,9 @@ chunks_equal reading its words others place other_place n direction x y low_x lo
 -- one more chunk that is equal
 pub equal_more : {R Q : Type 0} (reading : Reading R) (its : Reading Q) (words : List R) (others : List Q)
     (place other_place n m all : ℕ) → all ≡ n + m
-    → ((k : ℕ) → k < n → entry reading words (place + k) ≡ entry its others (other_place + k))
-    → ((k : ℕ) → k < m → entry reading words (place + n + k) ≡ entry its others (other_place + n + k))
-    → (k : ℕ) → k < all → entry reading words (place + k) ≡ entry its others (other_place + k)
+    → AreSame reading words place its others other_place n
+    → AreSame reading words (place + n) its others (other_place + n) m
+    → AreSame reading words place its others other_place all
 equal_more reading its words others place other_place n m all sum had more k low = elim (cases_lt k n) [
   | inl first ↦ had k first
   | inr later ↦

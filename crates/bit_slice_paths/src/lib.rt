@@ -15,7 +15,6 @@ mod steps;
 pub mod two_memories;
 pub mod word_source;
 
-pub use bit_slice_chunks::any_order::direction_for;
 pub use bit_slice_chunks::{
     Combination, first_difference, raised, read_bits, read_nth_chunk, read_part,
 };

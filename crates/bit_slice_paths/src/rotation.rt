@@ -13,7 +13,7 @@ use bit_addressing_memory::{
     BitOrder, BitRegister, Direction, NARROW_WORD, ROTATED_BY_MOVES, Straight, Sweep, move_in,
     way_for,
 };
-use bit_slice_chunks::any_order::{read_bits, write_bits};
+use bit_slice_chunks::any_order::{direction_for, read_bits, write_bits};
 
 // Moves bits to another place of the same memory. The two stretches may overlap.
 #[inline(always)]
@@ -141,29 +141,25 @@ fn move_towards<R: BitRegister, O: BitOrder<R>>(
     }
 }
 
-/// Moves each of `len` bits of a memory `by` places towards the first of them; the first `by` become the last.
-#[inline(always)]
-pub fn rotate<R: BitRegister, O: BitOrder<R>>(
-    direction: Direction,
-    words: &mut [R],
-    place: usize,
-    len: usize,
-    by: usize,
-)
+/// Moves each of `len` bits of a memory `by` places towards the first of them; the first `by` become the last. Out of line,
+/// so that a caller that rotates few is short.
+#[inline(never)]
+pub fn rotate<R: BitRegister, O: BitOrder<R>>(words: &mut [R], place: usize, len: usize, by: usize)
     requires lies { Lies R.BITS words.old place len }
     requires most { by ≤ len }
     ensures { Overwrites (read_by R.BitRegister O.position) words.old words.new place len
         (λ k. entry (read_by R.BitRegister O.position) words.old (place + rotated_from len by k)) }
 {
+    let direction = direction_for::<R, O>();
     let mut first = place;
     let mut left = by;
     let mut right = len - by;
     while are_exchanged(left, right) {
         if left <= right {
             right -= left;
-            exchange::<R, O>(direction, words, first, first + left + right, left);
+            exchange::<R, O>(words, first, first + left + right, left);
         } else {
-            exchange::<R, O>(direction, words, first, first + left, right);
+            exchange::<R, O>(words, first, first + left, right);
             first += right;
             left -= right;
         }

@@ -4,7 +4,8 @@
 ghost use Rattle.std.specs.Prelude.{◌≡◌, ℕ, ◌+◌, ◌*◌, ◌/◌, ◌%◌, ◌<◌, ◌≤◌, ◌↔◌, IfSome, IsTrue, length};
 ghost use Rattle.bit_addressing_memory.specs.Prelude.{Lies, entry, read_by};
 ghost use Rattle.bit_slice_chunks.specs.Combined.{combined_bit, Combines};
-ghost use Rattle.bit_slice_paths.specs.Fits.{AreSame, IsFit};
+ghost use Rattle.bit_slice_paths.specs.Agrees.{AreSame};
+ghost use Rattle.bit_slice_paths.specs.Fits.{IsFit};
 ghost use Rattle.bit_slice_paths.specs.declared.two_memories.Fit.TheVariants.{Level};
 
 use crate::across::combine_part;
@@ -96,9 +97,7 @@ fn merge_middle<H: Combining, R: BitRegister, O: BitOrder<R>, Q: BitRegister, P:
     let source = Aligned::<R, O, Q, P> {
         words: others,
         first: other,
-        register: PhantomData,
-        order: PhantomData,
-        its_order: PhantomData,
+        types: PhantomData,
     };
     merge_words::<H, R, O, Aligned<'_, R, O, Q, P>>(words, first, &source, n);
 }
@@ -201,9 +200,7 @@ fn match_middle<R: BitRegister, O: BitOrder<R>, Q: BitRegister, P: BitOrder<Q>>(
     let source = Aligned::<R, O, Q, P> {
         words: others,
         first: other,
-        register: PhantomData,
-        order: PhantomData,
-        its_order: PhantomData,
+        types: PhantomData,
     };
     match_words::<R, O, Aligned<'_, R, O, Q, P>>(words, first, &source, n)
 }

@@ -1,7 +1,6 @@
 -- Two stretches, part after part.
 --
--- Words that a place has behind it: `words_lie`, `next_lies`, `read_within`. Stretches that fit: `level_on`, `fit_on`,
--- `shifted_fit`.
+-- Words that a place has behind it: `words_lie`, `next_lies`, `read_within`. Stretches that fit: `fit_on`, `shifted_fit`.
 use Rattle.bit_addressing_memory.proofs.Common.{◌≡◌, ℕ, ◌+◌, ◌-◌, ◌*◌, ◌/◌, ◌%◌, ◌<◌, ◌≤◌, sym, ap, ◌∙◌, arith}
 use Rattle.std.proofs.Math.Nat.{mod-add-mod, mul-le-mul_right}
 use Rattle.std.proofs.lemmas.Nat.{div-add-mod'}
@@ -19,17 +18,14 @@ read_within len start over bits read inside most =
     let words : read * bits ≤ (len - start - over) / bits * bits = mul-le-mul_right bits most in
     omega (arith, div-add-mod' (len - start - over) bits)
 
--- stretches that begin at the same index do so as far behind their beginnings
-pub level_on : (b place other done : ℕ) → place % b ≡ other % b → (place + done) % b ≡ (other + done) % b
-level_on b place other done same =
-    sym (mod-add-mod place b done) ∙ ap (λ i. (i + done) % b) same ∙ mod-add-mod other b done
-
+-- stretches that fit do so as far behind their beginnings
 pub fit_on : (b : ℕ) (at : ℕ → ℕ) (c : ℕ) (its : ℕ → ℕ) (place other done : ℕ) {S : Type 0} (fit : Fit S)
     → IsFit b at c its place other fit → IsFit b at c its (place + done) (other + done) fit
 fit_on b at c its place other done fit had = record {
   narrow = had.narrow;
   alike = had.alike;
-  level = λ is. level_on b place other done (had.level is);
+  level = λ is.
+      sym (mod-add-mod place b done) ∙ ap (λ i. (i + done) % b) (had.level is) ∙ mod-add-mod other b done;
 }
 
 -- stretches whose words are joined

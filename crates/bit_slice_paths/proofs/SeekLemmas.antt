@@ -1,7 +1,7 @@
 -- Where bits of one memory stand in another, chunk by chunk.
 --
 -- One place: `stands_agreed`, `stands_not`; by the first bits: `shown_chunk`, `shown_same`, `shown_other`. So many of them:
--- `seeks_here`, `seeks_none`, `seeks_next`, `seeks_before`, `seeks_more`.
+-- `seeks_none`, `seeks_next`, `seeks_before`, `seeks_more`.
 use Rattle.bit_addressing_memory.proofs.Common.{◌≡◌, ◌≢◌, ℕ, ◌+◌, ◌-◌, ◌^◌, ◌<◌, ◌≤◌, List, ap, ◌∙◌, inl, inr, arith}
 use Rattle.bit_addressing_memory.proofs.Common.{cases_lt, Reading, entry}
 use Rattle.bit_addressing_memory.specs.declared.direction.Direction.{Direction}
@@ -56,18 +56,6 @@ shown_other reading its words others place other_place n m direction x y low_x l
     other ((chunks_equal reading its words others place other_place n direction x y low_x low_y mine theirs).1
     (λ k low. stands k (omega arith)))
 
--- they stand at place i of so many, and at none before it
-pub seeks_here : {R Q : Type 0} (reading : Reading R) (its : Reading Q) (words : List R) (others : List Q)
-    (place other_place n starts i : ℕ) → i < starts
-    → ((k : ℕ) → k < i → AreSame reading words (place + k) its others other_place n → ⊥)
-    → AreSame reading words (place + i) its others other_place n
-    → StandsFirst reading words place its others other_place n starts i
-seeks_here reading its words others place other_place n starts i low before here = record {
-  most = omega arith;
-  here = λ _. here;
-  before = before;
-}
-
 -- at none of them
 pub seeks_none : {R Q : Type 0} (reading : Reading R) (its : Reading Q) (words : List R) (others : List Q)
     (place other_place n starts done : ℕ) → starts ≤ done
@@ -114,6 +102,8 @@ pub seeks_more : {R Q : Type 0} (reading : Reading R) (its : Reading Q) (words :
     → StandsFirst reading words place its others other_place n starts (done + at)
 seeks_more reading its words others place other_place n done near at starts low within had more =
     let here : place + done + at ≡ place + (done + at) = omega arith in
-    seeks_here reading its words others place other_place n starts (done + at) (omega arith)
-    (seeks_before reading its words others place other_place n done near at (done + at) (omega arith) had more)
-    (rw here at (more.here low))
+    record {
+      most = omega arith;
+      here = λ _. rw here at (more.here low);
+      before = seeks_before reading its words others place other_place n done near at (done + at) (omega arith) had more;
+    }

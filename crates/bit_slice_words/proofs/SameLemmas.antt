@@ -1,9 +1,8 @@
--- Tests and answers: `differ_tested`, `answers_yes`, `answers_no`. Bits of two memories: `windows_equal`,
+-- Answers: `answers_yes`, `answers_no`. Bits of two memories: `windows_equal`,
 -- `windows_differ`, `windows_agree`, `windows_stand`, `windows_part`. One list in another:
 -- `holds_empty`, `holds_here`, `holds_none`, `holds_short`, `none_more`; told by the first place: `holds_behind`.
 use Rattle.std.proofs.Common.{◌≡◌, ◌≢◌, ℕ, ◌+◌, ◌-◌, ◌*◌, ◌<◌, ◌≤◌, ◌↔◌, ◌==◌, nat_lt, IsTrue}
-use Rattle.std.proofs.Common.{Bool, true, false, not, List, [], ◌∷◌, length, get_or, refl, sym, ap, ◌∙◌, inl, inr, arith}
-use Rattle.std.proofs.Math.Bool.{beq}
+use Rattle.std.proofs.Common.{Bool, true, false, List, [], ◌∷◌, length, get_or, refl, sym, ap, ◌∙◌, inl, inr, arith}
 use Rattle.std.proofs.lemmas.Bool.{cases_lt, eqb-true, eq-eqb, false≢true, lt-ltb, ltb-true}
 use Rattle.bit_addressing_memory.specs.Memory.{Reading, entry, memory, piece}
 use Rattle.bit_addressing_memory.proofs.MemoryLemmas.{piece_none, piece_piece}
@@ -11,14 +10,7 @@ use Rattle.bit_addressing_memory.proofs.WindowLemmas.{length-window, window_bit,
 use Rattle.bit_slice_paths.specs.Agrees.{Agrees, AreSame, StandsFirst}
 use Rattle.bit_slice_words.specs.Holds.{Holds}
 
--- ---- what a test of two bits tells, and what an answer does
-
--- two bits that the test tells apart
-pub differ_tested : (x y : Bool) → not (beq x y) ≡ true → x ≢ y
-differ_tested true true told same = cc
-differ_tested true false told same = cc
-differ_tested false true told same = cc
-differ_tested false false told same = cc
+-- ---- what an answer tells
 
 -- the answer that it is so
 pub answers_yes : {P : Type 0} → P → IsTrue true ↔ P

@@ -138,8 +138,7 @@ pub fn merge_joined<H: Combining, R: BitRegister, O: BitOrder<R>, Q: BitRegister
         words: others,
         first: other,
         by,
-        register: PhantomData,
-        order: PhantomData,
+        types: PhantomData,
     };
     merge_words::<H, R, O, Joined<'_, R, O, Q, P>>(words, first, &source, n);
 }

@@ -7,16 +7,15 @@ ghost use Rattle.std.specs.Bool.{xor};
 ghost use Rattle.bit_slice_paths.specs.Combined.{combined_bit, Combines};
 ghost use Rattle.bit_slice_paths.specs.Steps.{groups, Takes};
 
-use crate::agree::few_to_compare;
-use crate::combine::combined;
+use crate::agree::{agree_singly, few_to_compare};
+use crate::combine::combine_singly;
 use bit_addressing_memory::{
-    BitOrder, BitRegister, BulkOp, bit_loop_limit, read_entry, write_entry,
+    BitOrder, BitRegister, BulkOp, bit_loop_limit, copy_within, swap_between,
 };
 use bit_slice_paths::combining::{AndOp, Combining, CopyOp, OrOp, XorOp};
 use bit_slice_paths::{Steps, by_words};
 
 /// `WordPaths::equal`, in at most one step a bit.
-#[tactic(auto, using(crate::proofs::PathLemmas::takes_behind, crate::proofs::PathLemmas::takes_behind_some))]
 pub fn equal<R: BitRegister, O: BitOrder<R>>(
     words: &[R],
     place: usize,
@@ -36,14 +35,12 @@ pub fn equal<R: BitRegister, O: BitOrder<R>>(
     ensures other { result ≡ false → Takes steps.old steps.new 1 (groups len 1) }
 {
     let few = few_to_compare::<R, O, R, O>(len);
-    for k in 0..few {
-        steps.step();
-        let bit = read_entry::<R, O>(words, place + k);
-        let other = read_entry::<R, O>(others, other_place + k);
-        if bit != other {
-            return false;
-        }
+    let same = agree_singly::<R, O, R, O>(words, place, others, other_place, few);
+    if same < few {
+        steps.many(same + 1);
+        return false;
     }
+    steps.many(few);
     if few == len {
         return true;
     }
@@ -78,7 +75,7 @@ pub fn copy<R: BitRegister, O: BitOrder<R>>(
 }
 
 /// `WordPaths::swap`, in one step a bit.
-#[tactic(auto, using(bit_addressing_memory::proofs::CopyLemmas::between_steps, crate::proofs::PathLemmas::count_steps))]
+#[tactic(auto, using(crate::proofs::PathLemmas::takes_bits))]
 pub fn swap<R: BitRegister, O: BitOrder<R>>(
     words: &mut [R],
     place: usize,
@@ -97,17 +94,12 @@ pub fn swap<R: BitRegister, O: BitOrder<R>>(
         (read_by R.BitRegister O.position) words.old place other_place len }
     ensures steps { Takes steps.old steps.new (groups len 64) (groups len 1) }
 {
-    for k in 0..len {
-        let bit = read_entry::<R, O>(words, place + k);
-        let other = read_entry::<R, O>(others, other_place + k);
-        write_entry::<R, O>(words, place + k, other);
-        write_entry::<R, O>(others, other_place + k, bit);
-        steps.step();
-    }
+    swap_between::<R, O, R, O>(words, place, others, other_place, len);
+    steps.many(len);
 }
 
 /// `WordPaths::copy_over`, in one step a bit.
-#[tactic(auto, using(bit_addressing_memory::proofs::CopyLemmas::within_steps, crate::proofs::PathLemmas::count_steps))]
+#[tactic(auto, using(crate::proofs::PathLemmas::takes_bits))]
 pub fn copy_over<R: BitRegister, O: BitOrder<R>>(
     words: &mut [R],
     source: usize,
@@ -123,19 +115,8 @@ pub fn copy_over<R: BitRegister, O: BitOrder<R>>(
         (read_by R.BitRegister O.position) words.old source target len }
     ensures steps { Takes steps.old steps.new (groups len 64) (groups len 1) }
 {
-    if target <= source {
-        'up: for k in 0..len {
-            let bit = read_entry::<R, O>(words, source + k);
-            write_entry::<R, O>(words, target + k, bit);
-            steps.step();
-        }
-    } else {
-        'down: for k in (0..len).rev() {
-            let bit = read_entry::<R, O>(words, source + k);
-            write_entry::<R, O>(words, target + k, bit);
-            steps.step();
-        }
-    }
+    copy_within::<R, O>(words, source, target, len);
+    steps.many(len);
 }
 
 /// `WordPaths::and`, in at most one step a bit.
@@ -202,7 +183,7 @@ pub fn xor<R: BitRegister, O: BitOrder<R>>(
 }
 
 // Makes each of `len` bits what a combination makes of it and of one of another memory.
-#[tactic(auto, using(crate::proofs::PathLemmas::count_each, crate::proofs::PathLemmas::takes_bits, crate::proofs::PathLemmas::takes_no_more, crate::proofs::ChangedStretchLemmas::stretch_none))]
+#[tactic(auto, using(crate::proofs::PathLemmas::takes_bits, crate::proofs::PathLemmas::takes_no_more))]
 fn combine<H: Combining, R: BitRegister, O: BitOrder<R>>(
     words: &mut [R],
     place: usize,
@@ -221,10 +202,6 @@ fn combine<H: Combining, R: BitRegister, O: BitOrder<R>>(
         by_words::combine::<H, R, O>(words, place, others, other_place, len, steps);
         return;
     }
-    for k in 0..len {
-        let bit = read_entry::<R, O>(words, place + k);
-        let other = read_entry::<R, O>(others, other_place + k);
-        write_entry::<R, O>(words, place + k, combined(H::HOW, bit, other));
-        steps.step();
-    }
+    combine_singly::<H, R, O, R, O>(words, place, others, other_place, len);
+    steps.many(len);
 }

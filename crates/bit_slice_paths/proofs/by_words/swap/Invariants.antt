@@ -1,6 +1,6 @@
 use Rattle.bit_addressing_memory.proofs.Common.{◌*◌, read_by, Copies}
 use Rattle.bit_slice_paths.specs.Steps.{Takes}
-use Rattle.bit_slice_paths.proofs.by_words.swap_counted.Given as goal
+use Rattle.bit_slice_paths.proofs.by_words.swap.Given as goal
 
 abbrev pub invariant-loop-k : goal.invariant-loop-k
 invariant-loop-k g l =
@@ -8,5 +8,5 @@ invariant-loop-k g l =
     record {
       to_words : Copies reading l.fn.words l.words reading l.fn.others l.other_place l.place (64 * l.k);
       to_others : Copies reading l.fn.others l.others reading l.fn.words l.place l.other_place (64 * l.k);
-      steps : Takes l.fn.counted l.steps l.k l.k;
+      steps : Takes l.fn.steps l.counted l.k l.k;
     }

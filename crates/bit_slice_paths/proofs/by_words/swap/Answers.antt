@@ -1,7 +1,7 @@
 use Rattle.bit_addressing_memory.proofs.Common.{◌≡◌, ◌+◌, ◌*◌, ◌/◌, ◌%◌, arith, read_by}
 use Rattle.bit_slice_paths.proofs.WalkLemmas.{copied_more}
 use Rattle.bit_slice_paths.proofs.StepLemmas.{takes_more}
-use Rattle.bit_slice_paths.proofs.by_words.swap_counted.Goals as goal
+use Rattle.bit_slice_paths.proofs.by_words.swap.Goals as goal
 
 pub loop-k-preserved : goal.loop-k-preserved
 loop-k-preserved g c =

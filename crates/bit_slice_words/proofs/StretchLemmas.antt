@@ -1,7 +1,6 @@
 -- Where a bit is found in a stretch of a memory, word by word.
 --
--- One word: `lacks_is`, `digit_found`, `nowhere_word`, `word_nowhere`, `nowhere_part`, `end_none`,
--- `end_part`.
+-- One word: `lacks_is`, `digit_found`, `nowhere_word`, `word_nowhere`, `nowhere_part`, `first_part`, `last_part`.
 -- Words of the other bit: `nowhere_opposite`. Joined: `nowhere_join`, `first_of_cut`, `last_of_cut`.
 -- As an index of the list: `position_in`, `last_position_in`.
 use Rattle.bit_addressing_memory.proofs.Common.{◌≡◌, ℕ, ◌+◌, ◌-◌, ◌*◌, ◌^◌, ◌<◌, ◌≤◌, ◌↔◌, Bool, true, false, List}
@@ -15,9 +14,7 @@ use Rattle.bit_addressing_memory.proofs.EntryLemmas.{entry_read}
 use Rattle.bit_addressing_memory.proofs.OrderCallerLemmas.{same_word}
 use Rattle.bit_addressing_memory.proofs.WindowLemmas.{length-window, window_bit}
 use Rattle.bit_slice_words.specs.Found.{is_bit, last_position}
-use Rattle.bit_slice_words.specs.Stretch.{bit_found, FirstAt, LastAt, IsFirst, IsLast, IsEnd, Nowhere}
-use Rattle.bit_slice_words.specs.declared.ends.End.{End}
-use Rattle.bit_slice_words.specs.declared.ends.End.TheVariants.{First, Last}
+use Rattle.bit_slice_words.specs.Stretch.{bit_found, FirstAt, LastAt, IsFirst, IsLast, Nowhere}
 use Rattle.bit_slice_words.proofs.FoundLemmas.{without_bit, position_found, position_missing}
 use Rattle.bit_slice_words.proofs.FoundLemmas.{last_position_found, last_position_missing}
 
@@ -72,23 +69,12 @@ word_nowhere reading words bit j x low is none i small =
     let next : (j + 1) * reading.bits ≡ j * reading.bits + reading.bits = omega arith in
     digit_found reading words bit j i x small low is ∙ none (j * reading.bits + i) (omega arith) (omega arith)
 
--- none is found where there is none
-pub end_none : (end : End) (passes : ℕ → Bool) (from upto : ℕ) → Nowhere passes from upto
-    → IsEnd end passes from upto None
-end_none First passes from upto none = none
-end_none Last passes from upto none = none
-
--- what is found of the indices of a part of the word j is found of the places there
-pub end_part : {R : Type 0} (end : End) (reading : Reading R) (words : List R) (bit : Bool) (j from upto : ℕ)
-    (r : Option ℕ) (x : R) → j < length words → x ≡ get_or words j x → upto ≤ reading.bits
-    → IsEnd end (λ i. is_bit bit (reading.digit x i)) from upto r
-    → IsEnd end (bit_found reading words bit) (j * reading.bits + from) (j * reading.bits + upto)
-    (option_map (λ i. j * reading.bits + i) r)
-end_part First reading words bit j from upto None x low is within none =
-    nowhere_part reading words bit j from upto x low is within none
-end_part Last reading words bit j from upto None x low is within none =
-    nowhere_part reading words bit j from upto x low is within none
-end_part First reading words bit j from upto (Some i) x low is within found =
+-- the first index of a part of the word j is the first place there
+pub first_part : {R : Type 0} (reading : Reading R) (words : List R) (bit : Bool) (j from upto i : ℕ) (x : R)
+    → j < length words → x ≡ get_or words j x → upto ≤ reading.bits
+    → FirstAt (λ i. is_bit bit (reading.digit x i)) from upto i
+    → FirstAt (bit_found reading words bit) (j * reading.bits + from) (j * reading.bits + upto) (j * reading.bits + i)
+first_part reading words bit j from upto i x low is within found =
     let least = found.low in
     let most = found.high in
     record {
@@ -97,7 +83,13 @@ end_part First reading words bit j from upto (Some i) x low is within found =
       here = sym (digit_found reading words bit j i x (omega arith) low is) ∙ found.here;
       before = nowhere_part reading words bit j from i x low is (omega arith) found.before;
     }
-end_part Last reading words bit j from upto (Some i) x low is within found =
+
+-- the last index of it is the last place there
+pub last_part : {R : Type 0} (reading : Reading R) (words : List R) (bit : Bool) (j from upto i : ℕ) (x : R)
+    → j < length words → x ≡ get_or words j x → upto ≤ reading.bits
+    → LastAt (λ i. is_bit bit (reading.digit x i)) from upto i
+    → LastAt (bit_found reading words bit) (j * reading.bits + from) (j * reading.bits + upto) (j * reading.bits + i)
+last_part reading words bit j from upto i x low is within found =
     let least = found.low in
     let most = found.high in
     record {

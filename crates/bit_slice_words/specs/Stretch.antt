@@ -1,10 +1,8 @@
 -- Places from one up to before another at which a test passes nowhere, first or last. No public clause cites this
 -- module.
-use Rattle.std.specs.Prelude.{◌≡◌, ℕ, ◌+◌, ◌*◌, ◌^◌, ◌<◌, ◌≤◌, Bool, true, false, List, Option, Some, None, length}
+use Rattle.std.specs.Prelude.{◌≡◌, ℕ, ◌<◌, ◌≤◌, Bool, true, false, List, Option, Some, None}
 use Rattle.bit_addressing_memory.specs.Memory.{Reading, entry}
 use Rattle.bit_slice_words.specs.Found.{is_bit}
-use Rattle.bit_slice_words.specs.declared.ends.End.{End}
-use Rattle.bit_slice_words.specs.declared.ends.End.TheVariants.{First, Last}
 
 -- whether the entry of a memory at a place is this bit
 abbrev pub bit_found : {R : Type 0} → Reading R → List R → Bool → ℕ → Bool
@@ -37,15 +35,3 @@ IsFirst passes from upto (Some p) = FirstAt passes from upto p
 abbrev pub IsLast : (ℕ → Bool) → ℕ → ℕ → Option ℕ → Type 0
 IsLast passes from upto None = Nowhere passes from upto
 IsLast passes from upto (Some p) = LastAt passes from upto p
-
--- the first of such places, or the last
-abbrev pub IsEnd : End → (ℕ → Bool) → ℕ → ℕ → Option ℕ → Type 0
-IsEnd First = IsFirst
-IsEnd Last = IsLast
-
--- the words have this word, which has these indices, and the place behind the last one is a 64-bit number
-pub record IsPart {R : Type 0} (bits : ℕ) (words : List R) (word from upto : ℕ) : Type 0 where
-  pub inside : word < length words
-  pub order : from ≤ upto
-  pub within : upto ≤ bits
-  pub ends : word * bits + upto < 2 ^ 64

@@ -1,14 +1,16 @@
 //! The first bit of a kind, by words.
 
 ghost use Rattle.std.specs.Prelude.{◌≡◌, ◌+◌, ◌*◌, ◌^◌, ◌<◌, ◌≤◌, length, position};
-ghost use Rattle.bit_addressing_memory.specs.Prelude.{Lies, memory, piece, read_by};
+ghost use Rattle.bit_addressing_memory.specs.Prelude.{Lies, indexed, memory, piece, read_by};
 ghost use Rattle.bit_slice_words.specs.Found.{is_bit};
 ghost use Rattle.bit_slice_words.specs.Stretch.{bit_found, IsFirst, Nowhere};
 
-use crate::ends::{End, end_at, first_in_block};
 use crate::lacking::lacks;
+use crate::parts::{first_in_block, first_in_part};
 use bit_addressing_memory::mem::bits_of;
-use bit_addressing_memory::{BitOrder, BitRegister, NEAR_WORDS, Straight, edges_of};
+use bit_addressing_memory::{
+    BitIdx, BitOrder, BitRegister, NEAR_WORDS, Straight, edges_of, read_bit,
+};
 use bit_slice_paths::match_words::match_words;
 use bit_slice_paths::word_source::Constant;
 
@@ -39,7 +41,10 @@ pub fn first_in<R: BitRegister, O: BitOrder<R>>(
     if len > NEAR_WORDS * bits_of::<R>() {
         return first_of_many::<R, O>(words, place, len, bit);
     }
-    Some(first_place::<R, O>(words, place, len, bit, false)? - place)
+    match first_place::<R, O>(words, place, len, bit, false) {
+        Some(at) => Some(at - place),
+        None => None,
+    }
 }
 
 // `first_in` of bits in many words. Out of line, so that a search among few is a short function.
@@ -114,7 +119,10 @@ fn first_behind<R: BitRegister, O: BitOrder<R>>(
     requires none { Nowhere (bit_found (read_by R.BitRegister O.position) words.now bit) place (place + done) }
     ensures { result ≡ position (is_bit bit) (piece (memory (read_by R.BitRegister O.position) words.now) place len) }
 {
-    Some(first_place::<R, O>(words, place + done, len - done, bit, true)? - place)
+    match first_place::<R, O>(words, place + done, len - done, bit, true) {
+        Some(at) => Some(at - place),
+        None => None,
+    }
 }
 
 // The place of the first of some bits that is `bit`: in the first word, in the words between, which go one by one or by
@@ -135,9 +143,9 @@ fn first_place<R: BitRegister, O: BitOrder<R>>(
     }
     let cut = edges_of::<R>(place, len);
     if cut.first == cut.last {
-        return end_at::<R, O>(words, cut.first, cut.from, cut.upto, bit, End::First);
+        return first_at::<R, O>(words, cut.first, cut.from, cut.upto, bit);
     }
-    if let Some(at) = end_at::<R, O>(words, cut.first, cut.from, R::BITS, bit, End::First) {
+    if let Some(at) = first_at::<R, O>(words, cut.first, cut.from, R::BITS, bit) {
         return Some(at);
     }
     let next = if by_rounds {
@@ -146,7 +154,7 @@ fn first_place<R: BitRegister, O: BitOrder<R>>(
         next_near::<R, O>(words, cut.first + 1, cut.last, bit)
     };
     let upto = if next == cut.last { cut.upto } else { R::BITS };
-    end_at::<R, O>(words, next, 0, upto, bit, End::First)
+    first_at::<R, O>(words, next, 0, upto, bit)
 }
 
 // The first word from one number up to before another that has the bit, or the second number: word by word.
@@ -200,4 +208,98 @@ fn next_far<R: BitRegister, O: BitOrder<R>>(
     };
     let without = match_words::<R, O, Constant>(words, from, &source, upto - from);
     next_near::<R, O>(words, from + without, upto, bit)
+}
+
+// The place of the first bit that is `bit` in a part of a word.
+#[inline(always)]
+fn first_at<R: BitRegister, O: BitOrder<R>>(
+    words: &[R],
+    word: usize,
+    from: u8,
+    upto: u8,
+    bit: bool,
+) -> Option<usize>
+    requires inside { word < length words.now }
+    requires order { from ≤ upto }
+    requires within { upto ≤ R.BITS }
+    requires ends { word * R.BITS + upto < 2 ^ 64 }
+    ensures { IsFirst (bit_found (read_by R.BitRegister O.position) words.now bit)
+        (word * R.BITS + from) (word * R.BITS + upto) result }
+{
+    match Straight::<R, O>::find() {
+        Some(straight) => first_straight::<R, O>(straight, words, word, from, upto, bit),
+        None => first_singly::<R, O>(words, word, from, upto, bit),
+    }
+}
+
+// `first_at` where the positions go straight: up to 64 bits are one number.
+#[inline(always)]
+fn first_straight<R: BitRegister, O: BitOrder<R>>(
+    straight: Straight<R, O>,
+    words: &[R],
+    word: usize,
+    from: u8,
+    upto: u8,
+    bit: bool,
+) -> Option<usize>
+    requires inside { word < length words.now }
+    requires order { from ≤ upto }
+    requires within { upto ≤ R.BITS }
+    requires ends { word * R.BITS + upto < 2 ^ 64 }
+    ensures { IsFirst (bit_found (read_by R.BitRegister O.position) words.now bit)
+        (word * R.BITS + from) (word * R.BITS + upto) result }
+{
+    if from == upto {
+        return None;
+    }
+    if lacks::<R, O>(words[word], bit) {
+        return None;
+    }
+    if R::BITS <= 64 {
+        return first_in_part::<R, O>(straight, words, word, from, upto, bit);
+    }
+    let middle = upto.min(from + 64);
+    if let Some(at) = first_in_part::<R, O>(straight, words, word, from, middle, bit) {
+        return Some(at);
+    }
+    if middle == upto {
+        return None;
+    }
+    first_in_part::<R, O>(straight, words, word, middle, upto, bit)
+}
+
+// `first_at` bit by bit.
+fn first_singly<R: BitRegister, O: BitOrder<R>>(
+    words: &[R],
+    word: usize,
+    from: u8,
+    upto: u8,
+    bit: bool,
+) -> Option<usize>
+    requires inside { word < length words.now }
+    requires within { upto ≤ R.BITS }
+    requires ends { word * R.BITS + upto < 2 ^ 64 }
+    ensures { IsFirst (bit_found (read_by R.BitRegister O.position) words.now bit)
+        (word * R.BITS + from) (word * R.BITS + upto) result }
+{
+    match first_index::<R, O>(words[word], from, upto, bit) {
+        Some(i) => Some(word * bits_of::<R>() + i as usize),
+        None => None,
+    }
+}
+
+// The first index of a part of a word whose bit is `bit`.
+fn first_index<R: BitRegister, O: BitOrder<R>>(word: R, from: u8, upto: u8, bit: bool) -> Option<u8>
+    requires { upto ≤ R.BITS }
+    ensures { IsFirst (λ i. is_bit bit (indexed R.number O.position word i)) from upto result }
+{
+    if lacks::<R, O>(word, bit) {
+        return None;
+    }
+    for i in from..upto {
+        if read_bit::<R, O>(word, BitIdx::new_unchecked(i)) == bit {
+            return Some(i);
+        }
+    }
+    None
 }

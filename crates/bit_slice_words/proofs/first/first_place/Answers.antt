@@ -15,13 +15,13 @@ returns g c =
     let found : (next : ℕ) → c.if-by_rounds.next ≡ next → at.first + 1 ≤ next → next ≤ at.last
     → Nowhere passes ((at.first + 1) * b) (next * b)
     → (next < at.last → Nowhere passes (next * b) ((next + 1) * b) → ⊥)
-    → IsFirst passes c.args.place (c.args.place + c.args.len) c.end_at-3.result =
+    → IsFirst passes c.args.place (c.args.place + c.args.len) c.first_at-3.result =
     λ next is least most none some. first_of_cut passes b c.args.place (c.args.place + c.args.len) at.first at.from
-    at.last at.upto next c.if-next-cut.upto c.end_at-3.result cut.start cut.end (omega arith) cut.within least most
+    at.last at.upto next c.if-next-cut.upto c.first_at-3.result cut.start cut.end (omega arith) cut.within least most
     head none some
     (λ same. elim c.if-next-cut.branch [ then-next-cut w ↦ w.upto-is | else-next-cut w ↦ absurd (omega arith) ])
     (λ less. elim c.if-next-cut.branch [ then-next-cut w ↦ absurd (omega arith) | else-next-cut w ↦ omega arith ])
-    (rw is at c.end_at-3.ensures) in
+    (rw is at c.first_at-3.ensures) in
     elim c.if-by_rounds.branch [
       | then-by_rounds w ↦
           let next = w.next_far-next.ensures in

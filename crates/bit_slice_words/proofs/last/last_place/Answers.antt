@@ -11,10 +11,10 @@ returns g c =
     let cut = c.edges_of-cut.ensures in
     let at = c.edges_of-cut.result in
     let before = c.word_before-before.ensures in
-    let found = rw c.BITS.ensures at c.end_at-3.ensures in
+    let found = rw c.BITS.ensures at c.last_at-3.ensures in
     last_of_cut (bit_found (read_by g.R.BitRegister g.O.Positions.position) c.args.words.now c.args.bit) b
     c.args.place (c.args.place + c.args.len) at.first at.from at.last at.upto
-    c.word_before-before.result c.if-before-cut.from c.end_at-3.result cut.start cut.end (omega arith) cut.within
+    c.word_before-before.result c.if-before-cut.from c.last_at-3.result cut.start cut.end (omega arith) cut.within
     before.least before.most c.in_default.ensures before.none before.some
     (λ same. elim c.if-before-cut.branch [ then-before-cut w ↦ w.from-is | else-before-cut w ↦ absurd (omega arith) ])
     (λ less. elim c.if-before-cut.branch [ then-before-cut w ↦ absurd (omega arith) | else-before-cut w ↦ omega arith ])

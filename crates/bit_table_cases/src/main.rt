@@ -8,6 +8,7 @@ mod lines;
 mod memory;
 mod moves;
 mod order;
+mod runs;
 mod scripts;
 mod storages;
 mod tables;

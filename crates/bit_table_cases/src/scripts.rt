@@ -3,9 +3,10 @@
 ghost use Rattle.std.specs.Prelude.{◌*◌, ◌≤◌};
 ghost use Rattle.bit_table_script.specs.LayoutLimits.{MAX_ROW_BITS};
 
+use crate::runs::{answer_to, answer_whole};
 use crate::text::{cut, meant, push_answer};
 use bit_addressing_sample_orders::texts::number;
-use bit_table_samples::{Cut, Narrow, Stop, answer_to, answer_whole};
+use bit_table_samples::{Cut, Narrow, Stop};
 use bit_table_script::{BitViewSized, Digits, Input, Output, RunError, WordPaths, run};
 use std::alloc::{AllocError, Global};
 

@@ -2,10 +2,10 @@
 ghost use Rattle.std.specs.Prelude.{◌≡◌, ◌<◌, ◌∷◌, ◌++◌, [], IfOk, refl};
 ghost use Rattle.std.specs.List.{flat_map};
 ghost use Rattle.std.proofs.lemmas.List.Concat.{flat_map-append};
-ghost use Rattle.bit_table_script.specs.Lines.{IsBeginning, lines};
+ghost use Rattle.bit_table_lines.specs.Lines.{IsBeginning, lines};
 
 use crate::streams::Cut;
-use bit_table_script::{Input, LineMachine, Output, RunError, drive};
+use bit_table_lines::{Input, LineMachine, Output, RunError, drive};
 use std::alloc::{AllocError, Global};
 
 /// Answers each line by the line and a line end, and finds no memory once `until_fault` more lines are answered.

@@ -1,4 +1,4 @@
-//! What the tests of the table's crates share: a reader, a writer and a machine that fail when they are told to.
+//! What the tests of the table's crates share: a reader, a writer and a machine that fail on request.
 #![tactic(auto)]
 
 mod machines;

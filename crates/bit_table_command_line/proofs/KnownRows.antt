@@ -4,10 +4,10 @@ use Rattle.std.specs.Borrow.{Bor}
 use Rattle.clap.specs.Walk.{Text, first_of}
 use Rattle.clap.specs.Simple.{matches_of}
 use Rattle.clap.proofs.OnLiterals.{clap_on_literals}
-use Rattle.bit_table_command_line.specs.declared.storage.Word.{Word}
-use Rattle.bit_table_command_line.specs.declared.storage.Word.TheVariants.{U8, U16, U32, U64, U128}
-use Rattle.bit_table_command_line.specs.declared.storage.Order.{Order}
-use Rattle.bit_table_command_line.specs.declared.storage.Order.TheVariants.{Lsb0, Msb0, HiLo}
+use Rattle.bit_table_layout.specs.declared.storage.Word.{Word}
+use Rattle.bit_table_layout.specs.declared.storage.Word.TheVariants.{U8, U16, U32, U64, U128}
+use Rattle.bit_table_layout.specs.declared.storage.Order.{Order}
+use Rattle.bit_table_layout.specs.declared.storage.Order.TheVariants.{Lsb0, Msb0, HiLo}
 use Rattle.bit_table_command_line.specs.Storages.{word_names, order_names, word_of, order_of}
 use Rattle.bit_table_command_line.specs.Options.{program}
 

@@ -2,10 +2,10 @@
 use Rattle.std.specs.Prelude.{ℕ, List, [], ◌∷◌, map, Option, Some, None, if◌then◌else◌}
 use Rattle.std.specs.Str.{bytes_eq}
 use Rattle.std.specs.Borrow.{Bor}
-use Rattle.bit_table_command_line.specs.declared.storage.Word.{Word}
-use Rattle.bit_table_command_line.specs.declared.storage.Word.TheVariants.{U64}
-use Rattle.bit_table_command_line.specs.declared.storage.Order.{Order}
-use Rattle.bit_table_command_line.specs.declared.storage.Order.TheVariants.{Lsb0}
+use Rattle.bit_table_layout.specs.declared.storage.Word.{Word}
+use Rattle.bit_table_layout.specs.declared.storage.Word.TheVariants.{U64}
+use Rattle.bit_table_layout.specs.declared.storage.Order.{Order}
+use Rattle.bit_table_layout.specs.declared.storage.Order.TheVariants.{Lsb0}
 use Rattle.bit_table_command_line.specs.declared.storage.TheConstants.{WORDS, ORDERS}
 
 -- a list of names, each with what it names

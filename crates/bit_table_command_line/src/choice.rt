@@ -7,7 +7,8 @@ ghost use Rattle.bit_table_command_line.specs.Choices.{ChoosesFor, Refuses};
 ghost use Rattle.bit_table_command_line.specs.Storages.{order_names, word_names};
 
 use crate::command::command;
-use crate::storage::{Order, Word, order_named, order_names, word_named, word_names};
+use crate::storage::{order_named, order_names, word_named, word_names};
+use bit_table_layout::{Order, Word};
 use clap::Error;
 use clap::error::ErrorKind;
 use std::alloc::Global;

@@ -5,5 +5,6 @@ mod choice;
 mod command;
 mod storage;
 
+pub use bit_table_layout::{Order, Word};
 pub use choice::{Choice, choose};
-pub use storage::{ORDERS, Order, WORDS, Word};
+pub use storage::{ORDERS, WORDS};

@@ -1,36 +1,11 @@
-//! The storage words and the orders that the program's options name.
+//! The names of the storage words and the orders, as the program's options take them.
 
 ghost use Rattle.std.specs.Prelude.{◌≡◌, ◌∷◌, [], map, option_map, IfOk};
 ghost use Rattle.clap.specs.Walk.{texts};
 ghost use Rattle.bit_table_command_line.specs.Storages.{named, order_names, order_of, rows_of_names, value_of, word_names, word_of};
 
+use bit_table_layout::{Order, Word};
 use std::alloc::{AllocError, Global};
-
-/// The storage word of a table.
-#[derive(Clone, Copy, PartialEq, Eq, Debug)]
-pub enum Word {
-    /// Words of 8 bits.
-    U8,
-    /// Words of 16 bits.
-    U16,
-    /// Words of 32 bits.
-    U32,
-    /// Words of 64 bits.
-    U64,
-    /// Words of 128 bits.
-    U128,
-}
-
-/// The order of the bits in each word of a table.
-#[derive(Clone, Copy, PartialEq, Eq, Debug)]
-pub enum Order {
-    /// The first bit is the lowest digit.
-    Lsb0,
-    /// The first bit is the highest digit.
-    Msb0,
-    /// The order `HiLo`: the lowest digit first, and the two halves of each eight digits exchanged.
-    HiLo,
-}
 
 /// The storage words by their names, in the order of their widths: the only list of them.
 pub const WORDS: [(&str, Word); 5] = [

@@ -10,6 +10,7 @@ mod layout;
 mod letter;
 mod line_words;
 mod numerals;
+mod storage;
 
 pub use bool_op::BoolOp;
 pub use cause::{Cause, Fault};
@@ -19,3 +20,4 @@ pub use layout::{Layout, LayoutError, MAX_BITS, MAX_ROW_BITS, Rule};
 pub use letter::Letter;
 pub use line_words::{Words, is_separator};
 pub use numerals::{is_number, number_up_to};
+pub use storage::{Order, Word};

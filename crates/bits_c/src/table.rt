@@ -8,7 +8,7 @@ ghost use Rattle.bits_c.specs.Table.{BeginsIn, Fills, HasOrder, HasWord, Ran};
 ghost use Rattle.bits_c.specs.declared.status.TheConstants.{OK, NO_ROOM, NO_MEMORY, BAD_STORAGE};
 
 use crate::status::{BAD_STORAGE, NO_MEMORY, NO_ROOM, OK};
-use bit_table_command_line::{Order, Word};
+use bit_table_layout::{Order, Word};
 use bit_table_script::{BitViewSized, Digits, HiLo, Input, Lsb0, Msb0, Output, WordPaths, run};
 use std::alloc::Global;
 

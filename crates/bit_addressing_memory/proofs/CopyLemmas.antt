@@ -1,19 +1,15 @@
 -- What one more bit, copied or exchanged, makes of a loop's work so far.
 use Rattle.bit_addressing_memory.proofs.Common.{◌≡◌, ℕ, ◌+◌, ◌-◌, ◌<◌, ◌≤◌, Bool, List, refl, sym, ap, ◌∙◌, inl, inr}
 use Rattle.bit_addressing_memory.proofs.Common.{arith, below_more, cases_eq, Reading, entry, Writes, Copies, Swaps}
-use Rattle.bit_addressing_memory.proofs.OverwriteLemmas.{written_there, written_others}
+use Rattle.bit_addressing_memory.proofs.OverwriteLemmas.{stretch_more, stretch_none, written_there, written_others}
 
 -- ---- copies, the first bit first
 
 -- before the first bit
 pub copies_none : {R Q : Type 0} (reading : Reading R) (words : List R) (its : Reading Q)
     (other : List Q) (source target : ℕ) → Copies reading words words its other source target 0
-copies_none reading words its other source target = record {
-  there = λ k h. absurd (omega arith);
-  below = λ p h. refl;
-  above = λ p h. refl;
-  words = refl;
-}
+copies_none reading words its other source target =
+    stretch_none reading words target (λ k. entry its other (source + k))
 
 -- one more bit
 pub copies_more : {R Q : Type 0} (reading : Reading R) (before now after : List R) (its : Reading Q) (other : List Q)
@@ -21,14 +17,9 @@ pub copies_more : {R Q : Type 0} (reading : Reading R) (before now after : List 
     → p ≡ target + k → bit ≡ entry its other (source + k)
     → Copies reading before now its other source target k → Writes reading now after p bit
     → Copies reading before after its other source target (k + 1)
-copies_more reading before now after its other source target k p bit is_place is_bit had wrote = record {
-  there = below_more (λ i. entry reading after (target + i) ≡ entry its other (source + i)) k
-      (λ i h. written_others wrote (target + i) (omega arith) ∙ had.there i h)
-      (ap (entry reading after) (sym is_place) ∙ (written_there wrote) ∙ is_bit);
-  below = λ q h. written_others wrote q (omega arith) ∙ had.below q h;
-  above = λ q h. written_others wrote q (omega arith) ∙ had.above q (omega arith);
-  words = wrote.words ∙ had.words;
-}
+copies_more reading before now after its other source target k p bit is_place is_bit had wrote =
+    stretch_more reading before now after target k bit (λ i. entry its other (source + i)) is_bit had
+    (rw is_place at wrote)
 
 -- inside one memory, towards lower places: the bit read next is still as it was
 pub not_yet_up : {R : Type 0} (reading : Reading R) (before now : List R) (source target k : ℕ)

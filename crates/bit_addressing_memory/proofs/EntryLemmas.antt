@@ -3,7 +3,7 @@
 -- `entry_at`, `entry_read`, `entry_read_place`: a word that was read.
 -- `entry-set_same`, `entry-set_other`: a word that was written.
 -- `indexed_same`, `indexed_other`: a word with the digit of one index made a bit. `writes_bit`: written back.
-use Rattle.bit_addressing_memory.proofs.Common.{◌≡◌, ◌≢◌, ℕ, ◌+◌, ◌*◌, ◌/◌, ◌%◌, ◌<◌, ◌≤◌, Bool, false, List, Option}
+use Rattle.bit_addressing_memory.proofs.Common.{◌≡◌, ◌≢◌, ℕ, ◌+◌, ◌*◌, ◌/◌, ◌%◌, ◌<◌, Bool, false, List, Option}
 use Rattle.bit_addressing_memory.proofs.Common.{length, map, get_or, set, sym, ap, ◌∙◌, inl, inr, arith, cases_eq}
 use Rattle.bit_addressing_memory.proofs.Common.{Reading, entry, indexed, reading_in, Writes}
 use Rattle.std.proofs.lemmas.List.{map-set, length-map, length-set, get_or-map, get_or-set_same}

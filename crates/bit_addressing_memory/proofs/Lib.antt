@@ -10,11 +10,13 @@ pub mod PartialLemmas
 pub mod StoredLemmas
 pub mod PartsLemmas
 pub mod ShiftLemmas
+pub mod BlockLemmas
+pub mod ChunkLemmas
+pub mod TransferLemmas
 pub mod Changes
 pub mod Gathers
 pub mod Puts
 pub mod ShiftedWords
-pub mod OnePlaceLemmas
 pub mod SpreadLemmas
 pub mod Sweeps
 pub mod WayLemmas

@@ -1,18 +1,16 @@
 -- Limbs: how many blocks of eight digits they have, and their digits.
 use Rattle.bit_addressing_memory.proofs.Common.{◌≡◌, ℕ, ◌+◌, ◌-◌, ◌*◌, ◌/◌}
-use Rattle.bit_addressing_memory.proofs.Common.{◌%◌, ◌^◌, ◌==◌, ◌<◌, ◌≤◌, List, length}
-use Rattle.bit_addressing_memory.proofs.Common.{get_or, set, ◌≢◌, false, bit_or, min, ap, sym, ◌∙◌, inl, inr, arith}
-use Rattle.bit_addressing_memory.proofs.Common.{cases_lt, eqb-false, Reading, entry, Overwrites, IsStored}
-use Rattle.std.proofs.Math.Nat.{mul-le-mul_right}
+use Rattle.bit_addressing_memory.proofs.Common.{◌%◌, ◌^◌, ◌==◌, ◌<◌, ◌≤◌}
+use Rattle.bit_addressing_memory.proofs.Common.{◌≢◌, false, bit_or, min, ap, sym, ◌∙◌, inl, inr, arith}
+use Rattle.bit_addressing_memory.proofs.Common.{cases_lt, eqb-false, Reading, IsStored}
 use Rattle.std.proofs.Math.Pow.{pow_mono}
 use Rattle.std.proofs.lemmas.Nat.{pow-add}
 use Rattle.std.proofs.lemmas.Nat.Bits.{bit_at_or, bit_at-lt}
 use Rattle.std.specs.Int.{bit_at}
 use Rattle.bit_addressing_order.specs.Bits.{digit_at}
 use Rattle.bit_addressing_order.specs.BitRegister.{IsRegisterSize}
-use Rattle.bit_addressing_memory.specs.Limbs.{HasEntries}
-use Rattle.bit_addressing_memory.proofs.EntryLemmas.{entry_read}
-use Rattle.bit_addressing_memory.proofs.PartsLemmas.{stores_part}
+use Rattle.bit_addressing_memory.specs.Chunk.{IsLowered, IsPart, IsPatched, IsRaised}
+use Rattle.bit_addressing_memory.specs.declared.direction.Direction.TheVariants.{Ascending}
 use Rattle.bit_addressing_memory.proofs.ShiftLemmas.{bit_at_cut}
 
 -- a digit of a number of 64 digits, as its register has it
@@ -48,209 +46,83 @@ two_limbs b size wide = elim (cases_lt size.0 7) [
       size.3 ∙ ap (λ n. 2 ^ n) all
 ]
 
--- a limb of a memory of words of one limb
-pub limb_read : {R : Type 0} (reading : Reading R) (words : List R) (n l : ℕ) (x : R) (limb : ℕ) → l ≡ reading.bits
-    → n < length words → x ≡ get_or words n x
-    → ((i : ℕ) → i < l → digit_at limb i ≡ reading.digit x (0 + i))
-    → (i : ℕ) → i < l → digit_at limb i ≡ entry reading words (n * l + i)
-limb_read reading words n l x limb is within read digits i low =
-    let start : 0 + i ≡ i = omega arith in
-    digits i low
-    ∙ ap (reading.digit x) start
-    ∙ entry_read reading words n i x (omega arith) within read
-    ∙ ap (λ b. entry reading words (n * b + i)) (sym is)
+-- ---- parts of words, by limbs
 
--- a limb of a memory of words of two, from an index on
-pub half_read : {R : Type 0} (reading : Reading R) (words : List R) (n l from : ℕ) (x : R) (limb : ℕ)
-    → reading.bits ≡ 128 → l ≡ 64 → from ≡ 64 * (n % 2) → n / 2 < length words → x ≡ get_or words (n / 2) x
-    → ((i : ℕ) → i < l → digit_at limb i ≡ reading.digit x (from + i))
-    → (i : ℕ) → i < l → digit_at limb i ≡ entry reading words (n * l + i)
-half_read reading words n l from x limb wide half is within read digits i low =
-    let row : n / 2 * reading.bits + (from + i) ≡ n * l + i = rw (wide, half, is) (omega arith) in
-    digits i low
-    ∙ entry_read reading words (n / 2) (from + i) x (omega arith) within read
-    ∙ ap (entry reading words) row
-
--- ---- bits of a memory, limb by limb
-
-less_rows : (x y w : ℕ) → x * w < y * w → x < y
-less_rows x y w less = elim (cases_lt x y) [
-  | inl low ↦ low
-  | inr high ↦ absurd (omega (arith, mul-le-mul_right w high))
-]
-
--- a memory is whole limbs
-pub limb_within : (b l m n end : ℕ) → l ≡ min 64 b → IsRegisterSize b → n * l < end → end ≤ m * b → n * l + l ≤ m * b
-limb_within b l m n end is size begins fits = elim (cases_lt 64 b) [
-  | inl wide ↦
-      let two = two_limbs b size wide in
-      let half : l ≡ 64 = omega (arith, two, is) in
-      let at : n * l ≡ n * 64 = ap (λ k. n * k) half in
-      let all : m * b ≡ m * 128 = ap (λ k. m * k) two in
-      omega (arith, at, all, half, begins, fits)
-  | inr narrow ↦
-      let whole : l ≡ b = omega (arith, is) in
-      let at : n * l ≡ n * b = ap (λ k. n * k) whole in
-      let low : n < m = less_rows n m b (omega (arith, at, begins, fits)) in
-      let next : n + 1 ≤ m = omega (arith, low) in
-      let row : (n + 1) * b ≤ m * b = mul-le-mul_right b next in
-      omega (arith, at, whole, row)
-]
-
--- the first limb, from a digit on
-pub bits_first : {R : Type 0} (reading : Reading R) (words : List R) (place n l by limb made : ℕ)
-    → n * l + by ≡ place → by < l → l ≤ 64
-    → ((i : ℕ) → i < l → digit_at limb i ≡ entry reading words (n * l + i))
-    → ((i : ℕ) → l ≤ i → digit_at limb i ≡ false)
-    → ((i : ℕ) → digit_at made i ≡ digit_at limb (by + i))
-    → HasEntries reading words place (min 64 ((n + 1) * l - place)) made
-bits_first reading words place n l by limb made at low few inside past moved = record {
-  inside = λ k small.
-      let here : n * l + (by + k) ≡ place + k = omega arith in
-      moved k ∙ inside (by + k) (omega arith) ∙ ap (entry reading words) here;
-  past = λ k high small. moved k ∙ past (by + k) (omega arith);
-}
-
--- one limb more
-pub bits_joined : {R : Type 0} (reading : Reading R) (words : List R) (place n l at made limb next : ℕ)
-    → place + at ≡ n * l → at < 64
-    → ((i : ℕ) → i < l → digit_at limb i ≡ entry reading words (n * l + i))
-    → ((i : ℕ) → l ≤ i → digit_at limb i ≡ false)
-    → ((i : ℕ) → i < at → digit_at next i ≡ digit_at made i)
-    → ((i : ℕ) → at ≤ i → i < 64 → digit_at next i ≡ digit_at limb (i - at))
-    → HasEntries reading words place (min 64 (n * l - place)) made
-    → HasEntries reading words place (min 64 ((n + 1) * l - place)) next
-bits_joined reading words place n l at made limb next is few inside past low high had = record {
-  inside = λ k small. elim (cases_lt k at) [
-    | inl before ↦ low k before ∙ had.inside k (omega arith)
-    | inr behind ↦
-        let here : n * l + (k - at) ≡ place + k = omega arith in
-        high k behind (omega arith) ∙ inside (k - at) (omega arith) ∙ ap (entry reading words) here
+-- a part of one limb, that from the index `base` on
+pub part_lowered : {R : Type 0} (reading : Reading R) (word : R) (base end by from upto limb low : ℕ) → base + by ≡ from
+    → upto ≤ end → end ≤ base + 64 → IsPart reading word base end Ascending limb → IsLowered Ascending limb by low
+    → IsPart reading word from upto Ascending low
+part_lowered reading word base end by from upto limb low at within few is moved = record {
+  inside = λ i small inside.
+      let there : base + (i + by) ≡ from + i = omega arith in
+      moved.inside i (omega arith) ∙ is.inside (i + by) (omega arith) (omega arith) ∙ ap (reading.digit word) there;
+  past = λ i small far. elim (cases_lt (i + by) 64) [
+    | inl near ↦ moved.inside i near ∙ is.past (i + by) near (omega arith)
+    | inr out ↦ moved.past i small out
   ];
-  past = λ k far small. high k (omega arith) small ∙ past (k - at) (omega arith);
 }
 
--- no more of them than are wanted
-pub bits_cut : {R : Type 0} (reading : Reading R) (words : List R) (place m count made result : ℕ) → count ≤ m
-    → ((i : ℕ) → i < count → digit_at result i ≡ digit_at made i)
-    → ((i : ℕ) → count ≤ i → digit_at result i ≡ false)
-    → HasEntries reading words place m made → HasEntries reading words place count result
-bits_cut reading words place m count made result most inside past had = record {
-  inside = λ k low. inside k low ∙ had.inside k (omega arith);
-  past = λ k high small. past k high;
+-- a part of both limbs of a word of 128 bits
+pub part_joined : {R : Type 0} (reading : Reading R) (word : R) (from upto half end first next low high : ℕ)
+    → reading.bits ≡ 128 → from < 64 → 64 ≤ half → upto ≤ end → IsPart reading word 0 half Ascending first
+    → IsPart reading word 64 end Ascending next → IsLowered Ascending first from low
+    → IsRaised Ascending next (64 - from) high → IsPart reading word from upto Ascending (bit_or low high)
+part_joined reading word from upto half end first next low high wide index whole within one two moved put = record {
+  inside = λ i small inside. elim (cases_lt (i + from) 64) [
+    | inl near ↦
+        let there : 0 + (i + from) ≡ from + i = omega arith in
+        or_left low high i (put.below i (omega arith))
+        ∙ moved.inside i near
+        ∙ one.inside (i + from) near (omega arith)
+        ∙ ap (reading.digit word) there
+    | inr far ↦
+        let there : 64 + (i - (64 - from)) ≡ from + i = omega arith in
+        or_right low high i (moved.past i small far)
+        ∙ put.above i (omega arith) small
+        ∙ two.inside (i - (64 - from)) (omega arith) (omega arith)
+        ∙ ap (reading.digit word) there
+  ];
+  past = λ i small far. absurd (omega arith);
 }
 
--- ---- limbs written
-
--- a limb of a word put into a memory
-pub limb_stored : {R : Type 0} (reading : Reading R) (words : List R) (j n l from limb : ℕ) (x w : R)
-    → j * reading.bits + from ≡ n * l → from + l ≤ reading.bits → 0 < reading.bits → j < length words
-    → x ≡ get_or words j x → IsStored reading x w from (from + l) (λ i. digit_at limb (i - from))
-    → Overwrites reading words (set words j w) (n * l) l (digit_at limb)
-limb_stored reading words j n l from limb x w start fits some within read stored =
-    let wrote = stores_part reading words j x w from (from + l) (λ i. digit_at limb (i - from)) within read (omega arith)
-    fits some stored in
-    record {
-      there = λ k low.
-          let at : j * reading.bits + from + k ≡ n * l + k = omega arith in
-          let back : from + k - from ≡ k = omega arith in
-          ap (entry reading (set words j w)) (sym at) ∙ wrote.there k (omega arith) ∙ ap (digit_at limb) back;
-      below = λ p low. wrote.below p (omega arith);
-      above = λ p high. wrote.above p (omega arith);
-      words = wrote.words;
-    }
-
--- a part of a limb written, with its own digits beside
-pub part_put : {R : Type 0} (reading : Reading R) (before after : List R) (start l from upto first number own limb : ℕ)
-    → from < upto → upto ≤ l → l ≤ 64
-    → ((i : ℕ) → i < l → digit_at own i ≡ entry reading before (start + i))
-    → ((i : ℕ) → from ≤ i → i < upto → digit_at limb i ≡ digit_at number (first + (i - from)))
-    → ((i : ℕ) → i < from → digit_at limb i ≡ digit_at own i)
-    → ((i : ℕ) → upto ≤ i → i < 64 → digit_at limb i ≡ digit_at own i)
-    → Overwrites reading before after start l (digit_at limb)
-    → Overwrites reading before after (start + from) (upto - from) (λ k. digit_at number (first + k))
-part_put reading before after start l from upto first number own limb order within few is inside low_ones high_ones put
-    = record {
-      there = λ k low.
-          let at : start + from + k ≡ start + (from + k) = omega arith in
-          let back : first + (from + k - from) ≡ first + k = omega arith in
-          ap (entry reading after) at
-          ∙ put.there (from + k) (omega arith)
-          ∙ inside (from + k) (omega arith) (omega arith)
-          ∙ ap (digit_at number) back;
-      below = λ p low. elim (cases_lt p start) [
-        | inl outside ↦ put.below p outside
-        | inr here ↦
-            let at : start + (p - start) ≡ p = omega arith in
-            ap (entry reading after) (sym at)
-            ∙ put.there (p - start) (omega arith)
-            ∙ low_ones (p - start) (omega arith)
-            ∙ is (p - start) (omega arith)
-            ∙ ap (entry reading before) at
-      ];
-      above = λ p high. elim (cases_lt p (start + l)) [
-        | inl here ↦
-            let at : start + (p - start) ≡ p = omega arith in
-            ap (entry reading after) (sym at)
-            ∙ put.there (p - start) (omega arith)
-            ∙ high_ones (p - start) (omega arith) (omega arith)
-            ∙ is (p - start) (omega arith)
-            ∙ ap (entry reading before) at
-        | inr outside ↦ put.above p outside
-      ];
-      words = put.words;
-    }
+-- ---- words with a chunk, by limbs
 
 -- a word with a limb of its own digits and of others
-pub limb_mixed : {R : Type 0} (reading : Reading R) (words : List R) (word result : R)
-    (base l from upto place bits own limb : ℕ) → base ≤ from → from < upto → upto ≤ base + l → l ≤ 64
-    → HasEntries reading words place (upto - from) bits
-    → ((i : ℕ) → i < l → digit_at own i ≡ reading.digit word (base + i))
-    → ((i : ℕ) → from - base ≤ i → i < upto - base → digit_at limb i ≡ digit_at bits (0 + (i - (from - base))))
-    → ((i : ℕ) → i < from - base → digit_at limb i ≡ digit_at own i)
-    → ((i : ℕ) → upto - base ≤ i → i < 64 → digit_at limb i ≡ digit_at own i)
+pub limb_mixed : {R : Type 0} (reading : Reading R) (word result : R) (base l from upto chunk own limb : ℕ)
+    → base ≤ from → from < upto → upto ≤ base + l → l ≤ 64
+    → IsPart reading word base (base + l) Ascending own → IsPatched Ascending own (from - base) (upto - from) chunk limb
     → IsStored reading word result base (base + l) (λ i. digit_at limb (i - base))
-    → IsStored reading word result from upto (λ i. entry reading words (place + (i - from)))
-limb_mixed reading words word result base l from upto place bits own limb low order high few has is inside below above
-    stored = record {
-      inside = λ i first last small.
-          let back : 0 + (i - base - (from - base)) ≡ i - from = omega arith in
-          stored.inside i (omega arith) (omega arith) small
-          ∙ inside (i - base) (omega arith) (omega arith)
-          ∙ ap (digit_at bits) back
-          ∙ has.inside (i - from) (omega arith);
-      below = λ i before small. elim (cases_lt i base) [
-        | inl outside ↦ stored.below i outside small
-        | inr here ↦
-            let at : base + (i - base) ≡ i = omega arith in
-            stored.inside i here (omega arith) small
-            ∙ below (i - base) (omega arith)
-            ∙ is (i - base) (omega arith)
-            ∙ ap (reading.digit word) at
-      ];
-      above = λ i behind small. elim (cases_lt i (base + l)) [
-        | inl here ↦
-            let at : base + (i - base) ≡ i = omega arith in
-            stored.inside i (omega arith) here small
-            ∙ above (i - base) (omega arith) (omega arith)
-            ∙ is (i - base) (omega arith)
-            ∙ ap (reading.digit word) at
-        | inr outside ↦ stored.above i outside small
-      ];
-    }
+    → IsStored reading word result from upto (λ i. digit_at chunk (i - from))
+limb_mixed reading word result base l from upto chunk own limb low order high few is mixed stored = record {
+  inside = λ i first last small.
+      let back : from - base + (i - from) ≡ i - base = omega arith in
+      stored.inside i (omega arith) (omega arith) small
+      ∙ ap (digit_at limb) (sym back)
+      ∙ mixed.inside (i - from) (omega arith);
+  below = λ i before small. elim (cases_lt i base) [
+    | inl outside ↦ stored.below i outside small
+    | inr here ↦ stored.inside i here (omega arith) small ∙ mixed.below (i - base) (omega arith) ∙ same i here (omega arith)
+  ];
+  above = λ i behind small. elim (cases_lt i (base + l)) [
+    | inl here ↦
+        stored.inside i (omega arith) here small
+        ∙ mixed.above (i - base) (omega arith) (omega arith)
+        ∙ same i (omega arith) here
+    | inr outside ↦ stored.above i outside small
+  ];
+}
+  where
+    same : (i : ℕ) → base ≤ i → i < base + l → digit_at own (i - base) ≡ reading.digit word i
+    same i first last =
+        let at : base + (i - base) ≡ i = omega arith in
+        is.inside (i - base) (omega arith) (omega arith) ∙ ap (reading.digit word) at
 
 -- a word with a whole limb of others
-pub limb_whole : {R : Type 0} (reading : Reading R) (words : List R) (word result : R)
-    (base l from upto place bits : ℕ) → base ≤ from → from < upto → upto ≤ base + l → upto - from ≡ l
-    → HasEntries reading words place (upto - from) bits
-    → IsStored reading word result base (base + l) (λ i. digit_at bits (i - base))
-    → IsStored reading word result from upto (λ i. entry reading words (place + (i - from)))
-limb_whole reading words word result base l from upto place bits low order high all has stored = record {
-  inside = λ i first last small.
-      let back : i - base ≡ i - from = omega arith in
-      stored.inside i (omega arith) (omega arith) small
-      ∙ ap (digit_at bits) back
-      ∙ has.inside (i - from) (omega arith);
-  below = λ i before small. stored.below i (omega arith) small;
-  above = λ i behind small. stored.above i (omega arith) small;
-}
+pub limb_whole : {R : Type 0} (reading : Reading R) (word result : R) (base l from upto chunk : ℕ) → base ≤ from
+    → from < upto → upto ≤ base + l → upto - from ≡ l
+    → IsStored reading word result base (base + l) (λ i. digit_at chunk (i - base))
+    → IsStored reading word result from upto (λ i. digit_at chunk (i - from))
+limb_whole reading word result base l from upto chunk low order high all stored =
+    let start : base ≡ from = omega arith in
+    let end : base + l ≡ upto = omega arith in
+    rw (← end, ← start) stored

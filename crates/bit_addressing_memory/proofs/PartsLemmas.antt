@@ -1,11 +1,12 @@
 -- The parts of a span, a word each: where they lie, and a word of a memory read and written in its part.
 --
--- `part_start`: where a part lies. `reads_part`, `stores_part`: one word read, and written back.
+-- `part_start`: where a part lies. `reads_part`, `stores_part`: one word read, and written back; `stores_whole`: written.
 use Rattle.bit_addressing_memory.proofs.Common.{◌≡◌, ℕ, zero, suc, ◌+◌, ◌-◌, ◌*◌, ◌/◌, ◌%◌, ◌<◌, ◌≤◌, Bool, List, length}
-use Rattle.bit_addressing_memory.proofs.Common.{get_or, set, true, false, not, sym, ap, ◌∙◌, inl, inr, arith}
+use Rattle.bit_addressing_memory.proofs.Common.{get_or, set, not, refl, sym, ap, ◌∙◌, inl, inr, arith}
 use Rattle.bit_addressing_memory.proofs.Common.{length-set, cases_eq, cases_lt, Reading, entry, touched, Overwrites}
 use Rattle.bit_addressing_memory.proofs.Common.{IsMasked, IsStored, ReadsPart}
 use Rattle.std.proofs.Math.Nat.{mul-le-mul_right}
+use Rattle.std.proofs.lemmas.List.{get_or_default}
 use Rattle.std.proofs.lemmas.Nat.{div-mul-add, mod-mul-add, div-add-mod', mod_below}
 use Rattle.bit_addressing_memory.proofs.EntryLemmas.{entry_read, entry-set_same, entry-set_other}
 
@@ -83,23 +84,14 @@ stores_as reading before after place n x y is same = record {
   words = is.words;
 }
 
--- a word without digits stored in a part
-pub stores_none : {R : Type 0} (reading : Reading R) (before after : List R) (place n from : ℕ) (value : R)
+-- a word whose digits are all the same stored in a part
+pub stores_all : {R : Type 0} (reading : Reading R) (before after : List R) (place n from : ℕ) (value : R) (bit : Bool)
     → Overwrites reading before after place n (λ i. reading.digit value (from + i))
-    → ((i : ℕ) → i < reading.bits → reading.digit value i ≡ false)
-    → from + n ≤ reading.bits → Overwrites reading before after place n (λ _. false)
-stores_none reading before after place n from value is none within =
-    stores_as reading before after place n (λ i. reading.digit value (from + i)) (λ _. false) is
-    (λ i small. none (from + i) (omega arith))
-
--- a word with each digit stored in a part
-pub stores_each : {R : Type 0} (reading : Reading R) (before after : List R) (place n from : ℕ) (value : R)
-    → Overwrites reading before after place n (λ i. reading.digit value (from + i))
-    → ((i : ℕ) → i < reading.bits → reading.digit value i ≡ true)
-    → from + n ≤ reading.bits → Overwrites reading before after place n (λ _. true)
-stores_each reading before after place n from value is each within =
-    stores_as reading before after place n (λ i. reading.digit value (from + i)) (λ _. true) is
-    (λ i small. each (from + i) (omega arith))
+    → ((i : ℕ) → i < reading.bits → reading.digit value i ≡ bit)
+    → from + n ≤ reading.bits → Overwrites reading before after place n (λ _. bit)
+stores_all reading before after place n from value bit is same within =
+    stores_as reading before after place n (λ i. reading.digit value (from + i)) (λ _. bit) is
+    (λ i small. same (from + i) (omega arith))
 
 -- the word j flipped and stored in a part of itself
 pub stores_flipped : {R : Type 0} (reading : Reading R) (before after : List R) (place n from j : ℕ)
@@ -166,3 +158,16 @@ stored_back reading before between after was from upto from' n n' now same_head 
         | inr past ↦ again.above p (omega arith) ∙ first.above p past
       ]
     ]
+
+-- the word j written whole
+pub stores_whole : {R : Type 0} (reading : Reading R) (words : List R) (j : ℕ) (w : R) → j < length words
+    → 0 < reading.bits
+    → Overwrites reading words (set words j w) (j * reading.bits + 0) (reading.bits - 0) (λ i. reading.digit w (0 + i))
+stores_whole reading words j w within some =
+    let x = get_or words j w in
+    stores_part reading words j x w 0 reading.bits (reading.digit w) within (get_or_default words j w x within)
+    (omega arith) (omega arith) some (record {
+      inside = λ i _ _ small. refl;
+      below = λ i none _. absurd (omega arith);
+      above = λ i past small. absurd (omega arith);
+    })

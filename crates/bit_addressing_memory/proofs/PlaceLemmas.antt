@@ -76,7 +76,7 @@ touched_words b place (suc m) first from last upto start end low some within any
     let tail : (place + m) / b ≡ last = ap (λ p. p / b) (sym at) ∙ div-mul-add last b (upto - 1) (omega arith) in
     omega (arith, head, tail)
 
-le_mul : (m b : ℕ) → 0 < b → m ≤ m * b
+pub le_mul : (m b : ℕ) → 0 < b → m ≤ m * b
 le_mul zero b some = omega arith
 le_mul (suc m) b some = omega (arith, le_mul m b some)
 
@@ -94,4 +94,12 @@ pub touched_some : (b place n : ℕ) → 0 < b → 0 < n → 0 < touched b place
 touched_some b place zero some any = absurd (omega arith)
 touched_some b place (suc m) some any =
     let last = le-div (place / b) (place + m) b some (omega (arith, div-add-mod' place b)) in
+    omega (arith, last)
+
+-- and where they fit one word two words at most
+pub touched_two : (b place n : ℕ) → 0 < b → n ≤ b → touched b place n ≤ 2
+touched_two b place zero some most = omega arith
+touched_two b place (suc m) some most =
+    let rest = mod_below place b some in
+    let last = div_below (place + m) b (place / b + 2) some (omega (arith, div-add-mod' place b, rest)) in
     omega (arith, last)

@@ -37,7 +37,7 @@ bit_at_shl_high n s p high =
     ap (λ m. bit_at m p) (sym whole) ∙ bit_at_cat_high n s 0 p (pow_pos s) high
 
 -- `low >> by | high << (b - by)`, the words of b bits
-shifted_digits : (b low high by : ℕ) → low < 2 ^ b → by < b
+pub shifted_digits : (b low high by : ℕ) → low < 2 ^ b → by < b
     → AreShifted b low high (bit_or (low / 2 ^ by) (high * 2 ^ (b - by) % 2 ^ b)) by
 shifted_digits b low high by fits within = record {
   from_low = λ p small.

@@ -1,6 +1,6 @@
 -- A word written in a part of it: `stored_digits`, and what it is at the words that flip, clear and set.
-use Rattle.bit_addressing_memory.proofs.Common.{◌≡◌, ℕ, zero, suc, ◌-◌, ◌^◌, ◌<◌, ◌≤◌, ◌==◌, Bool, true, false, not}
-use Rattle.bit_addressing_memory.proofs.Common.{Option, bit_and, bit_or, refl, ap, ◌∙◌, arith, Reading, indexed}
+use Rattle.bit_addressing_memory.proofs.Common.{◌≡◌, ℕ, zero, suc, ◌-◌, ◌^◌, ◌<◌, ◌≤◌, ◌==◌, true, false, not}
+use Rattle.bit_addressing_memory.proofs.Common.{Option, bit_and, bit_or, refl, ap, ◌∙◌, arith, indexed}
 use Rattle.bit_addressing_memory.proofs.Common.{reading_in, part_mask, IsStored}
 use Rattle.std.proofs.lemmas.Nat.Bits.{bit_at_and, bit_at_or, bit_at-lt, bit_at-zero, bit_at_ones}
 use Rattle.std.specs.Int.{bit_at}

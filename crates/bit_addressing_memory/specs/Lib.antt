@@ -1,6 +1,6 @@
 pub mod Prelude
 pub mod Lies
-pub mod Limbs
+pub mod Chunk
 pub mod Memory
 pub mod Place
 pub mod Partial

@@ -142,8 +142,8 @@ pub const SWAPPED_BY_WORDS: usize = 64;
 /// From how many narrow words on their ones are counted 64 bits at a time.
 pub const COUNTED_BY_BLOCKS: usize = 16;
 
-/// Words of fewer bits are narrow for a rotation: a block has several of them.
-pub const NARROW_WORD: u8 = 32;
+/// From how many narrow words on a move goes 64 bits at a time: of fewer, the call that does so costs more than it saves.
+pub(crate) const MOVED_BY_BLOCKS: usize = 8;
 
 /// Up to how many bits of its shorter part a rotation goes by moves alone: with more, swaps take less time.
 pub const ROTATED_BY_MOVES: usize = 256;

@@ -2,6 +2,7 @@
 
 ghost use Rattle.std.specs.Prelude.{◌≡◌, ◌<◌, ◌↔◌, IsTrue, MatchOption};
 ghost use Rattle.bit_addressing_memory.specs.declared.direction.Direction.{Direction};
+ghost use Rattle.bit_addressing_memory.specs.Chunk.{IsOwn};
 ghost use Rattle.bit_addressing_memory.specs.Straight.{Goes, straight};
 
 use bit_addressing_order::{BitRegister, Positions};
@@ -52,6 +53,17 @@ impl<R: BitRegister, P: Positions<R>> Straight<R, P> {
         }
     }
 
+    // The same, found anew, so that a compiler knows the direction where this was handed to a function out of line.
+    #[inline(always)]
+    pub(crate) fn again(self) -> Self
+        ensures { result.direction ≡ self.direction }
+    {
+        match Self::find() {
+            Some(straight) => straight,
+            None => self,
+        }
+    }
+
     /// The direction in which the positions go, by `direction_of`: none where they go neither way.
     #[inline(always)]
     pub fn find() -> Option<Self>
@@ -63,6 +75,27 @@ impl<R: BitRegister, P: Positions<R>> Straight<R, P> {
             None => None,
         }
     }
+}
+
+/// The direction in which chunks of an order are had without a turn: that of its positions where they go straight, else up.
+#[inline(always)]
+pub fn direction_for<R: BitRegister, P: Positions<R>>() -> Direction
+    ensures { IsOwn R.BITS P.position result }
+{
+    match Straight::<R, P>::find() {
+        Some(straight) => straight.direction,
+        None => Direction::Ascending,
+    }
+}
+
+/// The same again, so that a compiler knows it in a function out of line that it was handed to.
+#[inline(always)]
+#[tactic(auto, using(crate::proofs::TransferLemmas::own_same))]
+pub fn known_direction<R: BitRegister, P: Positions<R>>(direction: Direction) -> Direction
+    requires { IsOwn R.BITS P.position direction }
+    ensures { result ≡ direction }
+{
+    direction_for::<R, P>()
 }
 
 /// The direction in which the positions go with the indices: none where they go neither way over the

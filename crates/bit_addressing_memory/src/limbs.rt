@@ -1,90 +1,82 @@
-//! Bits of words in any lawful order by limbs. A limb is a number: its digits are those of a word at 64 indices one behind
-//! the other, or at all of a narrower word, the first lowest. Eight of them are put at a time, so that a compiler joins
-//! those whose positions lie side by side. A limb costs the same however few of its bits are wanted.
+//! The words of orders that go neither way, by limbs. A limb is a chunk, counted up, of a word's digits at 64 indices one behind
+//! the other, or at all of a narrower word. Eight of them are put at a time, so that a compiler joins those whose positions
+//! lie side by side. A limb costs the same however few of its bits are wanted.
 
-ghost use Rattle.std.specs.Prelude.{◌≡◌, ℕ, ◌+◌, ◌-◌, ◌*◌, ◌^◌, ◌<◌, ◌≤◌, false, List, length, min};
-ghost use Rattle.bit_addressing_memory.specs.Prelude.{Lies, entry, indexed, read_by, Overwrites, IsStored};
+ghost use Rattle.std.specs.Prelude.{◌≡◌, ℕ, ◌+◌, ◌-◌, ◌*◌, ◌<◌, ◌≤◌, min};
+ghost use Rattle.bit_addressing_memory.specs.Prelude.{indexed, read_by, IsStored};
+ghost use Rattle.bit_addressing_memory.specs.Chunk.{IsPart};
+ghost use Rattle.bit_addressing_memory.specs.declared.direction.Direction.TheVariants.{Ascending};
 ghost use Rattle.bit_addressing_order.specs.Bits.{digit_at};
-ghost use Rattle.bit_addressing_memory.specs.Limbs.{HasEntries};
 
+use crate::chunk::{lowered, patched, raised};
 use crate::direction::Direction;
-use crate::masking::{no_digits, stored};
-use crate::shift::raised;
+use crate::masking::no_digits;
 use crate::spreads::{spread, spread_on_zeros};
-use bit_addressing_order::mem::bits_of;
-use bit_addressing_order::{BitEnd, BitIdx, BitOrder, BitRegister, Lsb0};
+use bit_addressing_order::{BitOrder, BitRegister, Lsb0};
 
-/// The `count` bits of a memory from a place on, 1 to 64, in any lawful order, as one number: digit k is entry
-/// `place + k`, and the digits behind them are zero.
-#[tactic(auto, using(crate::proofs::LimbLemmas::limb_within, crate::proofs::PlaceLemmas::begins_before, crate::proofs::PlaceLemmas::first_word))]
-pub fn bits_in<R: BitRegister, O: BitOrder<R>>(words: &[R], place: usize, count: usize) -> u64
-    requires some { 0 < count }
-    requires few { count ≤ 64 }
-    requires lies { Lies R.BITS words.now place count }
-    ensures { HasEntries (read_by R.BitRegister O.position) words.now place count result }
-{
-    let bits = limb_bits::<R>();
-    let first = place / bits;
-    let last = (place + count - 1) / bits;
-    let mut made = lowered_limb(limb_at::<R, O>(words, first), (place % bits) as u8);
-    for n in first + 1..last + 1 {
-        let limb = limb_at::<R, O>(words, n);
-        made = joined_limbs(made, limb, (n * bits - place) as u8);
-    }
-    first_digits(made, count as u8)
-}
-
-/// Makes the `count` bits of a memory from a place on, 1 to 64, the digits of a number, in any lawful order: entry
-/// `place + k` is digit k. Every other bit of the memory stays.
-#[tactic(auto, using(crate::proofs::LimbLemmas::limb_within, crate::proofs::PlaceLemmas::begins_before))]
-pub fn put_bits_in<R: BitRegister, O: BitOrder<R>>(
-    words: &mut [R],
-    place: usize,
-    count: usize,
-    number: u64,
-)
-    requires some { 0 < count }
-    requires few { count ≤ 64 }
-    requires lies { Lies R.BITS words.old place count }
-    ensures { Overwrites (read_by R.BitRegister O.position) words.old words.new place count (digit_at number) }
-{
-    let bits = limb_bits::<R>();
-    let first = place / bits;
-    let last = (place + count - 1) / bits;
-    for n in first..last + 1 {
-        let start = n * bits;
-        let from = place.saturating_sub(start);
-        let upto = bits.min(place + count - start);
-        let done = start + from - place;
-        put_part::<R, O>(words, n, from as u8, upto as u8, number, done as u8);
-    }
-}
-
-// A word with the digits of a number, which are bits of a memory, at its indices from one up to before another, all in one
-// limb, that from the index `base` on. Its other bits stay.
+// The bits of a word at the indices from one up to before another, by the limbs that they lie in: `part_of` of an order that
+// goes neither way.
 #[inline(always)]
-#[tactic(auto, using(crate::proofs::LimbLemmas::limb_whole))]
-pub(crate) fn with_bits<R: BitRegister, O: BitOrder<R>>(
+#[tactic(auto, using(crate::proofs::LimbLemmas::part_lowered))]
+pub(crate) fn spread_part<R: BitRegister, O: BitOrder<R>>(word: R, from: u8, upto: u8) -> u64
+    requires order { from < upto }
+    requires within { upto ≤ R.BITS }
+    requires few { upto ≤ from + 64 }
+    ensures { IsPart (read_by R.BitRegister O.position) word from upto Ascending result }
+{
+    if from >= 64 {
+        let high = limb_of::<R, O>(word, 64);
+        return lowered(Direction::Ascending, high, from - 64);
+    }
+    let first = limb_of::<R, O>(word, 0);
+    let low = lowered(Direction::Ascending, first, from);
+    if upto <= 64 {
+        return low;
+    }
+    let last = limb_of::<R, O>(word, 64);
+    low | raised(Direction::Ascending, last, 64 - from)
+}
+
+// A word with a chunk at its indices from one up to before another, by the limbs that these are: `with_part` of an order that
+// goes neither way.
+#[inline(always)]
+pub(crate) fn with_spread<R: BitRegister, O: BitOrder<R>>(
     word: R,
-    base: u8,
     from: u8,
     upto: u8,
-    bits: u64,
+    chunk: u64,
 ) -> R
+    requires order { from < upto }
+    requires within { upto ≤ R.BITS }
+    requires few { upto ≤ from + 64 }
+    ensures { IsStored (read_by R.BitRegister O.position) word result from upto (λ i. digit_at chunk (i - from)) }
+{
+    if upto <= 64 {
+        return with_bits::<R, O>(word, 0, from, upto, chunk);
+    }
+    if from >= 64 {
+        return with_bits::<R, O>(word, 64, from, upto, chunk);
+    }
+    let begun = with_bits::<R, O>(word, 0, from, 64, chunk);
+    let rest = lowered(Direction::Ascending, chunk, 64 - from);
+    with_bits::<R, O>(begun, 64, 64, upto, rest)
+}
+
+// The same of indices in one limb, that from the index `base` on.
+#[inline(always)]
+#[tactic(auto, using(crate::proofs::LimbLemmas::limb_whole))]
+fn with_bits<R: BitRegister, O: BitOrder<R>>(word: R, base: u8, from: u8, upto: u8, chunk: u64) -> R
     requires limb { base + min 64 R.BITS ≤ R.BITS }
     requires low { base ≤ from }
     requires order { from < upto }
     requires high { upto ≤ base + min 64 R.BITS }
-    ensures { (words : List R) → (place : ℕ)
-        → HasEntries (read_by R.BitRegister O.position) words place (upto - from) bits
-        → IsStored (read_by R.BitRegister O.position) word result from upto
-        (λ i. entry (read_by R.BitRegister O.position) words (place + (i - from))) }
+    ensures { IsStored (read_by R.BitRegister O.position) word result from upto (λ i. digit_at chunk (i - from)) }
 {
     if upto - from == R::BITS.min(64) {
-        return with_limb::<R, O>(word, base, bits);
+        return with_limb::<R, O>(word, base, chunk);
     }
     let own = limb_of::<R, O>(word, base);
-    let limb = spread_limb(bits, 0, own, from - base, upto - base);
+    let limb = patched(Direction::Ascending, own, from - base, upto - from, chunk);
     with_limb::<R, O>(word, base, limb)
 }
 
@@ -112,20 +104,11 @@ fn spread_blocks<R: BitRegister, O: BitOrder<R>, Q: BitRegister, P: BitOrder<Q>>
     made
 }
 
-// At how many indices of a word a limb has its digits: 64, or all of a narrower word.
-#[inline(always)]
-fn limb_bits<R: BitRegister>() -> usize
-    ensures { result ≡ min 64 R.BITS }
-{
-    bits_of::<R>().min(64)
-}
-
-// The digits of a word at the indices from one on, as many as a limb has, and zeros behind them.
+// The limb of a word that begins at an index.
 #[inline(always)]
 fn limb_of<R: BitRegister, O: BitOrder<R>>(word: R, from: u8) -> u64
     requires { from + min 64 R.BITS ≤ R.BITS }
-    ensures inside { (i : ℕ) → i < min 64 R.BITS → digit_at result i ≡ indexed R.number O.position word (from + i) }
-    ensures past { (i : ℕ) → min 64 R.BITS ≤ i → digit_at result i ≡ false }
+    ensures { IsPart (read_by R.BitRegister O.position) word from (from + min 64 R.BITS) Ascending result }
 {
     spread_blocks::<R, O, u64, Lsb0>(word, from, 0, 0, R::BITS.min(64) / 8)
 }
@@ -156,119 +139,4 @@ fn with_limb<R: BitRegister, O: BitOrder<R>>(word: R, from: u8, limb: u64) -> R
         return word_of::<R, O>(limb);
     }
     spread_blocks::<u64, Lsb0, R, O>(limb, 0, word, from, R::BITS.min(64) / 8)
-}
-
-// A limb with bits of another one, those from `first` on, at its own digits from one up to before another.
-#[inline(always)]
-#[tactic(auto, using(crate::proofs::LimbLemmas::wrapped))]
-fn spread_limb(source: u64, first: u8, target: u64, from: u8, upto: u8) -> u64
-    requires order { from < upto }
-    requires within { upto ≤ 64 }
-    requires source { first + (upto - from) ≤ 64 }
-    ensures inside { (i : ℕ) → from ≤ i → i < upto → digit_at result i ≡ digit_at source (first + (i - from)) }
-    ensures below { (i : ℕ) → i < from → digit_at result i ≡ digit_at target i }
-    ensures above { (i : ℕ) → upto ≤ i → i < 64 → digit_at result i ≡ digit_at target i }
-{
-    let low = lowered_limb(source, first);
-    let there = raised::<u64, Lsb0>(Direction::Ascending, low, from);
-    let head = BitIdx::new_unchecked(from);
-    stored::<u64, Lsb0>(target, there, head, BitEnd::new_unchecked(upto))
-}
-
-// A limb from a digit on.
-#[inline(always)]
-#[tactic(auto, using(crate::proofs::ShiftLemmas::bit_at_shr))]
-fn lowered_limb(limb: u64, by: u8) -> u64
-    requires { by < 64 }
-    ensures { (i : ℕ) → digit_at result i ≡ digit_at limb (by + i) }
-{
-    limb >> by
-}
-
-// A limb that has ones only below a digit, with those of another one from this digit on, as many as it has room for.
-#[inline(always)]
-fn joined_limbs(low: u64, high: u64, at: u8) -> u64
-    requires index { at < 64 }
-    requires zeros { (i : ℕ) → at ≤ i → i < 64 → digit_at low i ≡ false }
-    ensures low { (i : ℕ) → i < at → digit_at result i ≡ digit_at low i }
-    ensures high { (i : ℕ) → at ≤ i → i < 64 → digit_at result i ≡ digit_at high (i - at) }
-{
-    low | (high << at)
-}
-
-// A limb with each digit from one on made zero.
-#[inline(always)]
-fn first_digits(limb: u64, count: u8) -> u64
-    requires some { 0 < count }
-    requires few { count ≤ 64 }
-    ensures inside { (i : ℕ) → i < count → digit_at result i ≡ digit_at limb i }
-    ensures past { (i : ℕ) → count ≤ i → digit_at result i ≡ false }
-{
-    let above = 64 - count;
-    (limb << above) >> above
-}
-
-// Limb `n` of a memory: the bits from `n` limbs on, and zeros behind them.
-#[inline(always)]
-fn limb_at<R: BitRegister, O: BitOrder<R>>(words: &[R], n: usize) -> u64
-    requires { n * min 64 R.BITS + min 64 R.BITS ≤ length words.now * R.BITS }
-    ensures inside { (i : ℕ) → i < min 64 R.BITS
-        → digit_at result i ≡ entry (read_by R.BitRegister O.position) words.now (n * min 64 R.BITS + i) }
-    ensures past { (i : ℕ) → min 64 R.BITS ≤ i → digit_at result i ≡ false }
-{
-    if R::BITS <= 64 {
-        return limb_of::<R, O>(words[n], 0);
-    }
-    let word = words[n / 2];
-    if n % 2 == 0 {
-        limb_of::<R, O>(word, 0)
-    } else {
-        limb_of::<R, O>(word, 64)
-    }
-}
-
-// Makes the digits of limb `n` of a memory, from one up to before another, those of a number from `first` on.
-#[inline(always)]
-fn put_part<R: BitRegister, O: BitOrder<R>>(
-    words: &mut [R],
-    n: usize,
-    from: u8,
-    upto: u8,
-    number: u64,
-    first: u8,
-)
-    requires limb { n * min 64 R.BITS + min 64 R.BITS ≤ length words.old * R.BITS }
-    requires order { from < upto }
-    requires within { upto ≤ min 64 R.BITS }
-    requires source { first + (upto - from) ≤ 64 }
-    requires ends { n * min 64 R.BITS + upto < 2 ^ 64 }
-    ensures { Overwrites (read_by R.BitRegister O.position) words.old words.new (n * min 64 R.BITS + from)
-        (upto - from) (λ k. digit_at number (first + k)) }
-{
-    if upto - from == R::BITS.min(64) {
-        put_limb::<R, O>(words, n, lowered_limb(number, first));
-    } else {
-        let own = limb_at::<R, O>(words, n);
-        put_limb::<R, O>(words, n, spread_limb(number, first, own, from, upto));
-    }
-}
-
-// Makes limb `n` of a memory the digits of a number.
-#[inline(always)]
-fn put_limb<R: BitRegister, O: BitOrder<R>>(words: &mut [R], n: usize, limb: u64)
-    requires { n * min 64 R.BITS + min 64 R.BITS ≤ length words.old * R.BITS }
-    ensures { Overwrites (read_by R.BitRegister O.position) words.old words.new (n * min 64 R.BITS)
-        (min 64 R.BITS) (digit_at limb) }
-{
-    if R::BITS <= 64 {
-        let word = words[n];
-        words[n] = with_limb::<R, O>(word, 0, limb);
-        return;
-    }
-    let word = words[n / 2];
-    if n % 2 == 0 {
-        words[n / 2] = with_limb::<R, O>(word, 0, limb);
-    } else {
-        words[n / 2] = with_limb::<R, O>(word, 64, limb);
-    }
 }

@@ -4,18 +4,17 @@ ghost use Rattle.std.specs.Prelude.{◌≡◌, ◌+◌, ◌-◌, ◌*◌, ◌/�
 ghost use Rattle.bit_addressing_memory.specs.Prelude.{Lies, read_by, entry, touched, IsStored};
 ghost use Rattle.bit_addressing_memory.specs.Straight.{IsStraight};
 ghost use Rattle.bit_addressing_memory.specs.Moves.{Moves, changed};
-ghost use Rattle.bit_addressing_memory.specs.MoveSteps.{IsGathered, PutsWords};
+ghost use Rattle.bit_addressing_memory.specs.MoveSteps.{CanPut, IsPart, PutsWords, most_reads};
 ghost use Rattle.bit_addressing_memory.specs.Sweep.{IsFresh, SameButReads, sweep_lender, way_of, sweep_words, writes_of};
 ghost use Rattle.bit_addressing_memory.specs.Sweep.{reads_of};
 ghost use Rattle.bit_addressing_memory.specs.Ways.{way_for};
 
 use crate::bulk_ops::{BulkOp, bit_loop_limit};
-use crate::direction::Straight;
+use crate::direction::{Straight, direction_for};
 use crate::entry::{read_bit, write_bit};
-use crate::limbs::with_bits;
-use crate::one_place::put_straight;
-use crate::shifted::with_shifted;
-use crate::sweep::{Sweep, Way};
+use crate::shifted::{put_straight, with_shifted};
+use crate::sweep::{Sweep, by_way};
+use crate::transfer::with_part;
 use bit_addressing_order::mem::bits_of;
 use bit_addressing_order::{BitIdx, BitOrder, BitRegister};
 
@@ -29,7 +28,7 @@ use bit_addressing_order::{BitIdx, BitOrder, BitRegister};
 /// Where the positions go straight with the indices, up or down over the whole word, each word is made
 /// by shifts, and at most three words are read for each that the target touches.
 #[inline(always)]
-#[tactic(auto, using(crate::proofs::Changes::unchanged))]
+#[tactic(auto, using(crate::proofs::Changes::unchanged, crate::proofs::Puts::can_all))]
 pub fn move_in<R: BitRegister, O: BitOrder<R>>(
     sweep: &mut Sweep<'_, R>,
     source: usize,
@@ -58,72 +57,80 @@ pub fn move_in<R: BitRegister, O: BitOrder<R>>(
     if len == 0 {
         return;
     }
-    match Straight::<R, O>::find() {
-        Some(straight) => put_straight::<R, O>(sweep, straight, source, target, len),
-        None => put_gathered::<R, O>(sweep, source, target, len),
-    }
-}
-
-// Puts each word that the target touches, its bits gathered by limbs, or one by one.
-#[tactic(auto, using(std::proofs::lemmas::Grind::common_steps, crate::proofs::Puts::puts))]
-fn put_gathered<R: BitRegister, O: BitOrder<R>>(
-    sweep: &mut Sweep<'_, R>,
-    source: usize,
-    target: usize,
-    len: usize,
-)
-    requires fresh { IsFresh sweep.old (way_for source target) }
-    requires some { 0 < len }
-    requires source_lies { Lies R.BITS (sweep_words sweep.old) source len }
-    requires target_lies { Lies R.BITS (sweep_words sweep.old) target len }
-    ensures { PutsWords (read_by R.BitRegister O.position) sweep.old sweep.new source target len
-        (target / R.BITS) ((target + len - 1) / R.BITS + 1) }
-{
     let bits = bits_of::<R>();
     let first = target / bits;
     let last = (target + len - 1) / bits;
-    match sweep.way() {
-        Way::Up => {
-            'up: for k in first..last + 1 {
-                let word = gathered::<R, O>(sweep, k, source, target, len);
-                sweep.put(k, word);
-            }
-        }
-        Way::Down => {
-            'down: for k in (first..last + 1).rev() {
-                let word = gathered::<R, O>(sweep, k, source, target, len);
-                sweep.put(k, word);
-            }
-        }
+    let task = BitMove {
+        source,
+        target,
+        len,
+    };
+    match Straight::<R, O>::find() {
+        Some(straight) => put_straight::<R, O>(sweep, straight, first, last, task),
+        None => put_gathered::<R, O>(sweep, first, last, task),
     }
 }
 
-// The word `k` as the move leaves it: the source's bits inside the target, its own beside it.
-fn gathered<R: BitRegister, O: BitOrder<R>>(
+// A move of `len` bits from the place `source` on to the place `target` on.
+#[derive(Clone, Copy)]
+pub(crate) struct BitMove {
+    pub(crate) source: usize,
+    pub(crate) target: usize,
+    pub(crate) len: usize,
+}
+
+// Puts the words from `first` to `last`, their bits gathered by limbs, or one by one.
+fn put_gathered<R: BitRegister, O: BitOrder<R>>(
     sweep: &mut Sweep<'_, R>,
+    first: usize,
+    last: usize,
+    task: BitMove,
+)
+    requires order { first ≤ last }
+    requires can { CanPut R.BITS sweep.old task.source task.target task.len first (last + 1) }
+    ensures { PutsWords (read_by R.BitRegister O.position) (R.BITS + 1) sweep.old sweep.new
+        task.source task.target task.len first (last + 1) }
+{
+    let way = sweep.way();
+    for m in first..last + 1 {
+        let k = by_way(way, m, last - (m - first));
+        put_word::<R, O>(sweep, None, k, task);
+    }
+}
+
+// Puts the word `k` as the move leaves it: the source's bits inside the target, its own beside it.
+#[inline(always)]
+pub(crate) fn put_word<R: BitRegister, O: BitOrder<R>>(
+    sweep: &mut Sweep<'_, R>,
+    straight: Option<Straight<R, O>>,
     k: usize,
-    source: usize,
-    target: usize,
-    len: usize,
-) -> R
+    task: BitMove,
+)
+    requires { CanPut R.BITS sweep.old task.source task.target task.len k (k + 1) }
+    ensures { PutsWords (read_by R.BitRegister O.position) (most_reads straight R.BITS) sweep.old sweep.new
+        task.source task.target task.len k (k + 1) }
+{
+    let (from, upto) = part_of::<R>(k, task.target, task.len);
+    let own = sweep.read(k);
+    let place = task.source + (k * bits_of::<R>() + from - task.target);
+    let word = taken::<R, O>(sweep, straight, place, own, from as u8, upto as u8);
+    sweep.put(k, word);
+}
+
+// From which index of the word `k` on it has bits of the target, and up to before which.
+#[inline(always)]
+pub(crate) fn part_of<R: BitRegister>(k: usize, target: usize, len: usize) -> (usize, usize)
     requires some { 0 < len }
-    requires within { k < length (sweep_words sweep.old) }
-    requires source_lies { Lies R.BITS (sweep_words sweep.old) source len }
-    requires target_ends { target + len < 2 ^ 64 }
+    requires fits { target + len < 2 ^ 64 }
     requires begins { k * R.BITS < target + len }
     requires ends { target < k * R.BITS + R.BITS }
-    ensures digits { IsGathered (read_by R.BitRegister O.position) (sweep_words sweep.old)
-        k source target len result R.BITS }
-    ensures same { SameButReads sweep.old sweep.new }
-    ensures lender { sweep_lender sweep.new ≡ sweep_lender sweep.old }
+    ensures { IsPart R.BITS k target len result.0 result.1 }
 {
     let bits = bits_of::<R>();
     let start = k * bits;
     let from = target.saturating_sub(start);
     let upto = bits.min(target + len - start);
-    let own = sweep.read(k);
-    let place = source + (start + from - target);
-    taken::<R, O>(sweep, None, place, own, from as u8, upto as u8)
+    (from, upto)
 }
 
 /// A word with the bits of a sweep's words from a place on at its indices from one up to before another: by shifts where
@@ -153,34 +160,14 @@ pub fn taken<R: BitRegister, O: BitOrder<R>>(
 {
     match straight {
         Some(straight) => with_shifted::<R, O>(sweep, straight, place, own, from, upto),
-        None => taken_turned::<R, O>(sweep, place, own, from, upto),
+        None => {
+            let count = (upto - from) as usize;
+            if count <= bit_loop_limit::<R, O>(BulkOp::Move) {
+                return taken_singly::<R, O>(sweep, place, own, from as usize, upto as usize);
+            }
+            taken_by_limbs::<R, O>(sweep, place, own, from, upto)
+        }
     }
-}
-
-// The same in an order that goes neither way.
-#[inline(always)]
-fn taken_turned<R: BitRegister, O: BitOrder<R>>(
-    sweep: &mut Sweep<'_, R>,
-    place: usize,
-    own: R,
-    from: u8,
-    upto: u8,
-) -> R
-    requires order { from < upto }
-    requires index { upto ≤ R.BITS }
-    requires lies { Lies R.BITS (sweep_words sweep.old) place (upto - from) }
-    ensures stored { IsStored (read_by R.BitRegister O.position) own result from upto
-        (λ i. entry (read_by R.BitRegister O.position) (sweep_words sweep.old) (place + (i - from))) }
-    ensures reads { reads_of sweep.new ≤ reads_of sweep.old + (upto - from) }
-    ensures some { min (reads_of sweep.old + 1) (2 ^ 64 - 1) ≤ reads_of sweep.new }
-    ensures same { SameButReads sweep.old sweep.new }
-    ensures lender { sweep_lender sweep.new ≡ sweep_lender sweep.old }
-{
-    let count = (upto - from) as usize;
-    if count <= bit_loop_limit::<R, O>(BulkOp::Move) {
-        return taken_singly::<R, O>(sweep, place, own, from as usize, upto as usize);
-    }
-    taken_by_limbs::<R, O>(sweep, place, own, from, upto)
 }
 
 // The same by limbs. Out of line, so that a few bits are taken by a short function.
@@ -202,35 +189,30 @@ fn taken_by_limbs<R: BitRegister, O: BitOrder<R>>(
     ensures same { SameButReads sweep.old sweep.new }
     ensures lender { sweep_lender sweep.new ≡ sweep_lender sweep.old }
 {
-    if upto <= 64 {
-        return taken_limb::<R, O>(sweep, 0, place, own, from, upto);
+    if upto <= 64 || from >= 64 {
+        return taken_chunk::<R, O>(sweep, place, own, from, upto);
     }
-    if from >= 64 {
-        return taken_limb::<R, O>(sweep, 64, place, own, from, upto);
-    }
-    let begun = taken_limb::<R, O>(sweep, 0, place, own, from, 64);
+    let begun = taken_chunk::<R, O>(sweep, place, own, from, 64);
 
     // As many as a `u64` counts.
     let _read = sweep.reads();
     let behind = place + (64 - from) as usize;
-    taken_limb::<R, O>(sweep, 64, behind, begun, 64, upto)
+    taken_chunk::<R, O>(sweep, behind, begun, 64, upto)
 }
 
-// The same of indices in one limb, that from the index `base` on: one step that counts a read for each of its bits.
+// The same of up to 64 bits: one step that counts a read for each of its bits.
 #[inline(always)]
 #[tactic(auto, using(crate::proofs::PlaceLemmas::touched_few, crate::proofs::PlaceLemmas::touched_some))]
-fn taken_limb<R: BitRegister, O: BitOrder<R>>(
+fn taken_chunk<R: BitRegister, O: BitOrder<R>>(
     sweep: &mut Sweep<'_, R>,
-    base: u8,
     place: usize,
     own: R,
     from: u8,
     upto: u8,
 ) -> R
-    requires limb { base + min 64 R.BITS ≤ R.BITS }
-    requires low { base ≤ from }
     requires order { from < upto }
-    requires high { upto ≤ base + min 64 R.BITS }
+    requires index { upto ≤ R.BITS }
+    requires few { upto ≤ from + 64 }
     requires lies { Lies R.BITS (sweep_words sweep.old) place (upto - from) }
     ensures stored { IsStored (read_by R.BitRegister O.position) own result from upto
         (λ i. entry (read_by R.BitRegister O.position) (sweep_words sweep.old) (place + (i - from))) }
@@ -239,8 +221,9 @@ fn taken_limb<R: BitRegister, O: BitOrder<R>>(
     ensures same { SameButReads sweep.old sweep.new }
     ensures lender { sweep_lender sweep.new ≡ sweep_lender sweep.old }
 {
-    let bits = sweep.read_bits::<O>(place, (upto - from) as usize);
-    with_bits::<R, O>(own, base, from, upto, bits)
+    let direction = direction_for::<R, O>();
+    let chunk = sweep.read_bits::<O>(direction, place, (upto - from) as usize);
+    with_part::<R, O>(direction, own, from, upto, chunk)
 }
 
 // The same bit by bit: each is read by itself.

@@ -2,268 +2,230 @@
 //! words at most and, at an edge of the target, of its own old word too.
 //!
 //! The words between the two edges are put in loops that call nothing, so that a compiler keeps the
-//! sweep's counts in registers.
+//! sweep's counts in registers. The way of the sweep, and whether source and target lie one place apart, are literals where
+//! they are handed on in line, so it makes a loop for each way.
 
-ghost use Rattle.std.specs.Prelude.{◌≡◌, ◌+◌, ◌-◌, ◌*◌, ◌/◌, ◌^◌, ◌<◌, ◌≤◌, length, min};
-ghost use Rattle.bit_addressing_memory.specs.Prelude.{Lies, entry, read_by, touched, IsStored};
-ghost use Rattle.bit_addressing_memory.specs.declared.sweep.Way.TheVariants.{Up, Down};
-ghost use Rattle.bit_addressing_memory.specs.MoveSteps.{BeginsWith, IsGathered, PutsWords};
-ghost use Rattle.bit_addressing_memory.specs.Sweep.{IsFresh, SameButReads, edge_of, reads_of, sweep_lender, sweep_words, way_of};
-ghost use Rattle.bit_addressing_memory.specs.Ways.{IsPast, edge_after, way_for};
+ghost use Rattle.std.specs.Prelude.{◌≡◌, ◌+◌, ◌-◌, ◌*◌, ◌^◌, ◌<◌, ◌≤◌, length, min, true};
+ghost use Rattle.bit_addressing_memory.specs.Prelude.{entry, read_by, touched, IsStored};
+ghost use Rattle.bit_addressing_memory.specs.MoveSteps.{BeginsWith, CanPut, IsRun, PutsWords};
+ghost use Rattle.bit_addressing_memory.specs.Sweep.{SameButReads, reads_of, sweep_lender, sweep_words, way_of};
+ghost use Rattle.bit_addressing_memory.specs.Ways.{AreNear, by_way};
 
+use crate::blocks::block_words;
+use crate::bulk_ops::MOVED_BY_BLOCKS;
 use crate::direction::Straight;
 use crate::masking::stored;
+use crate::moves::{BitMove, put_word};
+use crate::one_place::near_word;
 use crate::shift::{joined, raised};
-use crate::sweep::{Sweep, Way};
+use crate::sweep::{Sweep, Way, by_way};
 use bit_addressing_order::mem::bits_of;
 use bit_addressing_order::{BitEnd, BitIdx, BitOrder, BitRegister};
 
-// Puts each word that the target touches: those at its edges with their own old bits beside it.
+// Puts the words from `first` to `last`, by shifts of one where source and target lie one place apart.
 #[inline(always)]
-pub(crate) fn put_shifted<R: BitRegister, O: BitOrder<R>>(
+#[tactic(auto, using(crate::proofs::WayLemmas::goes_down, crate::proofs::WayLemmas::goes_up))]
+pub(crate) fn put_straight<R: BitRegister, O: BitOrder<R>>(
     sweep: &mut Sweep<'_, R>,
     straight: Straight<R, O>,
-    source: usize,
-    target: usize,
-    len: usize,
+    first: usize,
+    last: usize,
+    task: BitMove,
 )
-    requires fresh { IsFresh sweep.old (way_for source target) }
-    requires some { 0 < len }
-    requires source_lies { Lies R.BITS (sweep_words sweep.old) source len }
-    requires target_lies { Lies R.BITS (sweep_words sweep.old) target len }
-    ensures put { PutsWords (read_by R.BitRegister O.position) sweep.old sweep.new source target len
-        (target / R.BITS) ((target + len - 1) / R.BITS + 1) }
-    ensures reads { reads_of sweep.new + 3 * (target / R.BITS) ≤ 3 * ((target + len - 1) / R.BITS + 1) }
+    requires order { first ≤ last }
+    requires can { CanPut R.BITS sweep.old task.source task.target task.len first (last + 1) }
+    ensures { PutsWords (read_by R.BitRegister O.position) 3 sweep.old sweep.new task.source task.target task.len
+        first (last + 1) }
 {
-    let bits = bits_of::<R>();
-    let first = target / bits;
-    let last = (target + len - 1) / bits;
+    if task.source + 1 == task.target {
+        put_words::<R, O>(sweep, straight, Way::Down, true, first, last, task);
+        return;
+    }
+    if task.target + 1 == task.source {
+        put_words::<R, O>(sweep, straight, Way::Up, true, first, last, task);
+        return;
+    }
     match sweep.way() {
-        Way::Up => {
-            put_edge::<R, O>(sweep, straight, first, source, target, len);
-            if first < last {
-                put_up::<R, O>(sweep, straight, first + 1, last, source, target, len);
-                put_edge::<R, O>(sweep, straight, last, source, target, len);
-            }
-        }
-        Way::Down => {
-            put_edge::<R, O>(sweep, straight, last, source, target, len);
-            if first < last {
-                put_down::<R, O>(sweep, straight, first + 1, last, source, target, len);
-                put_edge::<R, O>(sweep, straight, first, source, target, len);
-            }
-        }
+        Way::Up => put_words::<R, O>(sweep, straight, Way::Up, false, first, last, task),
+        Way::Down => put_words::<R, O>(sweep, straight, Way::Down, false, first, last, task),
     }
 }
 
-// Puts the words from `low` up to before `high`, which have no bits but the target's, upwards.
+// The same in a way that is known; `near` is whether they are known to lie one place apart.
 #[inline(always)]
-#[tactic(auto, using(crate::proofs::ShiftedWords::place_at))]
-fn put_up<R: BitRegister, O: BitOrder<R>>(
+fn put_words<R: BitRegister, O: BitOrder<R>>(
     sweep: &mut Sweep<'_, R>,
     straight: Straight<R, O>,
-    low: usize,
-    high: usize,
-    source: usize,
-    target: usize,
-    len: usize,
+    way: Way,
+    near: bool,
+    first: usize,
+    last: usize,
+    task: BitMove,
 )
-    requires way { way_of sweep.old ≡ Up }
-    requires edge { edge_of sweep.old ≤ low }
-    requires order { low ≤ high }
-    requires ahead { target ≤ source }
-    requires begins { target ≤ low * R.BITS }
-    requires ends { high * R.BITS ≤ target + len }
-    requires source_lies { Lies R.BITS (sweep_words sweep.old) source len }
-    requires target_lies { Lies R.BITS (sweep_words sweep.old) target len }
-    ensures put { PutsWords (read_by R.BitRegister O.position) sweep.old sweep.new source target len low high }
-    ensures edge { edge_of sweep.new ≤ high }
-    ensures reads { reads_of sweep.new + 3 * low ≤ reads_of sweep.old + 3 * high }
+    requires way { way_of sweep.old ≡ way }
+    requires near { near ≡ true → AreNear way task.source task.target }
+    requires order { first ≤ last }
+    requires can { CanPut R.BITS sweep.old task.source task.target task.len first (last + 1) }
+    ensures { PutsWords (read_by R.BitRegister O.position) 3 sweep.old sweep.new task.source task.target task.len
+        first (last + 1) }
 {
-    let bits = bits_of::<R>();
-    let place = source + (low * bits - target);
-    put_joined_up::<R, O>(
-        sweep,
-        straight,
-        low,
-        high,
-        place / bits,
-        place % bits,
-        source,
-        target,
-        len,
-    );
-}
-
-// Puts the words from `low` up to before `high`, which have no bits but the target's, downwards.
-#[inline(always)]
-#[tactic(auto, using(crate::proofs::ShiftedWords::place_at))]
-fn put_down<R: BitRegister, O: BitOrder<R>>(
-    sweep: &mut Sweep<'_, R>,
-    straight: Straight<R, O>,
-    low: usize,
-    high: usize,
-    source: usize,
-    target: usize,
-    len: usize,
-)
-    requires way { way_of sweep.old ≡ Down }
-    requires edge { high ≤ edge_of sweep.old }
-    requires order { low ≤ high }
-    requires behind { source ≤ target }
-    requires begins { target ≤ low * R.BITS }
-    requires ends { high * R.BITS ≤ target + len }
-    requires source_lies { Lies R.BITS (sweep_words sweep.old) source len }
-    requires target_lies { Lies R.BITS (sweep_words sweep.old) target len }
-    ensures put { PutsWords (read_by R.BitRegister O.position) sweep.old sweep.new source target len low high }
-    ensures edge { low ≤ edge_of sweep.new }
-    ensures reads { reads_of sweep.new + 3 * low ≤ reads_of sweep.old + 3 * high }
-{
-    let bits = bits_of::<R>();
-    let place = source + (low * bits - target);
-    put_joined_down::<R, O>(
-        sweep,
-        straight,
-        low,
-        high,
-        place / bits,
-        place % bits,
-        source,
-        target,
-        len,
-    );
-}
-
-// The same, where the first of these words begins at the index `by` of the memory's word `word`.
-#[inline(always)]
-pub(crate) fn put_joined_up<R: BitRegister, O: BitOrder<R>>(
-    sweep: &mut Sweep<'_, R>,
-    straight: Straight<R, O>,
-    low: usize,
-    high: usize,
-    word: usize,
-    by: usize,
-    source: usize,
-    target: usize,
-    len: usize,
-)
-    requires way { way_of sweep.old ≡ Up }
-    requires edge { edge_of sweep.old ≤ low }
-    requires order { low ≤ high }
-    requires ahead { target ≤ source }
-    requires begins { target ≤ low * R.BITS }
-    requires ends { high * R.BITS ≤ target + len }
-    requires index { by < R.BITS }
-    requires first { word * R.BITS + by ≡ source + (low * R.BITS - target) }
-    requires source_lies { Lies R.BITS (sweep_words sweep.old) source len }
-    requires target_lies { Lies R.BITS (sweep_words sweep.old) target len }
-    ensures put { PutsWords (read_by R.BitRegister O.position) sweep.old sweep.new source target len low high }
-    ensures edge { edge_of sweep.new ≤ high }
-    ensures reads { reads_of sweep.new + 3 * low ≤ reads_of sweep.old + 3 * high }
-{
-    'up: for k in low..high {
-        let whole = cut::<R, O>(sweep, straight, word + (k - low), by);
-        sweep.put(k, whole);
+    let head = by_way(way, first, last);
+    put_end::<R, O>(sweep, straight, way, near, head, task);
+    if first < last {
+        let (word, by) = run_start::<R>(way, near, first, task);
+        put_run::<R, O>(sweep, straight, way, first + 1, last, word, by, task);
+        let tail = by_way(way, last, first);
+        put_end::<R, O>(sweep, straight, way, near, tail, task);
     }
 }
 
-// The same downwards.
+// Puts the word `k`, at an end of the target.
 #[inline(always)]
-pub(crate) fn put_joined_down<R: BitRegister, O: BitOrder<R>>(
+fn put_end<R: BitRegister, O: BitOrder<R>>(
     sweep: &mut Sweep<'_, R>,
     straight: Straight<R, O>,
-    low: usize,
-    high: usize,
-    word: usize,
-    by: usize,
-    source: usize,
-    target: usize,
-    len: usize,
+    way: Way,
+    near: bool,
+    k: usize,
+    task: BitMove,
 )
-    requires way { way_of sweep.old ≡ Down }
-    requires edge { high ≤ edge_of sweep.old }
-    requires order { low ≤ high }
-    requires behind { source ≤ target }
-    requires begins { target ≤ low * R.BITS }
-    requires ends { high * R.BITS ≤ target + len }
-    requires index { by < R.BITS }
-    requires first { word * R.BITS + by ≡ source + (low * R.BITS - target) }
-    requires source_lies { Lies R.BITS (sweep_words sweep.old) source len }
-    requires target_lies { Lies R.BITS (sweep_words sweep.old) target len }
-    ensures put { PutsWords (read_by R.BitRegister O.position) sweep.old sweep.new source target len low high }
-    ensures edge { low ≤ edge_of sweep.new }
-    ensures reads { reads_of sweep.new + 3 * low ≤ reads_of sweep.old + 3 * high }
+    requires near { near ≡ true → AreNear way task.source task.target }
+    requires can { CanPut R.BITS sweep.old task.source task.target task.len k (k + 1) }
+    ensures { PutsWords (read_by R.BitRegister O.position) 3 sweep.old sweep.new task.source task.target task.len
+        k (k + 1) }
 {
-    'down: for k in (low..high).rev() {
-        let whole = cut::<R, O>(sweep, straight, word + (k - low), by);
-        sweep.put(k, whole);
+    if near {
+        let word = near_word::<R, O>(sweep, straight, way, k, task);
+        sweep.put(k, word);
+    } else {
+        put_edge::<R, O>(sweep, straight, k, task);
     }
 }
 
-// Puts one word, at an edge of the target.
+// The same out of line, at any distance.
 #[inline(never)]
 fn put_edge<R: BitRegister, O: BitOrder<R>>(
     sweep: &mut Sweep<'_, R>,
     straight: Straight<R, O>,
     k: usize,
-    source: usize,
-    target: usize,
-    len: usize,
+    task: BitMove,
 )
-    requires some { 0 < len }
-    requires past { IsPast (way_of sweep.old) (edge_of sweep.old) k }
-    requires within { k < length (sweep_words sweep.old) }
-    requires source_lies { Lies R.BITS (sweep_words sweep.old) source len }
-    requires target_ends { target + len < 2 ^ 64 }
-    requires begins { k * R.BITS < target + len }
-    requires ends { target < k * R.BITS + R.BITS }
-    ensures put { PutsWords (read_by R.BitRegister O.position) sweep.old sweep.new source target len k (k + 1) }
-    ensures edge { edge_of sweep.new ≡ edge_after (way_of sweep.old) k }
-    ensures reads { reads_of sweep.new ≤ reads_of sweep.old + 3 }
+    requires { CanPut R.BITS sweep.old task.source task.target task.len k (k + 1) }
+    ensures { PutsWords (read_by R.BitRegister O.position) 3 sweep.old sweep.new task.source task.target task.len
+        k (k + 1) }
 {
-    let word = shifted::<R, O>(sweep, straight, k, source, target, len);
-    sweep.put(k, word);
+    put_word::<R, O>(sweep, Some(straight), k, task);
 }
 
-// The word `k` as the move leaves it: the source's bits inside the target, its own beside it.
-#[tactic(auto, using(crate::proofs::ShiftedWords::edge_some))]
-fn shifted<R: BitRegister, O: BitOrder<R>>(
+// Where the bits of the word behind `first` come from: the word that the first of them lies in, and its index there.
+#[inline(always)]
+fn run_start<R: BitRegister>(way: Way, near: bool, first: usize, task: BitMove) -> (usize, usize)
+    requires near { near ≡ true → AreNear way task.source task.target }
+    requires begins { task.target < first * R.BITS + R.BITS }
+    requires ends { first * R.BITS + R.BITS ≤ task.target + task.len }
+    requires source_ends { task.source + task.len < 2 ^ 64 }
+    requires target_ends { task.target + task.len < 2 ^ 64 }
+    ensures index { result.1 < R.BITS }
+    ensures first { result.0 * R.BITS + result.1 ≡ task.source + ((first + 1) * R.BITS - task.target) }
+{
+    let bits = bits_of::<R>();
+    if !near {
+        let place = task.source + ((first + 1) * bits - task.target);
+        return (place / bits, place % bits);
+    }
+    match way {
+        Way::Up => (first + 1, 1),
+        Way::Down => (first, bits - 1),
+    }
+}
+
+// Puts the words from `low` up to before `high`, which have no bits but the target's.
+#[inline(always)]
+fn put_run<R: BitRegister, O: BitOrder<R>>(
+    sweep: &mut Sweep<'_, R>,
+    straight: Straight<R, O>,
+    way: Way,
+    low: usize,
+    high: usize,
+    word: usize,
+    by: usize,
+    task: BitMove,
+)
+    requires way { way_of sweep.old ≡ way }
+    requires run { IsRun R.BITS task.source task.target task.len low high word by }
+    requires can { CanPut R.BITS sweep.old task.source task.target task.len low high }
+    ensures { PutsWords (read_by R.BitRegister O.position) 3 sweep.old sweep.new task.source task.target task.len
+        low high }
+{
+    let done = put_blocks::<R, O>(sweep, straight, way, low, high, word, by, task);
+    match way {
+        Way::Up => {
+            'up: for k in low + done..high {
+                put_whole::<R, O>(sweep, straight, k, word + (k - low), by, task);
+            }
+        }
+        Way::Down => {
+            'down: for k in (low..high - done).rev() {
+                put_whole::<R, O>(sweep, straight, k, word + (k - low), by, task);
+            }
+        }
+    }
+}
+
+// Puts those that come first by blocks of 64 bits, if there are many and words are narrower, as far as there are whole
+// blocks, and returns how many.
+#[inline(always)]
+fn put_blocks<R: BitRegister, O: BitOrder<R>>(
+    sweep: &mut Sweep<'_, R>,
+    straight: Straight<R, O>,
+    way: Way,
+    low: usize,
+    high: usize,
+    word: usize,
+    by: usize,
+    task: BitMove,
+) -> usize
+    requires way { way_of sweep.old ≡ way }
+    requires run { IsRun R.BITS task.source task.target task.len low high word by }
+    requires can { CanPut R.BITS sweep.old task.source task.target task.len low high }
+    ensures most { low + result ≤ high }
+    ensures put { PutsWords (read_by R.BitRegister O.position) 3 sweep.old sweep.new task.source task.target task.len
+        (by_way way low (high - result)) (by_way way (low + result) high) }
+{
+    if R::BITS >= 64 || high - low < MOVED_BY_BLOCKS {
+        return 0;
+    }
+    let size = block_words::<R>();
+    let count = (high - low) / size as usize;
+    let done = count * size as usize;
+    let start = by_way(way, low, high - done);
+    sweep.move_blocks::<O>(straight, word + (start - low), by, start, count, size);
+    done
+}
+
+// Puts one of them, whose bits are those from the index `by` of a word on.
+#[inline(always)]
+fn put_whole<R: BitRegister, O: BitOrder<R>>(
     sweep: &mut Sweep<'_, R>,
     straight: Straight<R, O>,
     k: usize,
-    source: usize,
-    target: usize,
-    len: usize,
-) -> R
-    requires some { 0 < len }
-    requires within { k < length (sweep_words sweep.old) }
-    requires source_lies { Lies R.BITS (sweep_words sweep.old) source len }
-    requires target_ends { target + len < 2 ^ 64 }
-    requires begins { k * R.BITS < target + len }
-    requires ends { target < k * R.BITS + R.BITS }
-    ensures digits { IsGathered (read_by R.BitRegister O.position) (sweep_words sweep.old)
-        k source target len result R.BITS }
-    ensures reads { reads_of sweep.new ≤ reads_of sweep.old + 3 }
-    ensures same { SameButReads sweep.old sweep.new }
-    ensures lender { sweep_lender sweep.new ≡ sweep_lender sweep.old }
+    word: usize,
+    by: usize,
+    task: BitMove,
+)
+    requires run { IsRun R.BITS task.source task.target task.len k (k + 1) word by }
+    requires can { CanPut R.BITS sweep.old task.source task.target task.len k (k + 1) }
+    ensures { PutsWords (read_by R.BitRegister O.position) 3 sweep.old sweep.new task.source task.target task.len
+        k (k + 1) }
 {
-    let bits = bits_of::<R>();
-    let start = k * bits;
-    let from = target.saturating_sub(start);
-    let upto = bits.min(target + len - start);
-    let own = sweep.read(k);
-    let place = source + (start + from - target);
-    let moved = bits_from::<R, O>(sweep, straight, place, upto - from);
-    let there = raised::<R, O>(straight.direction, moved, from as u8);
-    let head = BitIdx::new_unchecked(from as u8);
-    let tail = BitEnd::new_unchecked(upto as u8);
-    stored::<R, O>(own, there, head, tail)
+    let whole = cut::<R, O>(sweep, straight, word, by);
+    sweep.put(k, whole);
 }
 
 // A word that begins with so many bits of the memory, those from a place on: of the word there, and
 // of the next one where they go on in it.
 #[inline(always)]
-#[tactic(auto, using(crate::proofs::ShiftedWords::place_at))]
+#[tactic(auto, using(crate::proofs::PlaceLemmas::first_word))]
 fn bits_from<R: BitRegister, O: BitOrder<R>>(
     sweep: &mut Sweep<'_, R>,
     straight: Straight<R, O>,
@@ -275,7 +237,6 @@ fn bits_from<R: BitRegister, O: BitOrder<R>>(
     requires within { place + count ≤ length (sweep_words sweep.old) * R.BITS }
     ensures digits { BeginsWith (read_by R.BitRegister O.position) (sweep_words sweep.old) place count result }
     ensures reads { reads_of sweep.new ≡ min (reads_of sweep.old + touched R.BITS place count) (2 ^ 64 - 1) }
-    ensures few { reads_of sweep.new ≤ reads_of sweep.old + 2 }
     ensures same { SameButReads sweep.old sweep.new }
     ensures lender { sweep_lender sweep.new ≡ sweep_lender sweep.old }
 {

@@ -3,12 +3,15 @@
 //!
 //! While a sweep is there, its words are read and written through it alone.
 
-ghost use Rattle.std.specs.Prelude.{◌≡◌, ◌≢◌, ℕ, ◌+◌, ◌-◌, ◌^◌, ◌<◌, ◌≤◌, length, min, slice_index_or, slice_set};
+ghost use Rattle.std.specs.Prelude.{◌≡◌, ◌≢◌, ℕ, List, ◌+◌, ◌-◌, ◌*◌, ◌^◌, ◌<◌, ◌≤◌, length, min, slice_index_or, slice_set};
 ghost use Rattle.bit_addressing_memory.specs.Prelude.{Lies, read_by, touched};
-ghost use Rattle.bit_addressing_memory.specs.Limbs.{HasEntries};
-ghost use Rattle.bit_addressing_memory.specs.Ways.{IsPast, edge_after, passed, way_for};
+ghost use Rattle.bit_addressing_memory.specs.Chunk.{IsChunk, IsOwn};
+ghost use Rattle.bit_addressing_memory.specs.Moves.{Moves, changed};
+ghost use Rattle.bit_addressing_memory.specs.Ways.{ArePast, IsPast, IsWithin, ReadsFirst, by_way, edge_after, passed, way_for};
 
-use crate::limbs::bits_in;
+use crate::blocks::move_blocks;
+use crate::direction::{Direction, Straight, known_direction};
+use crate::transfer::read_counted;
 use bit_addressing_order::mem::bits_of;
 use bit_addressing_order::{BitOrder, BitRegister};
 
@@ -27,6 +30,17 @@ pub fn way_for(source: usize, target: usize) -> Way
     ensures { result ≡ way_for source target }
 {
     if target <= source { Way::Up } else { Way::Down }
+}
+
+// The first of two numbers upwards, the second one downwards.
+#[inline(always)]
+pub(crate) fn by_way(way: Way, up: usize, down: usize) -> usize
+    ensures { result ≡ by_way way up down }
+{
+    match way {
+        Way::Up => up,
+        Way::Down => down,
+    }
 }
 
 impl Sweep<'_, ()> {
@@ -147,16 +161,71 @@ impl<'a, R: Copy> Sweep<'a, R> {
 }
 
 impl<'a, R: BitRegister> Sweep<'a, R> {
-    ghost use Rattle.bit_addressing_memory.specs.Sweep.{SameButReads, reads_of, sweep_lender, sweep_words};
+    ghost use Rattle.bit_addressing_memory.specs.Sweep.{SameButReads, edge_of, reads_of, sweep_lender, sweep_words};
+    ghost use Rattle.bit_addressing_memory.specs.Sweep.{way_of, writes_of};
 
-    // The `count` bits from a place on, 1 to 64, in any lawful order, as one number, as `bits_in` reads them. A read is
-    // counted for each word that they touch, or for each half of a word of 128 bits.
-    #[inline(always)]
-    pub(crate) fn read_bits<O: BitOrder<R>>(&mut self, place: usize, count: usize) -> u64
+    // Moves bits by blocks, those from the index `by` of the word `from` on to the word `low` and those behind it. Each word
+    // that is read or written is counted. Out of line, so that the counts stay in registers where words are put one by one; there
+    // a compiler finds the direction anew.
+    #[inline(never)]
+    pub(crate) fn move_blocks<O: BitOrder<R>>(
+        &mut self,
+        straight: Straight<R, O>,
+        from: usize,
+        by: usize,
+        low: usize,
+        count: usize,
+        size: u8,
+    )
+        requires size { size * R.BITS ≡ 64 }
+        requires order { ReadsFirst (way_of self.old) (from * R.BITS + by) (low * R.BITS) }
+        requires index { by < R.BITS }
+        requires source { from * R.BITS + by + 64 * count ≤ length (sweep_words self.old) * R.BITS }
+        requires within { low + count * size ≤ length (sweep_words self.old) }
+        requires past { ArePast (way_of self.old) (edge_of self.old) low (low + count * size) }
+        ensures moved { Moves (read_by R.BitRegister O.position) (sweep_words self.old) (sweep_words self.new)
+            (from * R.BITS + by) (low * R.BITS) (64 * count) }
+        ensures few { (number : R → ℕ) → (others : List R) → changed number others (sweep_words self.new)
+            ≤ changed number others (sweep_words self.old) + count * size }
+        ensures edge { IsWithin (way_of self.old) (edge_of self.new) low (low + count * size) }
+        ensures writes { writes_of self.new ≡ writes_of self.old + count * size }
+        ensures reads { reads_of self.new ≤ reads_of self.old + 2 * (count * size) }
+        ensures way { way_of self.new ≡ way_of self.old }
+        ensures lender { sweep_lender self.new ≡ sweep_lender self.old }
+    {
+        let puts = count * size as usize;
+        let reads = if by == 0 {
+            puts
+        } else {
+            puts.saturating_add(count)
+        };
+        self.edge = match self.way {
+            Way::Up => low + puts,
+            Way::Down => low,
+        };
+        self.writes += puts;
+        self.reads = self.reads.saturating_add(reads as u64);
+        let known = straight.again();
+        if by == 0 {
+            move_blocks::<R, O>(known, self.words, self.way, from, 0, low, count, size);
+        } else {
+            move_blocks::<R, O>(known, self.words, self.way, from, by, low, count, size);
+        }
+    }
+
+    // The `count` bits from a place on, 1 to 64, as a chunk, as `read_counted` reads them. A read is counted for each word
+    // that they touch, or for each half of a word of 128 bits.
+    pub(crate) fn read_bits<O: BitOrder<R>>(
+        &mut self,
+        direction: Direction,
+        place: usize,
+        count: usize,
+    ) -> u64
+        requires own { IsOwn R.BITS O.position direction }
         requires some { 0 < count }
         requires few { count ≤ 64 }
         requires lies { Lies R.BITS (sweep_words self.old) place count }
-        ensures digits { HasEntries (read_by R.BitRegister O.position) (sweep_words self.old) place count result }
+        ensures digits { IsChunk (read_by R.BitRegister O.position) (sweep_words self.old) place count direction result }
         ensures reads { reads_of self.new
             ≡ min (reads_of self.old + touched (min 64 R.BITS) place count) (2 ^ 64 - 1) }
         ensures same { SameButReads self.old self.new }
@@ -164,9 +233,10 @@ impl<'a, R: BitRegister> Sweep<'a, R> {
     {
         let bits = bits_of::<R>().min(64);
         let limbs = (place + count - 1) / bits + 1 - place / bits;
-        let number = bits_in::<R, O>(self.all(), place, count);
+        let known = known_direction::<R, O>(direction);
+        let chunk = read_counted::<R, O>(known, self.all(), place, count).0;
         self.reads = self.reads.saturating_add(limbs as u64);
-        number
+        chunk
     }
 
     /// How many of the first `count` words, which are there, hold the number of `word` before the first one that does not.

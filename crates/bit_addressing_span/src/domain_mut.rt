@@ -186,7 +186,7 @@ impl<'a, R: BitRegister, O: BitOrder<R>> DomainMut<'a, R, O> {
     }
 
     /// Makes each bit of the part of word `k` that is in the span 0. Answers the word masked, as it was.
-    #[tactic(auto, using(bit_addressing_memory::proofs::PartsLemmas::stores_none))]
+    #[tactic(auto, using(bit_addressing_memory::proofs::PartsLemmas::stores_all))]
     pub fn clear(&mut self, k: usize) -> R
         requires { k < touched R.BITS (domain_span self.old).head (domain_span self.old).len }
         ensures same { IsSameDomain self.old self.new }
@@ -201,7 +201,7 @@ impl<'a, R: BitRegister, O: BitOrder<R>> DomainMut<'a, R, O> {
     }
 
     /// Makes each bit of the part of word `k` that is in the span 1. Answers the word masked, as it was.
-    #[tactic(auto, using(bit_addressing_memory::proofs::PartsLemmas::stores_each))]
+    #[tactic(auto, using(bit_addressing_memory::proofs::PartsLemmas::stores_all))]
     pub fn set(&mut self, k: usize) -> R
         requires { k < touched R.BITS (domain_span self.old).head (domain_span self.old).len }
         ensures same { IsSameDomain self.old self.new }

@@ -139,7 +139,7 @@ impl<'a, R: BitRegister, O: BitOrder<R>> PartialElementMut<'a, R, O> {
     }
 
     /// Makes each bit of the part 0. Answers the word masked, as it was.
-    #[tactic(auto, using(bit_addressing_memory::proofs::PartsLemmas::stores_none))]
+    #[tactic(auto, using(bit_addressing_memory::proofs::PartsLemmas::stores_all))]
     pub fn clear(&mut self) -> R
         ensures same { IsSamePart self.old self.new }
         ensures was { ReadsPart (read_by R.BitRegister O.position) (part_words self.old) 0 result
@@ -152,7 +152,7 @@ impl<'a, R: BitRegister, O: BitOrder<R>> PartialElementMut<'a, R, O> {
     }
 
     /// Makes each bit of the part 1. Answers the word masked, as it was.
-    #[tactic(auto, using(bit_addressing_memory::proofs::PartsLemmas::stores_each))]
+    #[tactic(auto, using(bit_addressing_memory::proofs::PartsLemmas::stores_all))]
     pub fn set(&mut self) -> R
         ensures same { IsSamePart self.old self.new }
         ensures was { ReadsPart (read_by R.BitRegister O.position) (part_words self.old) 0 result

@@ -2,7 +2,7 @@
 use Rattle.bit_addressing_memory.proofs.Common.{◌≡◌, ℕ, ◌+◌, ◌-◌, ◌*◌, ◌%◌}
 use Rattle.bit_addressing_memory.proofs.Common.{◌==◌, ◌<◌, ◌≤◌, Bool, ◌&&◌, ◌||◌, List}
 use Rattle.bit_addressing_memory.proofs.Common.{length, get_or, bit_and, bit_or, bit_xor, min, max, sym, ap, ap₂, ◌∙◌}
-use Rattle.bit_addressing_memory.proofs.Common.{inl, inr, arith, cases_lt, Reading, entry, reading_in, Overwrites}
+use Rattle.bit_addressing_memory.proofs.Common.{inl, inr, arith, cases_lt, Reading, entry, Overwrites}
 use mathlib.Core.Bool.{xor}
 use Rattle.std.specs.Int.{bit_at}
 use Rattle.std.proofs.lemmas.Bool.Decides.{nat_tests}
@@ -10,10 +10,10 @@ use Rattle.std.proofs.lemmas.Nat.Bits.{bit_at_and, bit_at_or, bit_at_xor, bit_at
 use Rattle.bit_addressing_memory.specs.Bits.{digit_at}
 use Rattle.bit_addressing_memory.proofs.PartsLemmas.{stores_as}
 use Rattle.bit_addressing_memory.specs.declared.direction.Direction.{Direction}
-use Rattle.bit_addressing_memory.specs.Straight.{straight, Goes}
+use Rattle.bit_addressing_memory.specs.Straight.{straight}
 use Rattle.bit_addressing_memory.proofs.LimbLemmas.{or_left, or_right}
-use Rattle.bit_slice_chunks.specs.Chunk.{chunk_bit, IsChunk, IsLowered, IsRaised, IsCut, IsRest, IsPart}
-use Rattle.bit_slice_chunks.proofs.TransferLemmas.{part_entry}
+use Rattle.bit_addressing_memory.specs.Chunk.{chunk_bit, IsChunk, IsLowered, IsRaised, IsCut, IsRest, IsPart}
+use Rattle.bit_addressing_memory.proofs.TransferLemmas.{part_entry}
 
 -- ---- digits of two numbers combined
 
@@ -64,23 +64,22 @@ pub combined_from : {R : Type 0} (reading : Reading R) (before after : List R) (
 combined_from reading before after place at n how direction other is had = rw (← is) had
 
 -- whole words from an index of the first on, and the first bits of one word more
-pub combined_across : {R : Type 0} (b : ℕ) (number : R → ℕ) (at : ℕ → ℕ) (direction : Direction)
-    → Goes b at direction → (before mid after : List R)
+pub combined_across : {R : Type 0} (reading : Reading R) (direction : Direction) (before mid after : List R)
     (place first by j low up front own rest kept last down back other : ℕ) (x : R) (how : Bool → Bool → Bool)
-    → first * b + by ≡ place → 0 < by → by < b → b ≤ 64 → j * b ≡ first * b + 64
-    → IsChunk (reading_in b number at) before (first * b) 64 direction low → IsRaised direction other by up
+    → first * reading.bits + by ≡ place → 0 < by → by < reading.bits → reading.bits ≤ 64 → j * reading.bits ≡ first * reading.bits + 64
+    → IsChunk reading before (first * reading.bits) 64 direction low → IsRaised direction other by up
     → ((p : ℕ) → digit_at front p ≡ how (digit_at low p) (digit_at up p))
     → IsCut direction low by own → IsRest direction front by rest → kept ≡ bit_or own rest
-    → IsPart direction b (number x) 0 last → j < length before → x ≡ get_or before j x
+    → IsPart reading x 0 reading.bits direction last → j < length before → x ≡ get_or before j x
     → IsLowered direction other (64 - by) down
     → ((p : ℕ) → digit_at back p ≡ how (digit_at last p) (digit_at down p))
-    → Overwrites (reading_in b number at) before mid (first * b) 64 (chunk_bit direction kept)
-    → Overwrites (reading_in b number at) mid after (j * b + 0) (by - 0) (chunk_bit direction back)
-    → Overwrites (reading_in b number at) before after place 64
-    (λ k. how (entry (reading_in b number at) before (place + k)) (chunk_bit direction other k))
-combined_across b number at direction goes before mid after place first by j low up front own rest kept last down back
+    → Overwrites reading before mid (first * reading.bits) 64 (chunk_bit direction kept)
+    → Overwrites reading mid after (j * reading.bits + 0) by (chunk_bit direction back)
+    → Overwrites reading before after place 64
+    (λ k. how (entry reading before (place + k)) (chunk_bit direction other k))
+combined_across reading direction before mid after place first by j low up front own rest kept last down back
     other x how start some index narrow row whole put front_is cut tail made is within read moved back_is one two =
-    let reading = reading_in b number at in
+    let b : ℕ = reading.bits in
     record {
       there = λ k small. elim (cases_lt (by + k) 64) [
         | inl inside ↦
@@ -103,7 +102,7 @@ combined_across b number at direction goes before mid after place first by j low
             let same : j * b + (0 + i) ≡ place + k = omega arith in
             let again : i + (64 - by) ≡ k = omega arith in
             let mine =
-            part_entry b number at direction goes before place j 0 i last x is within read (omega arith) (omega arith)
+            part_entry reading direction before j 0 b i last x is within read (omega arith) (omega arith) (omega arith)
             ∙ ap (entry reading before) same in
             let its = moved.inside i (omega arith) ∙ ap (chunk_bit direction other) again in
             ap (entry reading after) (sym here)

@@ -1,7 +1,7 @@
 -- Known rows of the definitions, computed: a wrong rule among them does not check.
 use Rattle.std.proofs.Common.{◌≡◌, true, false, refl}
 use Rattle.bit_addressing_memory.specs.declared.direction.Direction.TheVariants.{Ascending, Descending}
-use Rattle.bit_slice_chunks.specs.Chunk.{chunk_bit, word_bit}
+use Rattle.bit_addressing_memory.specs.Chunk.{chunk_bit, word_bit}
 
 -- 0x12 under `Lsb0` begins 0 1 0 0 1, and so does the chunk 0x12
 first_up : chunk_bit Ascending 0x12 0 ≡ false

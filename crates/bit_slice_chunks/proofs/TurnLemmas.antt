@@ -14,7 +14,7 @@ use Rattle.bit_addressing_memory.specs.declared.direction.Direction.{Direction}
 use Rattle.bit_addressing_memory.specs.declared.direction.Direction.TheVariants.{Ascending, Descending}
 use Rattle.bit_addressing_memory.specs.contracts.direction.Direction.{the_type}
 use Rattle.bit_addressing_memory.specs.Straight.{straight}
-use Rattle.bit_slice_chunks.specs.Chunk.{chunk_bit, IsChunk, IsLowered, IsFaced, IsTurned, AgreeTo}
+use Rattle.bit_addressing_memory.specs.Chunk.{chunk_bit, IsChunk, IsLowered, IsFaced, IsTurned, AgreeTo}
 use Rattle.bit_slice_chunks.proofs.CombineLemmas.{xor_digit}
 
 -- ---- the digits of a number, the last first

@@ -2,7 +2,7 @@
 
 ghost use Rattle.std.specs.Prelude.{◌≡◌, ℕ};
 ghost use Rattle.bit_addressing_memory.specs.declared.direction.Direction.{Direction};
-ghost use Rattle.bit_slice_chunks.specs.Chunk.{AgreeTo};
+ghost use Rattle.bit_addressing_memory.specs.Chunk.{AgreeTo};
 
 use bit_addressing_memory::Direction;
 

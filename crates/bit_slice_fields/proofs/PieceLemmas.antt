@@ -1,6 +1,6 @@
 -- Pieces of a window whose bits weigh in turn: what a piece is, gathered, and written.
 --
--- A piece: `piece_is`. Its digits as a chunk has them: `piece_digits`, `chunk_up`, `chunk_down`. One piece more:
+-- A piece: `piece_is`. Its digits as a chunk has them: `piece_read`, `piece_digits`, `chunk_holds`. One piece more:
 -- `gathered_piece`, `written_piece`, `scattered_piece`. A window that is one piece: `whole_piece`, `whole_digits`.
 use Rattle.std.proofs.Common.{◌≡◌, ◌⊎◌, ℕ, ◌+◌, ◌-◌, ◌*◌, ◌/◌, ◌%◌, ◌^◌, ◌==◌, ◌<◌, ◌≤◌}
 use Rattle.std.proofs.Common.{Bool, true, false, List, get_or, length, min, bit_or, arith, refl, sym, ap, ◌∙◌, inl, inr}
@@ -9,7 +9,7 @@ use Rattle.std.proofs.Math.Nat.{div-eq_of_lt, mod-le, mul-le-mul_right, suc-mul}
 use Rattle.std.proofs.Math.Pow.{pow_mono, pow_pos}
 use Rattle.std.proofs.lemmas.Bool.{cases_lt}
 use Rattle.std.proofs.lemmas.Nat.{or_lt, pow-add}
-use Rattle.std.proofs.lemmas.Nat.Bits.{bit_at_or, bit_at_above, same_from_bits_below}
+use Rattle.std.proofs.lemmas.Nat.Bits.{bit_at_or, bit_at_above}
 use Rattle.bit_addressing_memory.specs.Bits.{digit_at}
 use Rattle.bit_addressing_memory.specs.Memory.{Reading, entry, memory, piece, Overwrites}
 use Rattle.bit_addressing_memory.proofs.ShiftLemmas.{bit_at_shr, bit_at_cut, bit_at_shl_low, bit_at_shl_high}
@@ -18,11 +18,11 @@ use Rattle.bit_addressing_memory.specs.declared.direction.Direction.{Direction}
 use Rattle.bit_addressing_memory.specs.declared.direction.Direction.TheVariants.{Ascending, Descending}
 use Rattle.bit_addressing_memory.specs.Straight.{straight, Goes}
 use Rattle.bit_addressing_memory.proofs.OverwriteLemmas.{overwrites_join}
-use Rattle.bit_addressing_memory.proofs.LimbLemmas.{no_digit}
-use Rattle.bit_slice_chunks.specs.Chunk.{chunk_bit, IsChunk}
+use Rattle.bit_slice_chunks.specs.Chunk.{chunk_bit, digits_in, HoldsDigits, IsChunk, ReadsDigits}
+use Rattle.bit_slice_chunks.proofs.DigitsLemmas.{digits_read}
 use Rattle.bit_slice_fields.specs.Digits.{Gathered, HasDigits}
 use Rattle.bit_slice_fields.specs.Number.{segment_start, segment_end, weight, CountsFrom}
-use Rattle.bit_slice_fields.specs.Pieces.{way_for, digits_in, least_bit, ChunkOf, IsPiece}
+use Rattle.bit_slice_fields.specs.Pieces.{way_for, least_bit, ChunkOf, IsPiece}
 use Rattle.bit_slice_fields.proofs.WeightLemmas.{of_bit, same_segment, weight_up, weight_down, weight_within}
 use Rattle.bit_slice_fields.proofs.WeightLemmas.{weights_apart}
 
@@ -135,67 +135,44 @@ whole_piece low le b h n some head any few one =
 
 -- ---- its digits in a chunk
 
--- no digit from m on
-small_from_digits : (n m : ℕ) → n < 2 ^ 64 → m ≤ 64 → ((i : ℕ) → m ≤ i → i < 64 → bit_at n i ≡ 0) → n < 2 ^ m
-small_from_digits n m fits narrow none =
-    let cut : n % 2 ^ m < 2 ^ m = omega (arith, pow_pos m) in
-    let same : n ≡ n % 2 ^ m =
-    same_from_bits_below 64 n (n % 2 ^ m) fits (omega arith) (λ i small. elim (cases_lt i m) [
-      | inl low ↦ sym (bit_at_cut n m i low)
-      | inr high ↦ none i high small ∙ sym (bit_at_above (n % 2 ^ m) m i cut high)
-    ]) in
-    omega arith
-
 -- a number of m digits, those of the m bits of a list from bit s on
 pub record HasPiece (way : Direction) (bits : List Bool) (s m d : ℕ) : Type 0 where
   pub digits : (i : ℕ) → i < m → digit_at d (straight m way i) ≡ get_or bits (s + i) false
   pub small : d < 2 ^ m
 
+pub piece_read : {R : Type 0} (way : Direction) (reading : Reading R) (words : List R) (head n s m at d : ℕ)
+    (bits : List Bool) → 0 < reading.bits → s + m ≤ n → at ≡ head + s → bits ≡ piece (memory reading words) head n
+    → ReadsDigits reading words at m way d → HasPiece way bits s m d
+piece_read way reading words head n s m at d bits some inside starts shows read =
+    rw shows (record {
+      digits = λ i low.
+          let here : at + i ≡ head + (s + i) = omega arith in
+          read.digits i low
+          ∙ ap (entry reading words) here
+          ∙ sym (window_bit reading words head n (s + i) some (omega arith));
+      small = read.small;
+    })
+
 pub piece_digits : {R : Type 0} (way : Direction) (reading : Reading R) (words : List R)
     (head n s m at chunk d : ℕ) (bits : List Bool) → 0 < reading.bits → s + m ≤ n → 0 < m → m ≤ 64 → at ≡ head + s
     → bits ≡ piece (memory reading words) head n → chunk < 2 ^ 64 → d ≡ digits_in way m chunk
     → IsChunk reading words at m way chunk → HasPiece way bits s m d
-piece_digits Ascending reading words head n s m at chunk d bits some inside any few starts shows fits made is =
-    rw (made, shows) (record {
-      digits = λ i low.
-          let here : at + i ≡ head + (s + i) = omega arith in
-          is.inside i low
-          ∙ ap (entry reading words) here
-          ∙ sym (window_bit reading words head n (s + i) some (omega arith));
-      small = small_from_digits chunk m fits few (λ i high small. no_digit chunk i (is.past i high small));
-    })
-piece_digits Descending reading words head n s m at chunk d bits some inside any few starts shows fits made is =
-    rw (made, shows) (record {
-      digits = λ i low.
-          let here : at + i ≡ head + (s + i) = omega arith in
-          let digit : m - 1 - i + (64 - m) ≡ 64 - 1 - i = omega arith in
-          ap (λ x. x == 1) (bit_at_shr chunk (64 - m) (m - 1 - i) ∙ ap (bit_at chunk) digit)
-          ∙ is.inside i low
-          ∙ ap (entry reading words) here
-          ∙ sym (window_bit reading words head n (s + i) some (omega arith));
-      small =
-          small_from_digits (chunk / 2 ^ (64 - m)) m (omega arith) few (λ i high small.
-          bit_at_shr chunk (64 - m) i ∙ bit_at_above chunk 64 (i + (64 - m)) fits (omega arith));
-    })
+piece_digits way reading words head n s m at chunk d bits some inside any few starts shows fits made is =
+    rw made (piece_read way reading words head n s m at (digits_in way m chunk) bits some inside starts shows
+    (digits_read way reading words at m chunk any few fits is))
 
--- a chunk of m digits of a number
-lowest_digits : (d w x i : ℕ) → x ≡ d / 2 ^ w % 2 ^ 64 → i < 64 → bit_at x i ≡ bit_at d (w + i)
-lowest_digits d w x i is small =
-    let at : i + w ≡ w + i = omega arith in
-    ap (λ y. bit_at y i) is ∙ bit_at_cut (d / 2 ^ w) 64 i small ∙ bit_at_shr d w i ∙ ap (bit_at d) at
-
-pub chunk_up : (d w m x : ℕ) → m ≤ 64 → x ≡ d / 2 ^ w % 2 ^ 64 → ChunkOf Ascending d w m x
-chunk_up d w m x few is i low = ap (λ y. y == 1) (lowest_digits d w x i is (omega arith))
-
-pub chunk_down : (d w m x r : ℕ) → m ≤ 64 → x ≡ d / 2 ^ w % 2 ^ 64 → r ≡ x * 2 ^ (64 - m) % 2 ^ 64
-    → ChunkOf Descending d w m r
-chunk_down d w m x r few is made i low =
-    let at : 64 - 1 - i - (64 - m) ≡ m - 1 - i = omega arith in
-    ap (λ y. y == 1) (ap (λ y. bit_at y (64 - 1 - i)) made
-    ∙ bit_at_cut (x * 2 ^ (64 - m)) 64 (64 - 1 - i) (omega arith)
-    ∙ bit_at_shl_high x (64 - m) (64 - 1 - i) (omega arith)
-    ∙ ap (bit_at x) at
-    ∙ lowest_digits d w x (m - 1 - i) is (omega arith))
+-- a chunk of m digits of a number from digit w on
+pub chunk_holds : (way : Direction) (d w m x r : ℕ) → m ≤ 64 → x ≡ d / 2 ^ w % 2 ^ 64 → HoldsDigits way x m r
+    → ChunkOf way d w m r
+chunk_holds way d w m x r few is holds i low =
+    let p : ℕ = straight m way i in
+    let small : p < m = straight_within m way i low in
+    let at : p + w ≡ w + p = omega arith in
+    holds i low
+    ∙ ap (λ y. y == 1) (ap (λ y. bit_at y p) is
+    ∙ bit_at_cut (d / 2 ^ w) 64 p (omega arith)
+    ∙ bit_at_shr d w p
+    ∙ ap (bit_at d) at)
 
 -- the digits of a window that is one piece
 pub whole_digits : (weighs : ℕ → ℕ) (n v : ℕ) (bits : List Bool) (way : Direction) → n ≡ length bits

@@ -3,9 +3,10 @@
 -- A window of n bits begins at the index `head` of a word of b bits, and is cut where a word ends: what lies in one
 -- word is a segment. Each bit weighs a power of two: `weight` is the exponent. A whole number in a window: `field_bits`.
 -- Which end of a word counts lowest: `CountsFrom`.
-use Rattle.std.specs.Prelude.{◌≡◌, ℕ, ℤ, ◌+◌, ◌-◌, ◌*◌, ◌/◌, ◌<◌, Bool, true, false, List, min}
+use Rattle.std.specs.Prelude.{ℕ, ℤ, ◌+◌, ◌-◌, ◌*◌, ◌/◌, Bool, true, false, List, min}
 use Rattle.bit_addressing_memory.specs.Bits.{bits_in_order}
 use Rattle.bit_slice_fields.specs.Whole.{low_digits}
+pub use Rattle.bit_slice_words.specs.Orders.{CountsFrom}
 
 -- the first bit of the segment that bit i lies in
 abbrev pub segment_start : ℕ → ℕ → ℕ → ℕ
@@ -34,8 +35,3 @@ weight low le b head n i = lower_bits le b head n i + inner_bits low b head n i
 -- the bits of a window that holds the lowest n digits of a whole number: each the digit of its weight
 abbrev pub field_bits : Bool → Bool → ℕ → ℕ → ℕ → ℤ → List Bool
 field_bits low le b head n z = bits_in_order (weight low le b head n) n (low_digits n z)
-
--- an order of b bits counts from the lowest digit, or else from the highest
-abbrev pub CountsFrom : Bool → ℕ → (ℕ → ℕ) → Type 0
-CountsFrom true b at = (i : ℕ) → i < b → at i ≡ i
-CountsFrom false b at = (i : ℕ) → i < b → at i ≡ b - 1 - i

@@ -1,6 +1,6 @@
 -- Pieces of a window whose bits weigh in turn, and the chunks that hold their digits. No public clause cites this
 -- module.
-use Rattle.std.specs.Prelude.{◌≡◌, ℕ, ◌+◌, ◌-◌, ◌/◌, ◌<◌, ◌≤◌, ◌^◌, Bool, true, false}
+use Rattle.std.specs.Prelude.{◌≡◌, ℕ, ◌+◌, ◌-◌, ◌<◌, ◌≤◌, Bool, true, false}
 use Rattle.bit_addressing_memory.specs.Bits.{digit_at}
 use Rattle.bit_addressing_memory.specs.declared.direction.Direction.{Direction}
 use Rattle.bit_addressing_memory.specs.declared.direction.Direction.TheVariants.{Ascending, Descending}
@@ -24,11 +24,6 @@ pub record IsPiece (weighs : ℕ → ℕ) (n : ℕ) (way : Direction) (from m w 
   pub inside : from + m ≤ n
   pub fits : w + m ≤ n
   pub turns : (i : ℕ) → i < m → weighs (from + i) ≡ w + straight m way i
-
--- the number whose m digits a chunk has, and zeros behind them
-abbrev pub digits_in : Direction → ℕ → ℕ → ℕ
-digits_in Ascending m chunk = chunk
-digits_in Descending m chunk = chunk / 2 ^ (64 - m)
 
 -- the first m bits of a chunk are the digits of a number from digit w on
 abbrev pub ChunkOf : Direction → ℕ → ℕ → ℕ → ℕ → Type 0

@@ -5,20 +5,19 @@ ghost use Rattle.std.specs.Prelude.{◌≡◌, ℕ, ◌+◌, ◌-◌, ◌*◌, �
 ghost use Rattle.std.specs.Prelude.{if◌then◌else◌};
 ghost use Rattle.bit_addressing_memory.specs.Bits.{bits_in_order, digit_at};
 ghost use Rattle.bit_addressing_memory.specs.Memory.{memory, piece, read_by, Overwrites};
-ghost use Rattle.bit_slice_chunks.specs.Chunk.{IsChunk};
 ghost use Rattle.bit_slice_fields.specs.Digits.{cut_weight, Gathered, HasDigits};
 ghost use Rattle.bit_slice_fields.specs.Number.{field_bits, segment_end, CountsFrom};
-ghost use Rattle.bit_slice_fields.specs.Pieces.{way_for, digits_in, least_bit, ChunkOf, IsPiece};
+ghost use Rattle.bit_slice_fields.specs.Pieces.{way_for, least_bit, ChunkOf, IsPiece};
 ghost use Rattle.bit_slice_fields.specs.Segments.{IsSegment};
 ghost use Rattle.bit_slice_fields.specs.Whole.{FitsIn};
 ghost use Rattle.bit_slice_views.specs.View.{view_bits, view_head};
 ghost use Rattle.bit_slice_views_mut.specs.Frame.{KeepsBeside};
 
 use crate::integral::Integral;
-use bit_addressing_memory::{
-    BitOrder, BitRegister, BulkOp, Direction, Straight, bit_loop_limit, mem, write_entry,
+use bit_addressing_memory::{BitOrder, BitRegister, Direction, Straight, mem};
+use bit_slice_chunks::{
+    chunk_of, digits_of, read_bits, read_digits, read_field, write_bits, write_field, write_part,
 };
-use bit_slice_chunks::{read_bits, read_counted, read_part, write_bits, write_counted};
 use bit_slice_views::{BitSlice, Bits};
 
 // How the bits of a window weigh: which end of a word counts lowest, whether the first segment does, and the index of
@@ -45,26 +44,6 @@ struct Segment {
     index: usize,
     from: usize,
     len: usize,
-}
-
-// The weight of bit i, of n bits in words of `bits` bits.
-#[tactic(auto, using(crate::proofs::WeightLemmas::weight_within, crate::proofs::WeightLemmas::of_bit))]
-#[inline(always)]
-fn weight_of(cut: Cut, bits: usize, n: usize, i: usize) -> usize
-    requires some { 0 < bits }
-    requires few { bits ≤ 128 }
-    requires head { cut.head < bits }
-    requires short { n ≤ 128 }
-    requires inside { i < n }
-    ensures value { result ≡ cut_weight cut bits n i }
-    ensures within { result < n }
-{
-    let first = (cut.head + i) / bits * bits;
-    let start = first.saturating_sub(cut.head);
-    let end = n.min(first + bits - cut.head);
-    let lower = if cut.le { start } else { n - end };
-    let inner = if cut.low { i - start } else { end - 1 - i };
-    lower + inner
 }
 
 // The bit before which the segment of bit `from` ends.
@@ -154,6 +133,18 @@ fn is_one_piece(cut: Cut, bits: usize, n: usize) -> bool
     cut.low == cut.le || cut.head + n <= bits
 }
 
+// Whether a window lies in one word, and is quicker read there than by a block of 64 bits: of a wider word, or where the
+// digits do not go with the order from word to word.
+#[inline(always)]
+fn goes_by_word(cut: Cut, bits: usize, n: usize) -> bool
+    requires head { cut.head < bits }
+    requires few { bits ≤ 128 }
+    requires short { n ≤ 128 }
+    ensures { result ≡ true → cut.head + n ≤ bits }
+{
+    cut.head + n <= bits && (bits > 64 || cut.low != cut.le)
+}
+
 // The direction in which the bits of a word weigh.
 #[inline(always)]
 fn way_of(low: bool) -> Direction
@@ -175,26 +166,16 @@ fn straight_of<T: BitRegister, O: BitOrder<T>>(low: bool) -> Straight<T, O>
     Straight::new(way_of(low))
 }
 
-// The digits that the first bits of a chunk are, and zeros behind them.
-#[inline(always)]
-fn digits_of(chunk: u64, low: bool, len: usize) -> u64
-    requires some { 0 < len }
-    requires few { len ≤ 64 }
-    ensures { result ≡ digits_in (way_for low) len chunk }
-{
-    if low { chunk } else { chunk >> (64 - len) }
-}
-
 // The chunk whose first bits are the digits of a number from the digit `weight` on.
 #[inline(always)]
-fn chunk_of(digits: u128, low: bool, weight: usize, len: usize) -> u64
+fn chunk_from(digits: u128, low: bool, weight: usize, len: usize) -> u64
     requires some { 0 < len }
     requires few { len ≤ 64 }
     requires within { weight < 128 }
     ensures { ChunkOf (way_for low) digits weight len result }
 {
     let lowest = ((digits >> weight) % (1 << 64)) as u64;
-    if low { lowest } else { lowest << (64 - len) }
+    chunk_of(way_of(low), lowest, len as u8)
 }
 
 // A number with the digits of a piece put in.
@@ -213,33 +194,6 @@ fn with_few(digits: u64, piece: u64, weight: usize) -> u64
     ensures { result ≡ bit_or digits (piece * 2 ^ weight % 2 ^ 64) }
 {
     digits | piece << weight
-}
-
-// The bits of a piece as a chunk.
-#[inline(always)]
-fn piece_bits<T: BitRegister, O: BitOrder<T>>(
-    straight: Straight<T, O>,
-    words: &[T],
-    place: usize,
-    len: usize,
-) -> u64
-    requires some { 0 < len }
-    requires few { len ≤ 64 }
-    requires within { place + len ≤ length words.now * T.BITS }
-    requires ends { place + len < 2 ^ 64 }
-    ensures { IsChunk (read_by T.BitRegister O.position) words.now place len straight.direction result }
-{
-    let bits = mem::bits_of::<T>();
-    let word = place / bits;
-    let from = place % bits;
-    if from + len <= bits {
-        return read_part::<T, O>(straight, words, word, from as u8, len as u8);
-    }
-    // Of narrow words the bits touch fewer than a whole chunk does.
-    if bits < 64 {
-        return read_counted::<T, O>(straight, words, place, len).0;
-    }
-    read_bits::<T, O>(straight, words, place, len)
 }
 
 // Whether a window has 64 bits at most, in more than one word of no more, and they weigh in turn in each word alone.
@@ -295,14 +249,9 @@ fn with_segment<T: BitRegister, O: BitOrder<T>>(
         len,
     } = segment;
     let weight = weight_of_segment(cut.low, n, from, len);
-    let chunk = read_part::<T, O>(
-        straight_of::<T, O>(cut.low),
-        words,
-        word,
-        index as u8,
-        len as u8,
-    );
-    with_few(digits, digits_of(chunk, cut.low, len), weight)
+    let straight = straight_of::<T, O>(cut.low);
+    let more = read_digits::<T, O>(straight, words, word, index as u8, len as u8);
+    with_few(digits, more, weight)
 }
 
 // The number of a window that goes by words, from the first word on.
@@ -353,7 +302,34 @@ fn gathered_by_words<T: BitRegister, O: BitOrder<T>>(words: &[T], n: usize, cut:
 
 // The number that a window holds.
 #[inline(always)]
-pub(crate) fn gathered<T: BitRegister, O: BitOrder<T>>(view: BitSlice<'_, T, O>, cut: Cut) -> u128
+fn gathered<T: BitRegister, O: BitOrder<T>>(view: BitSlice<'_, T, O>, cut: Cut) -> u128
+    requires counts { CountsFrom cut.low T.BITS O.position }
+    requires head { cut.head < T.BITS }
+    requires begins { view_head view ≡ cut.head }
+    requires short { length (view_bits (read_by T.BitRegister O.position) view) ≤ 128 }
+    ensures { HasDigits (cut_weight cut T.BITS (length (view_bits (read_by T.BitRegister O.position) view.entry)))
+        (view_bits (read_by T.BitRegister O.position) view.entry) result }
+{
+    let bits = mem::bits_of::<T>();
+    let (words, head, len) = view.parts();
+    if is_one_piece(cut, bits, len) {
+        let straight = straight_of::<T, O>(cut.low);
+        if goes_by_word(cut, bits, len) {
+            let digits = read_digits::<T, O>(straight, words, 0, head, len as u8);
+            return u128::from(digits);
+        }
+        let all = read_field::<T, O>(straight, words, head as usize, len);
+        return u128::from(digits_of(straight.direction, all, len as u8));
+    }
+    if goes_by_words(cut, bits, len) {
+        return u128::from(gathered_by_words::<T, O>(words, len, cut));
+    }
+    gathered_by_pieces::<T, O>(view, cut)
+}
+
+// The same piece by piece. Out of line, so that a number of few pieces is read by a short function.
+#[inline(never)]
+fn gathered_by_pieces<T: BitRegister, O: BitOrder<T>>(view: BitSlice<'_, T, O>, cut: Cut) -> u128
     requires counts { CountsFrom cut.low T.BITS O.position }
     requires head { cut.head < T.BITS }
     requires begins { view_head view ≡ cut.head }
@@ -364,28 +340,21 @@ pub(crate) fn gathered<T: BitRegister, O: BitOrder<T>>(view: BitSlice<'_, T, O>,
     let bits = mem::bits_of::<T>();
     let straight = straight_of::<T, O>(cut.low);
     let (words, head, len) = view.parts();
-    if is_one_piece(cut, bits, len) {
-        let all = piece_bits::<T, O>(straight, words, head as usize, len);
-        return u128::from(digits_of(all, cut.low, len));
-    }
-    if goes_by_words(cut, bits, len) {
-        return u128::from(gathered_by_words::<T, O>(words, len, cut));
-    }
     let mut digits = 0u128;
     let mut from = 0;
     while from < len {
         let piece = piece_of(cut, bits, len, from);
-        let chunk = piece_bits::<T, O>(straight, words, head as usize + from, piece.len);
-        let more = digits_of(chunk, cut.low, piece.len);
+        let chunk = read_bits::<T, O>(straight.direction, words, head as usize + from, piece.len);
+        let more = digits_of(straight.direction, chunk, piece.len as u8);
         digits = with_piece(digits, more, piece.weight);
         from += piece.len;
     }
     digits
 }
 
-// Makes the `len` bits from a place on the digits of a number: a few one by one.
+// Makes the `len` bits from a place on the digits of a number.
 #[inline(always)]
-pub(crate) fn scatter<T: BitRegister, O: BitOrder<T>>(
+fn scatter<T: BitRegister, O: BitOrder<T>>(
     words: &mut [T],
     place: usize,
     len: usize,
@@ -398,52 +367,36 @@ pub(crate) fn scatter<T: BitRegister, O: BitOrder<T>>(
     requires head { cut.head < T.BITS }
     requires begins { place % T.BITS ≡ cut.head }
     requires short { len ≤ 128 }
-    ensures list { piece (memory (read_by T.BitRegister O.position) words.new) place len
-        ≡ bits_in_order (cut_weight cut T.BITS len) len digits }
-    ensures beside { KeepsBeside (read_by T.BitRegister O.position) words.old words.new place len }
-{
-    if len <= bit_loop_limit::<T, O>(BulkOp::Store) {
-        scatter_singly::<T, O>(words, place, len, digits, cut);
-    } else {
-        scatter_by_pieces::<T, O>(words, place, len, digits, cut);
-    }
-}
-
-// A digit of a number.
-fn digit_of(digits: u128, weight: usize) -> bool
-    requires { weight < 128 }
-    ensures { result ≡ digit_at digits weight }
-{
-    (digits >> weight) % 2 == 1
-}
-
-// The same bit by bit.
-#[inline(always)]
-#[tactic(auto, using(bit_slice_words::proofs::ChangedStretchLemmas::stretch_steps))]
-fn scatter_singly<T: BitRegister, O: BitOrder<T>>(
-    words: &mut [T],
-    place: usize,
-    len: usize,
-    digits: u128,
-    cut: Cut,
-)
-    requires within { place + len ≤ length words.old * T.BITS }
-    requires ends { place + len < 2 ^ 63 }
-    requires head { cut.head < T.BITS }
-    requires short { len ≤ 128 }
-    ensures list { piece (memory (read_by T.BitRegister O.position) words.new) place len
-        ≡ bits_in_order (cut_weight cut T.BITS len) len digits }
-    ensures beside { KeepsBeside (read_by T.BitRegister O.position) words.old words.new place len }
+    ensures { Overwrites (read_by T.BitRegister O.position) words.old words.new place len
+        (λ k. digit_at digits (cut_weight cut T.BITS len k)) }
 {
     let bits = mem::bits_of::<T>();
-    for i in 0..len {
-        let bit = digit_of(digits, weight_of(cut, bits, len, i));
-        write_entry::<T, O>(words, place + i, bit);
+    if is_one_piece(cut, bits, len) {
+        let straight = straight_of::<T, O>(cut.low);
+        let all = chunk_from(digits, cut.low, 0, len);
+        if bits > 64 && goes_by_word(cut, bits, len) {
+            write_part::<T, O>(
+                straight,
+                words,
+                place / bits,
+                cut.head as u8,
+                len as u8,
+                all,
+            );
+            return;
+        }
+        write_field::<T, O>(straight, words, place, len, all);
+        return;
     }
+    if goes_by_words(cut, bits, len) {
+        scatter_by_words::<T, O>(words, place, len, digits, cut);
+        return;
+    }
+    scatter_by_pieces::<T, O>(words, place, len, digits, cut);
 }
 
-// The same piece by piece.
-#[inline(always)]
+// The same piece by piece. Out of line, so that a number of few pieces is written by a short function.
+#[inline(never)]
 fn scatter_by_pieces<T: BitRegister, O: BitOrder<T>>(
     words: &mut [T],
     place: usize,
@@ -455,28 +408,17 @@ fn scatter_by_pieces<T: BitRegister, O: BitOrder<T>>(
     requires within { place + len ≤ length words.old * T.BITS }
     requires ends { place + len < 2 ^ 63 }
     requires head { cut.head < T.BITS }
-    requires begins { place % T.BITS ≡ cut.head }
     requires short { len ≤ 128 }
-    ensures list { piece (memory (read_by T.BitRegister O.position) words.new) place len
-        ≡ bits_in_order (cut_weight cut T.BITS len) len digits }
-    ensures beside { KeepsBeside (read_by T.BitRegister O.position) words.old words.new place len }
+    ensures { Overwrites (read_by T.BitRegister O.position) words.old words.new place len
+        (λ k. digit_at digits (cut_weight cut T.BITS len k)) }
 {
     let bits = mem::bits_of::<T>();
     let straight = straight_of::<T, O>(cut.low);
-    if is_one_piece(cut, bits, len) {
-        let all = chunk_of(digits, cut.low, 0, len);
-        write_bits::<T, O>(straight, words, place, len, all);
-        return;
-    }
-    if goes_by_words(cut, bits, len) {
-        scatter_by_words::<T, O>(words, place, len, digits, cut);
-        return;
-    }
     let mut from = 0;
     while from < len {
         let piece = piece_of(cut, bits, len, from);
-        let chunk = chunk_of(digits, cut.low, piece.weight, piece.len);
-        write_bits::<T, O>(straight, words, place + from, piece.len, chunk);
+        let chunk = chunk_from(digits, cut.low, piece.weight, piece.len);
+        write_bits::<T, O>(straight.direction, words, place + from, piece.len, chunk);
         from += piece.len;
     }
 }
@@ -509,9 +451,9 @@ fn put_segment<T: BitRegister, O: BitOrder<T>>(
         len,
     } = segment;
     let weight = weight_of_segment(cut.low, n, from, len);
-    let chunk = chunk_of(digits, cut.low, weight, len);
-    let at = word * mem::bits_of::<T>() + index;
-    write_counted::<T, O>(straight_of::<T, O>(cut.low), words, at, len, chunk);
+    let chunk = chunk_from(digits, cut.low, weight, len);
+    let straight = straight_of::<T, O>(cut.low);
+    write_part::<T, O>(straight, words, word, index as u8, len as u8, chunk);
 }
 
 // The same as `scatter_by_pieces` of a window that goes by words, from the first word on.

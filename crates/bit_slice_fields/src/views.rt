@@ -4,11 +4,11 @@ ghost use Rattle.std.specs.Prelude.{◌≡◌, ◌%◌, ◌<◌};
 
 use crate::field::BitField;
 use crate::field_mut::BitFieldMut;
-use crate::order::FieldOrder;
 use bit_addressing_memory::{BitRegister, mem};
 use bit_slice_access::Part;
 use bit_slice_views::BitSlice;
 use bit_slice_views_mut::{BitSliceMut, BitsMut, BitsWindow};
+use bit_slice_words::FieldOrder;
 
 impl<T: BitRegister, O: FieldOrder<T>> BitField for BitSlice<'_, T, O> {
     ghost use Rattle.std.specs.Prelude.{refl};

@@ -1,9 +1,9 @@
 -- How far two stretches are the same, chunk by chunk.
 use Rattle.bit_addressing_memory.proofs.Common.{◌≡◌, ℕ, ◌+◌, ◌==◌, ◌<◌, ◌≤◌, ◌↔◌, IsTrue, List, min, refl, sym, ◌∙◌}
-use Rattle.bit_addressing_memory.proofs.Common.{inl, inr, arith, cases_lt, eqb-true, eq-eqb, Reading, entry}
+use Rattle.bit_addressing_memory.proofs.Common.{inl, inr, arith, cases_lt, eqb-true, eq-eqb, Reading}
 use Rattle.bit_addressing_memory.specs.declared.direction.Direction.{Direction}
 use Rattle.bit_slice_chunks.specs.Chunk.{IsChunk, AgreeTo}
-use Rattle.bit_slice_paths.specs.Agrees.{Agrees, Matches}
+use Rattle.bit_slice_paths.specs.Agrees.{Agrees, AreSame, Matches}
 use Rattle.bit_slice_paths.proofs.WalkLemmas.{equal_more}
 
 -- the first bit in which the chunks of two memories differ, among the first n
@@ -27,7 +27,7 @@ agrees_chunk reading its words others place other_place n direction x y at r few
 -- stretches that are the same for n bits, and how far the m bits behind them are
 pub agrees_more : {R Q : Type 0} (reading : Reading R) (its : Reading Q) (words : List R) (others : List Q)
     (place other_place n m all at : ℕ) → n + m ≤ all → (n + at < all → at < m)
-    → ((k : ℕ) → k < n → entry reading words (place + k) ≡ entry its others (other_place + k))
+    → AreSame reading words place its others other_place n
     → Agrees reading words (place + n) its others (other_place + n) m at
     → Agrees reading words place its others other_place all (n + at)
 agrees_more reading its words others place other_place n m all at inside behind had more =
@@ -42,7 +42,7 @@ agrees_more reading its words others place other_place n m all at inside behind 
 -- stretches that are the same throughout
 pub agrees_all : {R Q : Type 0} (reading : Reading R) (its : Reading Q) (words : List R) (others : List Q)
     (place other_place n : ℕ)
-    → ((k : ℕ) → k < n → entry reading words (place + k) ≡ entry its others (other_place + k))
+    → AreSame reading words place its others other_place n
     → Agrees reading words place its others other_place n n
 agrees_all reading its words others place other_place n same = record {
   most = omega arith;
@@ -50,19 +50,17 @@ agrees_all reading its words others place other_place n same = record {
   differ = λ low. absurd (omega arith);
 }
 
--- they are so exactly if they are the same up to their end
-pub agrees_test : {R Q : Type 0} (reading : Reading R) (its : Reading Q) (words : List R) (others : List Q)
-    (place other_place n at : ℕ) → Agrees reading words place its others other_place n at
-    → IsTrue (at == n) ↔ ((k : ℕ) → k < n → entry reading words (place + k) ≡ entry its others (other_place + k))
-agrees_test reading its words others place other_place n at agree = (
-  λ yes k low. agree.same k (omega (arith, eqb-true at n yes)),
-  λ same. eq-eqb at n (elim (cases_lt at n) [
-    | inl low ↦ absurd (agree.differ low (same at low))
-    | inr high ↦ omega (arith, agree.most)
-  ]),
-)
+-- stretches that differ among the first n bits, or are not longer
+pub agrees_near : {R Q : Type 0} (reading : Reading R) (its : Reading Q) (words : List R) (others : List Q)
+    (place other_place n all at : ℕ) → n ≤ all → (at < all → at < n)
+    → Agrees reading words place its others other_place n at → Agrees reading words place its others other_place all at
+agrees_near reading its words others place other_place n all at inside near agree = record {
+  most = omega (arith, agree.most);
+  same = agree.same;
+  differ = λ low. agree.differ (near low);
+}
 
--- stretches that differ among the first n bits
+-- and what matches of them
 pub matches_near : {R Q : Type 0} (reading : Reading R) (its : Reading Q) (words : List R) (others : List Q)
     (place other_place n all at : ℕ) → n ≤ all → (at < all → at < n)
     → Agrees reading words place its others other_place n at → Matches reading words place its others other_place all at
@@ -75,7 +73,7 @@ matches_near reading its words others place other_place n all at inside near agr
 -- stretches that are the same for n bits, and how many of the m bits behind them are
 pub matches_more : {R Q : Type 0} (reading : Reading R) (its : Reading Q) (words : List R) (others : List Q)
     (place other_place n m all done : ℕ) → n + m ≡ all
-    → ((k : ℕ) → k < n → entry reading words (place + k) ≡ entry its others (other_place + k))
+    → AreSame reading words place its others other_place n
     → Matches reading words (place + n) its others (other_place + n) m done
     → Matches reading words place its others other_place all (n + done)
 matches_more reading its words others place other_place n m all done sum had more = record {
@@ -87,10 +85,10 @@ matches_more reading its words others place other_place n m all done sum had mor
       rw (here, there) (same (n + k) (omega arith)));
 }
 
--- all bits match exactly if they are the same
+-- all bits match exactly if they are the same throughout
 pub matches_test : {R Q : Type 0} (reading : Reading R) (its : Reading Q) (words : List R) (others : List Q)
     (place other_place n done : ℕ) → Matches reading words place its others other_place n done
-    → IsTrue (done == n) ↔ ((k : ℕ) → k < n → entry reading words (place + k) ≡ entry its others (other_place + k))
+    → IsTrue (done == n) ↔ AreSame reading words place its others other_place n
 matches_test reading its words others place other_place n done matches = (
   λ yes k low. matches.same k (omega (arith, eqb-true done n yes)),
   λ same. eq-eqb done n (elim (cases_lt done n) [

@@ -1,16 +1,15 @@
 -- Stretches combined, copied and compared chunk by chunk.
-use Rattle.bit_addressing_memory.proofs.Common.{◌≡◌, ℕ, ◌+◌, ◌-◌, ◌^◌, ◌<◌, ◌≤◌, ◌≢◌, ◌↔◌, Bool, List, refl, sym, ap}
-use Rattle.bit_addressing_memory.proofs.Common.{ap₂, ◌∙◌, inl, inr, arith, cases_lt, cases_eq, eqb-true, eqb-false}
-use Rattle.bit_addressing_memory.proofs.Common.{eq-eqb, ne_eqb, Reading, entry, Overwrites, Copies}
-use Rattle.std.specs.Int.{bit_at}
-use Rattle.std.proofs.lemmas.Nat.Bits.{bit_at-lt, same_from_bits_below}
-use Rattle.bit_addressing_memory.specs.Bits.{digit_at}
+use Rattle.bit_addressing_memory.proofs.Common.{◌≡◌, ℕ, ◌+◌, ◌-◌, ◌^◌, ◌<◌, ◌≤◌, ◌↔◌, Bool, List, refl, sym, ap, ap₂}
+use Rattle.bit_addressing_memory.proofs.Common.{◌∙◌, inl, inr, arith, cases_lt, Reading, entry, Overwrites, Copies}
+use Rattle.bit_addressing_memory.specs.OrderLaws.{lsb0_lawful, msb0_lawful}
+use Rattle.bit_addressing_memory.proofs.OrderCallerLemmas.{same_word}
 use Rattle.bit_addressing_memory.proofs.PartsLemmas.{stores_as}
 use Rattle.bit_addressing_memory.specs.declared.direction.Direction.{Direction}
 use Rattle.bit_addressing_memory.specs.declared.direction.Direction.TheVariants.{Ascending, Descending}
 use Rattle.bit_addressing_memory.proofs.OverwriteLemmas.{overwrites_join}
 use Rattle.bit_slice_chunks.specs.Chunk.{chunk_bit, IsChunk}
 use Rattle.bit_slice_chunks.specs.Combined.{Combines}
+use Rattle.bit_slice_paths.specs.Agrees.{AreSame}
 
 -- ---- one chunk
 
@@ -96,29 +95,17 @@ copied_before reading before mid after source target k m len order inside had mo
 
 -- ---- equality
 
-same_digit : (x y p : ℕ) → digit_at x p ≡ digit_at y p → bit_at x p ≡ bit_at y p
-same_digit x y p same = elim (cases_eq (bit_at x p) 1) [
-  | inl one ↦ one ∙ sym (eqb-true (bit_at y p) 1 (sym same ∙ eq-eqb (bit_at x p) 1 one))
-  | inr other ↦
-      let also : bit_at y p ≢ 1 = eqb-false (bit_at y p) 1 (sym same ∙ ne_eqb (bit_at x p) 1 other) in
-      omega (arith, bit_at-lt x p, bit_at-lt y p)
-]
-
 -- two numbers with the same 64 bits are equal
-pub same_chunks : (direction : Direction) (x y : ℕ) → x < 2 ^ 64 → y < 2 ^ 64
+same_chunks : (direction : Direction) (x y : ℕ) → x < 2 ^ 64 → y < 2 ^ 64
     → ((i : ℕ) → i < 64 → chunk_bit direction x i ≡ chunk_bit direction y i) → x ≡ y
-same_chunks Ascending x y low_x low_y same =
-    same_from_bits_below 64 x y low_x low_y (λ p small. same_digit x y p (same p small))
-same_chunks Descending x y low_x low_y same =
-    same_from_bits_below 64 x y low_x low_y (λ p small.
-    let back : 64 - 1 - (64 - 1 - p) ≡ p = omega arith in
-    same_digit x y p (rw back at (same (64 - 1 - p) (omega arith))))
+same_chunks Ascending x y low_x low_y same = same_word 64 (λ i. i) _ _ x y (lsb0_lawful 64) low_x low_y same
+same_chunks Descending x y low_x low_y same = same_word 64 (λ i. 64 - 1 - i) _ _ x y (msb0_lawful 64) low_x low_y same
 
 -- chunks of two memories are equal exactly if the memories' bits are
 pub chunks_equal : {R Q : Type 0} (reading : Reading R) (its : Reading Q) (words : List R) (others : List Q)
     (place other_place n : ℕ) (direction : Direction) (x y : ℕ) → x < 2 ^ 64 → y < 2 ^ 64
     → IsChunk reading words place n direction x → IsChunk its others other_place n direction y
-    → (x ≡ y) ↔ ((k : ℕ) → k < n → entry reading words (place + k) ≡ entry its others (other_place + k))
+    → (x ≡ y) ↔ AreSame reading words place its others other_place n
 chunks_equal reading its words others place other_place n direction x y low_x low_y mine theirs = (
   λ equal k low. sym (mine.inside k low) ∙ ap (λ c. chunk_bit direction c k) equal ∙ theirs.inside k low,
   λ same. same_chunks direction x y low_x low_y (λ i small. elim (cases_lt i n) [
@@ -130,9 +117,9 @@ chunks_equal reading its words others place other_place n direction x y low_x lo
 -- one more chunk that is equal
 pub equal_more : {R Q : Type 0} (reading : Reading R) (its : Reading Q) (words : List R) (others : List Q)
     (place other_place n m all : ℕ) → all ≡ n + m
-    → ((k : ℕ) → k < n → entry reading words (place + k) ≡ entry its others (other_place + k))
-    → ((k : ℕ) → k < m → entry reading words (place + n + k) ≡ entry its others (other_place + n + k))
-    → (k : ℕ) → k < all → entry reading words (place + k) ≡ entry its others (other_place + k)
+    → AreSame reading words place its others other_place n
+    → AreSame reading words (place + n) its others (other_place + n) m
+    → AreSame reading words place its others other_place all
 equal_more reading its words others place other_place n m all sum had more k low = elim (cases_lt k n) [
   | inl first ↦ had k first
   | inr later ↦

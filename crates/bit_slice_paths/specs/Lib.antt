@@ -2,7 +2,6 @@ pub mod Agrees
 pub mod Fits
 pub mod Mirrored
 pub mod Rotations
-pub mod Stands
 pub mod Steps
 pub mod WholeWords
 -- what public clauses cite of the crates below

@@ -9,8 +9,7 @@ ghost use Rattle.bit_slice_chunks.specs.Combined.{combined_bit, Combines};
 ghost use Rattle.bit_slice_paths.specs.Agrees.{Agrees, Matches};
 
 use crate::combining::Combining;
-use crate::two_memories::{self, fit_of, match_behind};
-use crate::walk::Reached;
+use crate::two_memories::{self, Reached, fit_of, match_behind};
 use bit_addressing_memory::mem::bits_of;
 use bit_addressing_memory::{BitOrder, BitRegister, Direction, FROM_BORDER, NEAR_BITS};
 use bit_slice_chunks::any_order::{
@@ -176,10 +175,10 @@ fn difference_of_block<R: BitRegister, O: BitOrder<R>, Q: BitRegister, P: BitOrd
     first_difference(direction, chunk, other)
 }
 
-// The first of up to 64 bits that differs: `count` if none does.
+/// The first of up to 64 bits that differs: `count` if none does.
 #[inline(always)]
 #[tactic(auto, using(crate::proofs::AcrossLemmas::agrees_chunk))]
-pub(crate) fn difference_of_part<R: BitRegister, O: BitOrder<R>, Q: BitRegister, P: BitOrder<Q>>(
+pub fn difference_of_part<R: BitRegister, O: BitOrder<R>, Q: BitRegister, P: BitOrder<Q>>(
     words: &[R],
     place: usize,
     others: &[Q],

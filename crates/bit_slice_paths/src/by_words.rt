@@ -52,8 +52,8 @@ fn move_rest<R: BitRegister, O: BitOrder<R>>(
     ensures { Copies (read_by R.BitRegister O.position) words.old words.new
         (read_by R.BitRegister O.position) words.old source target count }
 {
-    let chunk = read_bits::<R, O>(straight, words, source, count);
-    write_bits::<R, O>(straight, words, target, count, chunk);
+    let chunk = read_bits::<R, O>(straight.direction, words, source, count);
+    write_bits::<R, O>(straight.direction, words, target, count, chunk);
 }
 
 // Copies 64 bits to another place of the same memory.
@@ -70,71 +70,12 @@ fn move_chunk<R: BitRegister, O: BitOrder<R>>(
     ensures { Copies (read_by R.BitRegister O.position) words.old words.new
         (read_by R.BitRegister O.position) words.old source target 64 }
 {
-    let chunk = read_chunk::<R, O>(straight, words, source);
-    write_chunk::<R, O>(straight, words, target, chunk);
-}
-
-// Copies bits towards lower places, the lowest first.
-#[inline(always)]
-fn copy_up<R: BitRegister, O: BitOrder<R>>(
-    straight: Straight<R, O>,
-    words: &mut [R],
-    source: usize,
-    target: usize,
-    len: usize,
-    counted: Steps,
-) -> Steps
-    requires order { target ≤ source }
-    requires source_lies { Lies R.BITS words.old source len }
-    requires target_lies { Lies R.BITS words.old target len }
-    ensures copied { Copies (read_by R.BitRegister O.position) words.old words.new
-        (read_by R.BitRegister O.position) words.old source target len }
-    ensures steps { Takes counted result (groups len 64) (groups len 64) }
-{
-    let mut steps = counted;
-    let whole = len / 64;
-    let rest = len % 64;
-    for k in 0..whole {
-        let done = 64 * k;
-        move_chunk::<R, O>(straight, words, source + done, target + done);
-        steps.step();
-    }
-    if rest > 0 {
-        let done = 64 * whole;
-        move_rest::<R, O>(straight, words, source + done, target + done, rest);
-        steps.step();
-    }
-    steps
-}
-
-// Copies bits towards higher places, the highest first.
-#[inline(always)]
-fn copy_down<R: BitRegister, O: BitOrder<R>>(
-    straight: Straight<R, O>,
-    words: &mut [R],
-    source: usize,
-    target: usize,
-    len: usize,
-    counted: Steps,
-) -> Steps
-    requires order { source ≤ target }
-    requires source_lies { Lies R.BITS words.old source len }
-    requires target_lies { Lies R.BITS words.old target len }
-    ensures copied { Copies (read_by R.BitRegister O.position) words.old words.new
-        (read_by R.BitRegister O.position) words.old source target len }
-    ensures steps { Takes counted result (groups len 64) (groups len 64) }
-{
-    let whole = len / 64;
-    let mut steps = copy_last::<R, O>(straight, words, source, target, len, counted);
-    for k in (0..whole).rev() {
-        let before = 64 * k;
-        move_chunk::<R, O>(straight, words, source + before, target + before);
-        steps.step();
-    }
-    steps
+    let chunk = read_chunk::<R, O>(straight.direction, words, source);
+    write_chunk::<R, O>(straight.direction, words, target, chunk);
 }
 
 // Copies the bits behind the whole chunks.
+#[inline(always)]
 fn copy_last<R: BitRegister, O: BitOrder<R>>(
     straight: Straight<R, O>,
     words: &mut [R],
@@ -161,7 +102,8 @@ fn copy_last<R: BitRegister, O: BitOrder<R>>(
     steps
 }
 
-/// Copies bits to another place of the same memory, a step for each 64. The two stretches may overlap.
+/// Copies bits to another place of the same memory, a step for each 64. The two stretches may overlap: towards lower places
+/// the lowest bits are copied first, and towards higher ones the highest.
 #[inline(always)]
 pub fn copy_over<R: BitRegister, O: BitOrder<R>>(
     straight: Straight<R, O>,
@@ -177,11 +119,23 @@ pub fn copy_over<R: BitRegister, O: BitOrder<R>>(
         (read_by R.BitRegister O.position) words.old source target len }
     ensures steps { Takes steps.old steps.new (groups len 64) (groups len 64) }
 {
-    let counted = mem::replace(steps, Steps::new());
+    let mut counted = mem::replace(steps, Steps::new());
+    let whole = len / 64;
     if target <= source {
-        *steps = copy_up::<R, O>(straight, words, source, target, len, counted);
+        'up: for k in 0..whole {
+            let done = 64 * k;
+            move_chunk::<R, O>(straight, words, source + done, target + done);
+            counted.step();
+        }
+        *steps = copy_last::<R, O>(straight, words, source, target, len, counted);
     } else {
-        *steps = copy_down::<R, O>(straight, words, source, target, len, counted);
+        counted = copy_last::<R, O>(straight, words, source, target, len, counted);
+        'down: for k in (0..whole).rev() {
+            let before = 64 * k;
+            move_chunk::<R, O>(straight, words, source + before, target + before);
+            counted.step();
+        }
+        *steps = counted;
     }
 }
 
@@ -205,10 +159,10 @@ fn swap_rest<R: BitRegister, O: BitOrder<R>>(
     ensures to_others { Copies (read_by R.BitRegister O.position) others.old others.new
         (read_by R.BitRegister O.position) words.old place other_place count }
 {
-    let chunk = read_bits::<R, O>(straight, words, place, count);
-    let other = read_bits::<R, O>(straight, others, other_place, count);
-    write_bits::<R, O>(straight, words, place, count, other);
-    write_bits::<R, O>(straight, others, other_place, count, chunk);
+    let chunk = read_bits::<R, O>(straight.direction, words, place, count);
+    let other = read_bits::<R, O>(straight.direction, others, other_place, count);
+    write_bits::<R, O>(straight.direction, words, place, count, other);
+    write_bits::<R, O>(straight.direction, others, other_place, count, chunk);
 }
 
 // Exchanges 64 bits.
@@ -228,10 +182,10 @@ fn swap_chunk<R: BitRegister, O: BitOrder<R>>(
     ensures to_others { Copies (read_by R.BitRegister O.position) others.old others.new
         (read_by R.BitRegister O.position) words.old place other_place 64 }
 {
-    let chunk = read_chunk::<R, O>(straight, words, place);
-    let other = read_chunk::<R, O>(straight, others, other_place);
-    write_chunk::<R, O>(straight, words, place, other);
-    write_chunk::<R, O>(straight, others, other_place, chunk);
+    let chunk = read_chunk::<R, O>(straight.direction, words, place);
+    let other = read_chunk::<R, O>(straight.direction, others, other_place);
+    write_chunk::<R, O>(straight.direction, words, place, other);
+    write_chunk::<R, O>(straight.direction, others, other_place, chunk);
 }
 
 /// Exchanges the bits of two stretches, a step for each 64.
@@ -253,50 +207,21 @@ pub fn swap<R: BitRegister, O: BitOrder<R>>(
         (read_by R.BitRegister O.position) words.old place other_place len }
     ensures steps { Takes steps.old steps.new (groups len 64) (groups len 64) }
 {
-    let counted = mem::replace(steps, Steps::new());
-    *steps = swap_counted::<R, O>(straight, words, place, others, other_place, len, counted);
-}
-
-// `swap`, with a count that is handed in and back.
-#[inline(always)]
-fn swap_counted<R: BitRegister, O: BitOrder<R>>(
-    straight: Straight<R, O>,
-    words: &mut [R],
-    place: usize,
-    others: &mut [R],
-    other_place: usize,
-    len: usize,
-    counted: Steps,
-) -> Steps
-    requires lies { Lies R.BITS words.old place len }
-    requires other_lies { Lies R.BITS others.old other_place len }
-    ensures to_words { Copies (read_by R.BitRegister O.position) words.old words.new
-        (read_by R.BitRegister O.position) others.old other_place place len }
-    ensures to_others { Copies (read_by R.BitRegister O.position) others.old others.new
-        (read_by R.BitRegister O.position) words.old place other_place len }
-    ensures steps { Takes counted result (groups len 64) (groups len 64) }
-{
-    let mut steps = counted;
+    let mut counted = mem::replace(steps, Steps::new());
     let whole = len / 64;
     let rest = len % 64;
     for k in 0..whole {
         let done = 64 * k;
         swap_chunk::<R, O>(straight, words, place + done, others, other_place + done);
-        steps.step();
+        counted.step();
     }
     if rest > 0 {
         let done = 64 * whole;
-        swap_rest::<R, O>(
-            straight,
-            words,
-            place + done,
-            others,
-            other_place + done,
-            rest,
-        );
-        steps.step();
+        let (at, other_at) = (place + done, other_place + done);
+        swap_rest::<R, O>(straight, words, at, others, other_at, rest);
+        counted.step();
     }
-    steps
+    *steps = counted;
 }
 
 /// Whether two stretches have the same bits, a step for each 64 up to the first that differ.

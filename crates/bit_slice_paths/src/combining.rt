@@ -1,6 +1,7 @@
 //! What two bits make, as a type: a walk has it as a constant, and asks nothing of each chunk.
 
 ghost use Rattle.bit_slice_chunks.specs.declared.combination.Combination.{Combination};
+ghost use Rattle.bit_slice_chunks.specs.declared.combination.Combination.TheVariants.{And, Or, Take, Xor};
 
 use bit_slice_chunks::Combination;
 
@@ -16,8 +17,6 @@ pub trait Combining {
 pub struct CopyOp;
 
 impl Combining for CopyOp {
-    ghost use Rattle.bit_slice_chunks.specs.declared.combination.Combination.TheVariants.{Take};
-
     ghost HOW = { Take };
 
     const HOW: Combination = Combination::Take;
@@ -27,8 +26,6 @@ impl Combining for CopyOp {
 pub struct AndOp;
 
 impl Combining for AndOp {
-    ghost use Rattle.bit_slice_chunks.specs.declared.combination.Combination.TheVariants.{And};
-
     ghost HOW = { And };
 
     const HOW: Combination = Combination::And;
@@ -38,8 +35,6 @@ impl Combining for AndOp {
 pub struct OrOp;
 
 impl Combining for OrOp {
-    ghost use Rattle.bit_slice_chunks.specs.declared.combination.Combination.TheVariants.{Or};
-
     ghost HOW = { Or };
 
     const HOW: Combination = Combination::Or;
@@ -49,8 +44,6 @@ impl Combining for OrOp {
 pub struct XorOp;
 
 impl Combining for XorOp {
-    ghost use Rattle.bit_slice_chunks.specs.declared.combination.Combination.TheVariants.{Xor};
-
     ghost HOW = { Xor };
 
     const HOW: Combination = Combination::Xor;

@@ -4,7 +4,9 @@ ghost use Rattle.std.specs.Prelude.{◌+◌, ◌<◌, ◌≤◌};
 ghost use Rattle.bit_addressing_memory.specs.Prelude.{Lies, read_by, Swaps};
 
 use bit_addressing_memory::{BitOrder, BitRegister, Direction};
-use bit_slice_chunks::any_order::{read_chunk, read_touched, write_bits, write_chunk};
+use bit_slice_chunks::any_order::{
+    direction_for, read_chunk, read_touched, write_bits, write_chunk,
+};
 
 // Exchanges 64 bits with 64 behind them.
 #[inline(always)]
@@ -47,10 +49,9 @@ fn exchange_rests<R: BitRegister, O: BitOrder<R>>(
     write_bits::<R, O>(direction, words, second, count, front);
 }
 
-/// Exchanges `len` bits of a memory with as many behind them.
-#[inline(always)]
+/// Exchanges `len` bits of a memory with as many behind them. Out of line, so that a caller that exchanges few is short.
+#[inline(never)]
 pub fn exchange<R: BitRegister, O: BitOrder<R>>(
-    direction: Direction,
     words: &mut [R],
     first: usize,
     second: usize,
@@ -60,6 +61,7 @@ pub fn exchange<R: BitRegister, O: BitOrder<R>>(
     requires lies { Lies R.BITS words.old second len }
     ensures { Swaps (read_by R.BitRegister O.position) words.old words.new first second len }
 {
+    let direction = direction_for::<R, O>();
     let whole = len / 64;
     let rest = len % 64;
     for k in 0..whole {

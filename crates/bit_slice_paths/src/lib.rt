@@ -13,12 +13,10 @@ pub mod rotation;
 pub mod seek;
 mod steps;
 pub mod two_memories;
-mod walk;
 pub mod word_source;
 
-pub use bit_slice_chunks::any_order::direction_for;
 pub use bit_slice_chunks::{
     Combination, first_difference, raised, read_bits, read_nth_chunk, read_part,
 };
 pub use steps::Steps;
-pub use walk::Reached;
+pub use two_memories::Reached;

@@ -132,8 +132,7 @@ pub fn match_joined<R: BitRegister, O: BitOrder<R>, Q: BitRegister, P: BitOrder<
         words: others,
         first: other,
         by,
-        register: PhantomData,
-        order: PhantomData,
+        types: PhantomData,
     };
     match_words::<R, O, Joined<'_, R, O, Q, P>>(words, first, &source, n)
 }

@@ -31,7 +31,7 @@ pub fn merged<H: Combining, R: BitRegister>(mine: R, its: R) -> R
 
 /// Combines bits of one word with those at the same indices of a word of another memory that is alike.
 #[inline(always)]
-#[tactic(auto, using(bit_slice_chunks::proofs::TransferLemmas::first_in))]
+#[tactic(auto, using(bit_addressing_memory::proofs::TransferLemmas::first_in))]
 pub fn merge_part<H: Combining, R: BitRegister, O: BitOrder<R>, Q: BitRegister, P: BitOrder<Q>>(
     words: &mut [R],
     place: usize,
@@ -138,8 +138,7 @@ pub fn merge_joined<H: Combining, R: BitRegister, O: BitOrder<R>, Q: BitRegister
         words: others,
         first: other,
         by,
-        register: PhantomData,
-        order: PhantomData,
+        types: PhantomData,
     };
     merge_words::<H, R, O, Joined<'_, R, O, Q, P>>(words, first, &source, n);
 }

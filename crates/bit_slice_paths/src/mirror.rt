@@ -5,7 +5,7 @@ ghost use Rattle.bit_addressing_memory.specs.Prelude.{Lies, entry, read_by, Over
 ghost use Rattle.bit_slice_paths.specs.Mirrored.{Mirrored};
 
 use bit_addressing_memory::{BitOrder, BitRegister, Direction};
-use bit_slice_chunks::any_order::{read_bits, read_chunk, write_bits, write_chunk};
+use bit_slice_chunks::any_order::{direction_for, read_bits, read_chunk, write_bits, write_chunk};
 use bit_slice_chunks::turned;
 
 // Exchanges 64 bits with 64 behind them, both in reverse.
@@ -72,18 +72,14 @@ fn turn_rest<R: BitRegister, O: BitOrder<R>>(
     write_bits::<R, O>(direction, words, place, count, round);
 }
 
-/// Turns `len` bits round: the last comes first.
-#[inline(always)]
-pub fn reverse<R: BitRegister, O: BitOrder<R>>(
-    direction: Direction,
-    words: &mut [R],
-    place: usize,
-    len: usize,
-)
+/// Turns `len` bits round: the last comes first. Out of line, so that a caller that turns few is short.
+#[inline(never)]
+pub fn reverse<R: BitRegister, O: BitOrder<R>>(words: &mut [R], place: usize, len: usize)
     requires lies { Lies R.BITS words.old place len }
     ensures { Overwrites (read_by R.BitRegister O.position) words.old words.new place len
         (λ k. entry (read_by R.BitRegister O.position) words.old (place + (len - 1 - k))) }
 {
+    let direction = direction_for::<R, O>();
     let whole = len / 128;
     for k in 0..whole {
         let done = 64 * k;

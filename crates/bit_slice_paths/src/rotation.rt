@@ -4,19 +4,16 @@
 
 ghost use Rattle.std.specs.Prelude.{◌≡◌, ◌+◌, ◌-◌, ◌<◌, ◌≤◌, true};
 ghost use Rattle.bit_addressing_memory.specs.Prelude.{Lies, entry, read_by, Copies, Overwrites};
-ghost use Rattle.bit_slice_paths.specs.Rotations.{rotated_from};
+ghost use Rattle.bit_slice_paths.specs.Rotations.{rotated_from, to_start};
 
-use crate::by_words::copy_over;
 use crate::exchange::exchange;
-use crate::steps::Steps;
 use bit_addressing_memory::{
-    BitOrder, BitRegister, Direction, NARROW_WORD, ROTATED_BY_MOVES, Straight, Sweep, move_in,
-    way_for,
+    BitOrder, BitRegister, Direction, ROTATED_BY_MOVES, Sweep, move_in, way_for,
 };
-use bit_slice_chunks::any_order::{read_bits, write_bits};
+use bit_slice_chunks::any_order::{direction_for, read_bits, write_bits};
 
-// Moves bits to another place of the same memory. The two stretches may overlap.
-#[inline(always)]
+// Moves bits to another place of the same memory. The two stretches may overlap. Out of line, so that a rotation is short.
+#[inline(never)]
 fn move_bits<R: BitRegister, O: BitOrder<R>>(
     words: &mut [R],
     source: usize,
@@ -28,79 +25,47 @@ fn move_bits<R: BitRegister, O: BitOrder<R>>(
     ensures { Copies (read_by R.BitRegister O.position) words.old words.new
         (read_by R.BitRegister O.position) words.old source target len }
 {
-    if R::BITS < NARROW_WORD {
-        move_narrow::<R, O>(words, source, target, len);
-        return;
-    }
     let mut sweep = Sweep::new(words, way_for(source, target));
     move_in::<R, O>(&mut sweep, source, target, len);
 }
 
-// The same in narrow words: by chunks of 64 bits, where the order goes straight. One place apart few bits take less time by
-// a sweep. Out of line, so that the rotation of wide words stays short.
-#[inline(never)]
-fn move_narrow<R: BitRegister, O: BitOrder<R>>(
+// The end of a stretch at which bits leave it, to come in at the other.
+#[derive(Clone, Copy)]
+enum End {
+    First,
+    Last,
+}
+
+// Moves each of `len` bits towards an end by up to 64 places; those that leave come in at the other.
+#[inline(always)]
+fn hold<R: BitRegister, O: BitOrder<R>>(
+    end: End,
+    direction: Direction,
     words: &mut [R],
-    source: usize,
-    target: usize,
+    place: usize,
     len: usize,
+    by: usize,
 )
-    requires source_lies { Lies R.BITS words.old source len }
-    requires target_lies { Lies R.BITS words.old target len }
-    ensures { Copies (read_by R.BitRegister O.position) words.old words.new
-        (read_by R.BitRegister O.position) words.old source target len }
+    requires some { 0 < by }
+    requires few { by ≤ 64 }
+    requires most { by ≤ len }
+    requires lies { Lies R.BITS words.old place len }
+    ensures { Overwrites (read_by R.BitRegister O.position) words.old words.new place len
+        (λ k. entry (read_by R.BitRegister O.position) words.old (place + rotated_from len (to_start end len by) k)) }
 {
-    if source.abs_diff(target) > 1 {
-        if let Some(straight) = Straight::<R, O>::find() {
-            let mut steps = Steps::new();
-            copy_over::<R, O>(straight, words, source, target, len, &mut steps);
-            return;
+    let left = len - by;
+    match end {
+        End::First => {
+            let held = read_bits::<R, O>(direction, words, place, by);
+            move_bits::<R, O>(words, place + by, place, left);
+            write_bits::<R, O>(direction, words, place + left, by, held);
+        }
+        End::Last => {
+            let held = read_bits::<R, O>(direction, words, place + left, by);
+            move_bits::<R, O>(words, place, place + by, left);
+            write_bits::<R, O>(direction, words, place, by, held);
         }
     }
-    let mut sweep = Sweep::new(words, way_for(source, target));
-    move_in::<R, O>(&mut sweep, source, target, len);
-}
-
-// Moves each of `len` bits towards the first of them by up to 64 places; those that leave become the last.
-#[inline(always)]
-fn hold_first<R: BitRegister, O: BitOrder<R>>(
-    direction: Direction,
-    words: &mut [R],
-    place: usize,
-    len: usize,
-    by: usize,
-)
-    requires some { 0 < by }
-    requires few { by ≤ 64 }
-    requires most { by ≤ len }
-    requires lies { Lies R.BITS words.old place len }
-    ensures { Overwrites (read_by R.BitRegister O.position) words.old words.new place len
-        (λ k. entry (read_by R.BitRegister O.position) words.old (place + rotated_from len by k)) }
-{
-    let held = read_bits::<R, O>(direction, words, place, by);
-    move_bits::<R, O>(words, place + by, place, len - by);
-    write_bits::<R, O>(direction, words, place + (len - by), by, held);
-}
-
-// Moves each of `len` bits towards the last of them by up to 64 places; those that leave become the first.
-#[inline(always)]
-fn hold_last<R: BitRegister, O: BitOrder<R>>(
-    direction: Direction,
-    words: &mut [R],
-    place: usize,
-    len: usize,
-    by: usize,
-)
-    requires some { 0 < by }
-    requires few { by ≤ 64 }
-    requires most { by ≤ len }
-    requires lies { Lies R.BITS words.old place len }
-    ensures { Overwrites (read_by R.BitRegister O.position) words.old words.new place len
-        (λ k. entry (read_by R.BitRegister O.position) words.old (place + rotated_from len (len - by) k)) }
-{
-    let held = read_bits::<R, O>(direction, words, place + (len - by), by);
-    move_bits::<R, O>(words, place, place + by, len - by);
-    write_bits::<R, O>(direction, words, place, by, held);
 }
 
 // How many bits are held aside at most.
@@ -118,86 +83,58 @@ fn are_exchanged(left: usize, right: usize) -> bool
     few > ROTATED_BY_MOVES || few > HELD && many <= 2 * few
 }
 
-// Moves each of `len` bits towards the first of them; those that leave become the last.
+// Moves each of `len` bits towards an end; those that leave come in at the other.
 #[inline(always)]
 #[tactic(auto, using(crate::proofs::RotationLemmas::rotated_none))]
-fn move_down<R: BitRegister, O: BitOrder<R>>(
+fn move_towards<R: BitRegister, O: BitOrder<R>>(
+    end: End,
     direction: Direction,
     words: &mut [R],
     place: usize,
     len: usize,
     by: usize,
 )
+    requires lies { Lies R.BITS words.old place len }
+    requires most { by ≤ len }
+    ensures { Overwrites (read_by R.BitRegister O.position) words.old words.new place len
+        (λ k. entry (read_by R.BitRegister O.position) words.old (place + rotated_from len (to_start end len by) k)) }
+{
+    let moves = by / HELD;
+    let rest = by % HELD;
+    for k in 0..moves {
+        hold::<R, O>(end, direction, words, place, len, HELD);
+    }
+    if rest > 0 {
+        hold::<R, O>(end, direction, words, place, len, rest);
+    }
+}
+
+/// Moves each of `len` bits of a memory `by` places towards the first of them; the first `by` become the last. Out of line,
+/// so that a caller that rotates few is short.
+#[inline(never)]
+pub fn rotate<R: BitRegister, O: BitOrder<R>>(words: &mut [R], place: usize, len: usize, by: usize)
     requires lies { Lies R.BITS words.old place len }
     requires most { by ≤ len }
     ensures { Overwrites (read_by R.BitRegister O.position) words.old words.new place len
         (λ k. entry (read_by R.BitRegister O.position) words.old (place + rotated_from len by k)) }
 {
-    let moves = by / HELD;
-    let rest = by % HELD;
-    for k in 0..moves {
-        hold_first::<R, O>(direction, words, place, len, HELD);
-    }
-    if rest > 0 {
-        hold_first::<R, O>(direction, words, place, len, rest);
-    }
-}
-
-// Moves each of `len` bits towards the last of them; those that leave become the first.
-#[inline(always)]
-#[tactic(auto, using(crate::proofs::RotationLemmas::rotated_none))]
-fn move_up<R: BitRegister, O: BitOrder<R>>(
-    direction: Direction,
-    words: &mut [R],
-    place: usize,
-    len: usize,
-    by: usize,
-)
-    requires lies { Lies R.BITS words.old place len }
-    requires most { by ≤ len }
-    ensures { Overwrites (read_by R.BitRegister O.position) words.old words.new place len
-        (λ k. entry (read_by R.BitRegister O.position) words.old (place + rotated_from len (len - by) k)) }
-{
-    let moves = by / HELD;
-    let rest = by % HELD;
-    for k in 0..moves {
-        hold_last::<R, O>(direction, words, place, len, HELD);
-    }
-    if rest > 0 {
-        hold_last::<R, O>(direction, words, place, len, rest);
-    }
-}
-
-/// Moves each of `len` bits of a memory `by` places towards the first of them; the first `by` become the last.
-#[inline(always)]
-pub fn rotate<R: BitRegister, O: BitOrder<R>>(
-    direction: Direction,
-    words: &mut [R],
-    place: usize,
-    len: usize,
-    by: usize,
-)
-    requires lies { Lies R.BITS words.old place len }
-    requires most { by ≤ len }
-    ensures { Overwrites (read_by R.BitRegister O.position) words.old words.new place len
-        (λ k. entry (read_by R.BitRegister O.position) words.old (place + rotated_from len by k)) }
-{
+    let direction = direction_for::<R, O>();
     let mut first = place;
     let mut left = by;
     let mut right = len - by;
     while are_exchanged(left, right) {
         if left <= right {
             right -= left;
-            exchange::<R, O>(direction, words, first, first + left + right, left);
+            exchange::<R, O>(words, first, first + left + right, left);
         } else {
-            exchange::<R, O>(direction, words, first, first + left, right);
+            exchange::<R, O>(words, first, first + left, right);
             first += right;
             left -= right;
         }
     }
     if left <= right {
-        move_down::<R, O>(direction, words, first, left + right, left);
+        move_towards::<R, O>(End::First, direction, words, first, left + right, left);
     } else {
-        move_up::<R, O>(direction, words, first, left + right, right);
+        move_towards::<R, O>(End::Last, direction, words, first, left + right, right);
     }
 }

@@ -4,11 +4,11 @@
 ghost use Rattle.std.specs.Prelude.{◌≡◌, ℕ, ◌+◌, ◌*◌, ◌^◌, ◌<◌, ◌≤◌, length, min, true, false};
 ghost use Rattle.bit_addressing_memory.specs.Prelude.{Lies, entry, read_by};
 ghost use Rattle.bit_slice_chunks.specs.Chunk.{chunk_bit, IsChunk};
-ghost use Rattle.bit_slice_paths.specs.Stands.{Stands, StandsFirst};
+ghost use Rattle.bit_slice_paths.specs.Agrees.{AreSame, StandsFirst};
 
 use crate::across::difference;
 use bit_addressing_memory::{BitOrder, BitRegister, Direction};
-use bit_slice_chunks::any_order::read_bits;
+use bit_slice_chunks::any_order::{direction_for, read_bits};
 use bit_slice_chunks::{first_bits, lowered};
 
 // Whether so many bits of two memories are the same.
@@ -23,9 +23,9 @@ fn same<R: BitRegister, O: BitOrder<R>, Q: BitRegister, P: BitOrder<Q>>(
 ) -> bool
     requires lies { Lies R.BITS words.now place len }
     requires other_lies { Lies Q.BITS others.now other_place len }
-    ensures yes { result ≡ true → Stands (read_by R.BitRegister O.position) words.now place
+    ensures yes { result ≡ true → AreSame (read_by R.BitRegister O.position) words.now place
         (read_by Q.BitRegister P.position) others.now other_place len }
-    ensures no { result ≡ false → Stands (read_by R.BitRegister O.position) words.now place
+    ensures no { result ≡ false → AreSame (read_by R.BitRegister O.position) words.now place
         (read_by Q.BitRegister P.position) others.now other_place len → ⊥ }
 {
     difference::<R, O, Q, P>(words, place, others, other_place, len) == len
@@ -53,9 +53,9 @@ fn shows<R: BitRegister, O: BitOrder<R>, Q: BitRegister, P: BitOrder<Q>>(
     requires chunk { (k : ℕ) → k < from + min len 32
         → chunk_bit direction chunk k ≡ entry (read_by R.BitRegister O.position) words.now (place + k) }
     requires sought { IsChunk (read_by Q.BitRegister P.position) others.now other_place (min len 32) direction sought }
-    ensures yes { result ≡ true → Stands (read_by R.BitRegister O.position) words.now (place + from)
+    ensures yes { result ≡ true → AreSame (read_by R.BitRegister O.position) words.now (place + from)
         (read_by Q.BitRegister P.position) others.now other_place len }
-    ensures no { result ≡ false → Stands (read_by R.BitRegister O.position) words.now (place + from)
+    ensures no { result ≡ false → AreSame (read_by R.BitRegister O.position) words.now (place + from)
         (read_by Q.BitRegister P.position) others.now other_place len → ⊥ }
 {
     let shown = lowered(direction, chunk, from as u8);
@@ -116,7 +116,6 @@ fn start_near<R: BitRegister, O: BitOrder<R>, Q: BitRegister, P: BitOrder<Q>>(
 #[inline(always)]
 #[tactic(auto, using(crate::proofs::SeekLemmas::seeks_none))]
 pub fn start<R: BitRegister, O: BitOrder<R>, Q: BitRegister, P: BitOrder<Q>>(
-    direction: Direction,
     words: &[R],
     place: usize,
     others: &[Q],
@@ -132,6 +131,7 @@ pub fn start<R: BitRegister, O: BitOrder<R>, Q: BitRegister, P: BitOrder<Q>>(
     ensures { StandsFirst (read_by R.BitRegister O.position) words.now place
         (read_by Q.BitRegister P.position) others.now other_place len starts result }
 {
+    let direction = direction_for::<R, O>();
     let sought = read_bits::<Q, P>(direction, others, other_place, len.min(32));
     for k in 0..(starts - 1) / 33 + 1 {
         let done = 33 * k;

@@ -4,20 +4,30 @@
 ghost use Rattle.std.specs.Prelude.{◌≡◌, ℕ, ◌+◌, ◌*◌, ◌/◌, ◌%◌, ◌<◌, ◌≤◌, ◌↔◌, IfSome, IsTrue, length};
 ghost use Rattle.bit_addressing_memory.specs.Prelude.{Lies, entry, read_by};
 ghost use Rattle.bit_slice_chunks.specs.Combined.{combined_bit, Combines};
-ghost use Rattle.bit_slice_paths.specs.Fits.{AreSame, IsFit};
+ghost use Rattle.bit_slice_paths.specs.Agrees.{AreSame};
+ghost use Rattle.bit_slice_paths.specs.Fits.{IsFit};
 ghost use Rattle.bit_slice_paths.specs.declared.two_memories.Fit.TheVariants.{Level};
 
 use crate::across::combine_part;
 use crate::combining::Combining;
 use crate::match_words::{match_joined, match_words, round_words};
 use crate::merge::{merge_joined, merge_part, merge_words};
-use crate::walk::{Reached, Stretch, walk};
 use crate::word_source::{Aligned, are_alike};
 use bit_addressing_memory::mem::bits_of;
 use bit_addressing_memory::{
-    BitOrder, BitRegister, FROM_BORDER, JOINED_WORDS, Straight, WHOLE_WORDS, direction_of,
+    BitOrder, BitRegister, FROM_BORDER, JOINED_WORDS, Straight, WHOLE_WORDS, bits_to_next_word,
+    direction_of,
 };
 use std::marker::PhantomData;
+
+/// How far a comparison came.
+#[derive(Clone, Copy, Drop)]
+pub struct Reached {
+    /// How many bits are done.
+    pub done: usize,
+    /// How many bits were read, those of the part at which it stopped too.
+    pub seen: usize,
+}
 
 /// How the words of another memory are found for those of the first.
 #[derive(Clone, Copy)]
@@ -87,86 +97,43 @@ fn merge_middle<H: Combining, R: BitRegister, O: BitOrder<R>, Q: BitRegister, P:
     let source = Aligned::<R, O, Q, P> {
         words: others,
         first: other,
-        register: PhantomData,
-        order: PhantomData,
-        its_order: PhantomData,
+        types: PhantomData,
     };
     merge_words::<H, R, O, Aligned<'_, R, O, Q, P>>(words, first, &source, n);
 }
 
-#[derive(Drop)]
-struct Merging<'a, 'b, H, R: BitRegister, O: BitOrder<R>, Q: BitRegister, P: BitOrder<Q>> {
+// Up to 64 bits combined, those before whole words or behind them: in one word by a mask, where they lie level in it.
+#[inline(always)]
+fn merge_edge<H: Combining, R: BitRegister, O: BitOrder<R>, Q: BitRegister, P: BitOrder<Q>>(
     fit: Fit<Straight<Q, P>>,
-    words: &'a mut [R],
+    words: &mut [R],
     place: usize,
-    others: &'b [Q],
+    others: &[Q],
     other_place: usize,
-    len: usize,
-    how: PhantomData<H>,
-    order: PhantomData<O>,
-    its_order: PhantomData<P>,
-    ghost fits: { IsFit R.BITS O.position Q.BITS P.position place other_place fit },
-    ghost lies: { Lies R.BITS words.now place len },
-    ghost other_lies: { Lies Q.BITS others.now other_place len },
+    count: usize,
+)
+    requires fit { IsFit R.BITS O.position Q.BITS P.position place other_place fit }
+    requires few { count ≤ 64 }
+    requires lies { Lies R.BITS words.old place count }
+    requires other_lies { Lies Q.BITS others.now other_place count }
+    ensures { Combines (read_by R.BitRegister O.position) words.old words.new place count
+        (combined_bit H.HOW) (read_by Q.BitRegister P.position) others.now other_place }
+{
+    let bits = bits_of::<R>();
+    // The mask of a part is made index by index where the positions don't go straight.
+    if let Fit::Level = fit
+        && direction_of::<R, O>().is_some()
+        && count > 0
+        && place % bits + count <= bits
+    {
+        merge_part::<H, R, O, Q, P>(words, place, others, other_place, count);
+    } else {
+        combine_part::<H, R, O, Q, P>(words, place, others, other_place, count);
+    }
 }
 
-impl<'a, 'b, H: Combining, R: BitRegister, O: BitOrder<R>, Q: BitRegister, P: BitOrder<Q>> Stretch<
-    R,
-    O,
-> for Merging<'a, 'b, H, R, O, Q, P> {
-    ghost use Rattle.bit_slice_paths.specs.Fits.{Merged, merged_none};
-
-    ghost at = { λ s. s.place };
-
-    ghost len = { λ s. s.len };
-
-    ghost Done = { λ s t n. Merged (read_by R.BitRegister O.position) (combined_bit H.HOW) s.words.now t.words.now
-        s.place t.place (read_by Q.BitRegister P.position) s.others.now t.others.now s.other_place t.other_place
-        s.words.ghost_name t.words.ghost_name n };
-
-    ghost IsStopped = { λ s. ⊥ };
-
-    #[inline(always)]
-    fn place(&self) -> usize {
-        self.place
-    }
-
-    #[inline(always)]
-    fn part(&mut self, done: usize, count: usize) -> bool {
-        let (at, other_at) = (self.place + done, self.other_place + done);
-        let bits = bits_of::<R>();
-        // The mask of a part is made index by index where the positions don't go straight.
-        if let Fit::Level = self.fit
-            && direction_of::<R, O>().is_some()
-            && count > 0
-            && at % bits + count <= bits
-        {
-            merge_part::<H, R, O, Q, P>(self.words, at, self.others, other_at, count);
-        } else {
-            combine_part::<H, R, O, Q, P>(self.words, at, self.others, other_at, count);
-        }
-        true
-    }
-
-    #[inline(always)]
-    fn words(&mut self, done: usize, n: usize) -> usize {
-        merge_middle::<H, R, O, Q, P>(
-            self.fit,
-            self.words,
-            self.place + done,
-            self.others,
-            self.other_place + done,
-            n,
-        );
-        n
-    }
-
-    ghost fits = { λ s. s.lies.ends };
-
-    ghost none = { λ s. merged_none _ _ s.words.now s.place _ s.others.now s.other_place s.words.ghost_name };
-}
-
-/// Combines each of `len` bits, 64 or more, with one of another memory, and returns how many.
+/// Combines each of `len` bits, 64 or more, with one of another memory, and returns how many: those before the next word,
+/// whole words, and the rest.
 #[inline(never)]
 pub fn combine<H: Combining, R: BitRegister, O: BitOrder<R>, Q: BitRegister, P: BitOrder<Q>>(
     fit: Fit<Straight<Q, P>>,
@@ -184,18 +151,17 @@ pub fn combine<H: Combining, R: BitRegister, O: BitOrder<R>, Q: BitRegister, P: 
         (combined_bit H.HOW) (read_by Q.BitRegister P.position) others.now other_place }
     ensures all { result ≡ len }
 {
-    let mut stretch = Merging::<H, R, O, Q, P> {
-        fit,
-        words,
-        place,
-        others,
-        other_place,
-        len,
-        how: PhantomData,
-        order: PhantomData,
-        its_order: PhantomData,
-    };
-    walk::<R, O, Merging<'_, '_, H, R, O, Q, P>>(&mut stretch, len).done
+    let bits = bits_of::<R>();
+    let head = bits_to_next_word::<R>(place);
+    merge_edge::<H, R, O, Q, P>(fit, words, place, others, other_place, head);
+    let n = (len - head) / bits;
+    let (at, other_at) = (place + head, other_place + head);
+    merge_middle::<H, R, O, Q, P>(fit, words, at, others, other_at, n);
+    let done = head + n * bits;
+    let rest = len - done;
+    let (at, other_at) = (place + done, other_place + done);
+    merge_edge::<H, R, O, Q, P>(fit, words, at, others, other_at, rest);
+    done + rest
 }
 
 // Up to which whole words two memories are the same, from a place on at which a word begins: `n`, or the first word of a
@@ -234,9 +200,7 @@ fn match_middle<R: BitRegister, O: BitOrder<R>, Q: BitRegister, P: BitOrder<Q>>(
     let source = Aligned::<R, O, Q, P> {
         words: others,
         first: other,
-        register: PhantomData,
-        order: PhantomData,
-        its_order: PhantomData,
+        types: PhantomData,
     };
     match_words::<R, O, Aligned<'_, R, O, Q, P>>(words, first, &source, n)
 }

@@ -52,9 +52,7 @@ pub fn converted<R: BitRegister, Q: BitRegister>(word: Q) -> R
 pub struct Aligned<'a, R: BitRegister, O: BitOrder<R>, Q: BitRegister, P: BitOrder<Q>> {
     pub words: &'a [Q],
     pub first: usize,
-    pub register: PhantomData<R>,
-    pub order: PhantomData<O>,
-    pub its_order: PhantomData<P>,
+    pub types: PhantomData<(R, O, P)>,
     ghost alike: { IsAlike R.BITS O.position Q.BITS P.position },
 }
 
@@ -77,8 +75,7 @@ pub struct Joined<'a, R: BitRegister, O: BitOrder<R>, Q: BitRegister, P: BitOrde
     pub words: &'a [Q],
     pub first: usize,
     pub by: u8,
-    pub register: PhantomData<R>,
-    pub order: PhantomData<O>,
+    pub types: PhantomData<(R, O)>,
     ghost alike: { IsAlike R.BITS O.position Q.BITS P.position },
     ghost some: { 0 < by },
     ghost index: { by < Q.BITS },

@@ -1,9 +1,8 @@
 //! Up to 64 bits of words as a number, read and put in four orders, beside a look at each bit.
 
-use bit_addressing_memory::{
-    BitOrder, BitRegister, HiLo, Lsb0, Msb0, bits_in, put_bits_in, read_entry,
-};
+use bit_addressing_memory::{BitOrder, BitRegister, Direction, HiLo, Lsb0, Msb0, read_entry};
 use bit_addressing_sample_orders::FifthStep;
+use bit_slice_chunks::{read_bits, write_bits};
 
 // More bits than the words here have.
 const MOST: usize = 512;
@@ -20,7 +19,7 @@ fn agree<R: BitRegister, O: BitOrder<R>>(
     if most > MOST || count == 0 || count > 64 || place > most || count > most - place {
         return false;
     }
-    let read = bits_in::<R, O>(words, place, count);
+    let read = read_bits::<R, O>(Direction::Ascending, words, place, count);
     for k in 0..64usize {
         let bit = k < count && read_entry::<R, O>(words, place + k);
         if ((read >> k) & 1 == 1) != bit {
@@ -35,7 +34,7 @@ fn agree<R: BitRegister, O: BitOrder<R>>(
             read_entry::<R, O>(words, p)
         };
     }
-    put_bits_in::<R, O>(words, place, count, number);
+    write_bits::<R, O>(Direction::Ascending, words, place, count, number);
     for p in 0..most {
         if p < words.len().saturating_mul(R::BITS as usize)
             && read_entry::<R, O>(words, p) != wanted[p]

@@ -1,7 +1,8 @@
 -- Stretches of bits changed, end to end: parts of words, whole words, and a stretch cut at its edges.
-use Rattle.bit_addressing_memory.proofs.Common.{◌≡◌, ℕ, ◌+◌, ◌-◌, ◌*◌, ◌<◌, ◌≤◌, Bool, List, length, get_or, refl, sym}
-use Rattle.bit_addressing_memory.proofs.Common.{ap, ◌∙◌, inl, inr, arith, cases_lt, Reading, entry, Overwrites}
+use Rattle.bit_addressing_memory.proofs.Common.{◌≡◌, ℕ, ◌+◌, ◌-◌, ◌*◌, ◌<◌, ◌≤◌, Bool, List, length, get_or, refl, ap}
+use Rattle.bit_addressing_memory.proofs.Common.{◌∙◌, arith, Reading, entry, Overwrites}
 use Rattle.bit_addressing_memory.proofs.EntryLemmas.{entry_read}
+use Rattle.bit_addressing_memory.proofs.OverwriteLemmas.{overwrites_join}
 use Rattle.bit_addressing_memory.proofs.PartsLemmas.{stores_as}
 use Rattle.bit_slice_words.specs.Edits.{Changes}
 
@@ -10,20 +11,13 @@ pub changes_join : {R : Type 0} (reading : Reading R) (before mid after : List R
     (on : Bool → Bool) → next ≡ place + n → all ≡ n + m
     → Changes reading before mid place n on → Changes reading mid after next m on
     → Changes reading before after place all on
-changes_join reading before mid after place n next m all on ends sum one two = record {
-  there = λ k small. elim (cases_lt k n) [
-    | inl low ↦ two.below (place + k) (omega arith) ∙ one.there k low
-    | inr high ↦
-        let at : next + (k - n) ≡ place + k = omega arith in
-        ap (entry reading after) (sym at)
-        ∙ two.there (k - n) (omega arith)
-        ∙ ap (λ p. on (entry reading mid p)) at
-        ∙ ap on (one.above (place + k) (omega arith))
-  ];
-  below = λ p low. two.below p (omega arith) ∙ one.below p low;
-  above = λ p high. two.above p (omega arith) ∙ one.above p (omega arith);
-  words = two.words ∙ one.words;
-}
+changes_join reading before mid after place n next m all on ends sum one two =
+    overwrites_join reading before mid after place n next m all (λ k. on (entry reading before (place + k)))
+    (λ k. on (entry reading mid (next + k))) ends sum
+    (λ i low.
+    let at : next + i ≡ place + (n + i) = omega arith in
+    ap (λ p. on (entry reading mid p)) at ∙ ap on (one.above (place + (n + i)) (omega arith)))
+    one two
 
 -- the same change, by other numbers
 pub changes_as : {R : Type 0} (reading : Reading R) (before after : List R) (place n at count : ℕ)

@@ -41,8 +41,8 @@ other_is false true true out other = absurd (other refl)
 
 -- ---- one chunk
 
--- bits of a chunk that are those of a number without the bit
-none_before : {R : Type 0} (reading : Reading R) (words : List R) (bit : Bool) (place n m : ℕ) (direction : Direction)
+-- bits of a chunk that are those of a number without the bit, all of them or some
+pub none_before : {R : Type 0} (reading : Reading R) (words : List R) (bit : Bool) (place n m : ℕ) (direction : Direction)
     (chunk without at : ℕ) → m ≤ n → m ≤ at → IsChunk reading words place n direction chunk
     → Lacks bit direction without → AgreeTo direction chunk without at
     → Nowhere (bit_found reading words bit) place (place + m)
@@ -53,14 +53,6 @@ none_before reading words bit place n m direction chunk without at inside early 
     ap (bit_found reading words bit) (sym there)
     ∙ ap (is_bit bit) (sym (had.inside i (omega arith)) ∙ agree.same i (omega arith))
     ∙ lacks i (omega arith)
-
--- the chunk has the bit nowhere
-pub chunk_none : {R : Type 0} (reading : Reading R) (words : List R) (bit : Bool) (place n : ℕ) (direction : Direction)
-    (chunk without at : ℕ) → n ≤ at → IsChunk reading words place n direction chunk
-    → Lacks bit direction without → AgreeTo direction chunk without at
-    → Nowhere (bit_found reading words bit) place (place + n)
-chunk_none reading words bit place n direction chunk without at late had lacks agree =
-    none_before reading words bit place n n direction chunk without at (omega arith) late had lacks agree
 
 -- the first of them is where the chunk differs
 pub chunk_first : {R : Type 0} (reading : Reading R) (words : List R) (bit : Bool) (place n : ℕ)
@@ -100,27 +92,18 @@ back_rest reading words place n by direction other chunk raised sum turned had m
       ∙ had.inside (n - 1 - i) (omega arith);
 }
 
--- the last bits of a chunk that are those of a number without the bit
-none_behind : {R : Type 0} (reading : Reading R) (words : List R) (bit : Bool) (place n m : ℕ) (direction : Direction)
-    (chunk without at : ℕ) → m ≤ n → m ≤ at → IsBack reading words place n direction chunk
-    → Lacks bit direction without → AgreeTo direction chunk without at
-    → Nowhere (bit_found reading words bit) (place + (n - m)) (place + n)
-none_behind reading words bit place n m direction chunk without at inside early had lacks agree p low high =
+-- the last bits of a chunk that are those of a number without the bit, all of them or some
+pub none_behind : {R : Type 0} (reading : Reading R) (words : List R) (bit : Bool) (place n m from : ℕ)
+    (direction : Direction) (chunk without at : ℕ) → from + m ≡ place + n → m ≤ n → m ≤ at
+    → IsBack reading words place n direction chunk → Lacks bit direction without → AgreeTo direction chunk without at
+    → Nowhere (bit_found reading words bit) from (place + n)
+none_behind reading words bit place n m from direction chunk without at start inside early had lacks agree p low high =
     let i : ℕ = place + n - 1 - p in
     let there : place + (n - 1 - i) ≡ p = omega arith in
     let most = agree.most in
     ap (bit_found reading words bit) (sym there)
     ∙ ap (is_bit bit) (sym (had.inside i (omega arith)) ∙ agree.same i (omega arith))
     ∙ lacks i (omega arith)
-
--- the chunk has the bit nowhere
-pub back_none : {R : Type 0} (reading : Reading R) (words : List R) (bit : Bool) (place n : ℕ) (direction : Direction)
-    (chunk without at : ℕ) → n ≤ at → IsBack reading words place n direction chunk
-    → Lacks bit direction without → AgreeTo direction chunk without at
-    → Nowhere (bit_found reading words bit) place (place + n)
-back_none reading words bit place n direction chunk without at late had lacks agree p low high =
-    none_behind reading words bit place n n direction chunk without at (omega arith) late had lacks agree p (omega arith)
-    high
 
 -- the last of them is where the chunk differs
 pub back_last : {R : Type 0} (reading : Reading R) (words : List R) (bit : Bool) (place n : ℕ)
@@ -133,8 +116,8 @@ back_last reading words bit place n direction chunk without at few low had lacks
   here = other_is bit (entry reading words (place + (n - 1 - at))) (chunk_bit direction without at)
       (lacks at (omega arith)) (λ same. agree.differ (omega arith) (had.inside at low ∙ same));
   after = λ q later less.
-      none_behind reading words bit place n at direction chunk without at (omega arith) (omega arith) had lacks agree q
-      (omega arith) less;
+      none_behind reading words bit place n at (place + (n - at)) direction chunk without at (omega arith) (omega arith)
+      (omega arith) had lacks agree q (omega arith) less;
 }
 
 -- ---- stretches that overlap or meet

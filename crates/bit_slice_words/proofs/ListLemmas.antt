@@ -44,6 +44,18 @@ module _ {R : Type 0} (reading : Reading R) (before after : List R) (place n : �
       let still : place + n ≤ length after * reading.bits = rw is.words fits in
       window_is reading after place n ys some still count (λ k low. is.there k low ∙ same k low)
 
+  -- with two lists, one behind the other
+  two_lists : (now : ℕ → Bool) (xs ys : List Bool) (m : ℕ) → length xs ≡ m → m + length ys ≡ n
+      → ((k : ℕ) → k < m → now k ≡ get_or xs k false)
+      → ((k : ℕ) → m ≤ k → k < n → now k ≡ get_or ys (k - m) false)
+      → Overwrites reading before after place n now → piece (memory reading after) place n ≡ xs ++ ys
+  two_lists now xs ys m size all front back is =
+      overwritten_list now (xs ++ ys) (length-append xs ys ∙ omega arith)
+      (λ k low. elim (cases_lt k m) [
+        | inl early ↦ front k early ∙ sym (get_or_append_left xs ys false k (omega arith))
+        | inr late ↦ back k late low ∙ sym (get_or-append_right xs ys m k false size late)
+      ]) is
+
   -- filled with one bit
   pub filled_list : (bit : Bool) → Overwrites reading before after place n (λ _. bit)
       → piece (memory reading after) place n ≡ replicate n bit
@@ -80,23 +92,15 @@ module _ {R : Type 0} (reading : Reading R) (before after : List R) (place n : �
       let front = take by old_list in
       let size : length behind ≡ n - by = length-drop by old_list ∙ ap (λ m. m - by) length-old in
       let rest : length front ≡ by = length-take-le by old_list (omega (arith, length-old)) in
-      overwritten_list (λ k. entry reading before (place + rotated_from n by k)) (behind ++ front)
-      (length-append behind front ∙ omega arith)
-      (λ k low. elim (cases_lt (k + by) n) [
-        | inl on ↦
-            let at : k + by ≡ by + k = omega arith in
-            ap (λ i. entry reading before (place + i)) (rotated_from_on n by k on ∙ at)
-            ∙ sym (get_or_append_left behind front false k (omega arith)
-            ∙ get_or-drop by old_list k false
-            ∙ old_bit (by + k) (omega arith))
-        | inr over ↦
-            let i : ℕ = k - (n - by) in
-            let at : k + by - n ≡ i = omega arith in
-            ap (λ j. entry reading before (place + j)) (rotated_from_over n by k over ∙ at)
-            ∙ sym (get_or-append_right behind front (n - by) k false size (omega arith)
-            ∙ get_or-take by old_list i false (omega arith)
-            ∙ old_bit i (omega arith))
-      ]) is
+      two_lists (λ k. entry reading before (place + rotated_from n by k)) behind front (n - by) size (omega arith)
+      (λ k low.
+      let at : k + by ≡ by + k = omega arith in
+      ap (λ i. entry reading before (place + i)) (rotated_from_on n by k (omega arith) ∙ at)
+      ∙ sym (get_or-drop by old_list k false ∙ old_bit (by + k) (omega arith)))
+      (λ k late low.
+      let at : k + by - n ≡ k - (n - by) = omega arith in
+      ap (λ i. entry reading before (place + i)) (rotated_from_over n by k (omega arith) ∙ at)
+      ∙ sym (get_or-take by old_list (k - (n - by)) false (omega arith) ∙ old_bit (k - (n - by)) (omega arith))) is
 
   -- rotated to the right
   pub rotated_right_list : (by : ℕ)
@@ -115,21 +119,16 @@ module _ {R : Type 0} (reading : Reading R) (before after : List R) (place n : �
       let zeros = replicate (min by n) false in
       let size : length behind ≡ n - by = length-drop by old_list ∙ ap (λ m. m - by) length-old in
       let rest : length zeros ≡ min by n = length-replicate (min by n) false in
-      overwritten_list (λ k. if nat_lt (k + by) n then entry reading before (place + (k + by)) else false)
-      (behind ++ zeros) (length-append behind zeros ∙ omega arith)
-      (λ k low. elim (cases_lt (k + by) n) [
-        | inl on ↦
-            let at : k + by ≡ by + k = omega arith in
-            then_of (k + by) n (entry reading before (place + (k + by))) false on
-            ∙ ap (λ i. entry reading before (place + i)) at
-            ∙ sym (get_or_append_left behind zeros false k (omega arith)
-            ∙ get_or-drop by old_list k false
-            ∙ old_bit (by + k) (omega arith))
-        | inr out ↦
-            else_of (k + by) n (entry reading before (place + (k + by))) false out
-            ∙ sym (get_or-append_right behind zeros (n - by) k false size (omega arith)
-            ∙ get_or-replicate (min by n) (k - (n - by)) false false (omega arith))
-      ]) is
+      two_lists (λ k. if nat_lt (k + by) n then entry reading before (place + (k + by)) else false) behind zeros (n - by)
+      size (omega arith)
+      (λ k low.
+      let at : k + by ≡ by + k = omega arith in
+      then_of (k + by) n (entry reading before (place + (k + by))) false (omega arith)
+      ∙ ap (λ i. entry reading before (place + i)) at
+      ∙ sym (get_or-drop by old_list k false ∙ old_bit (by + k) (omega arith)))
+      (λ k late low.
+      else_of (k + by) n (entry reading before (place + (k + by))) false (omega arith)
+      ∙ sym (get_or-replicate (min by n) (k - (n - by)) false false (omega arith))) is
 
   -- shifted to the right
   pub shifted_right_list : (by : ℕ) → Overwrites reading before after place n
@@ -141,22 +140,17 @@ module _ {R : Type 0} (reading : Reading R) (before after : List R) (place n : �
       let front = take (n - by) old_list in
       let size : length zeros ≡ min by n = length-replicate (min by n) false in
       let rest : length front ≡ n - by = length-take-le (n - by) old_list (omega (arith, length-old)) in
-      overwritten_list (λ k. if nat_lt k by then false else entry reading before (place + (k - by)))
-      (zeros ++ front) (length-append zeros front ∙ omega arith)
-      (λ k low. elim (cases_lt k by) [
-        | inl first ↦
-            then_of k by false (entry reading before (place + (k - by))) first
-            ∙ sym (get_or_append_left zeros front false k (omega arith)
-            ∙ get_or-replicate (min by n) k false false (omega arith))
-        | inr later ↦
-            let i : ℕ = k - min by n in
-            let at : k - by ≡ i = omega arith in
-            else_of k by false (entry reading before (place + (k - by))) later
-            ∙ ap (λ j. entry reading before (place + j)) at
-            ∙ sym (get_or-append_right zeros front (min by n) k false size (omega arith)
-            ∙ get_or-take (n - by) old_list i false (omega arith)
-            ∙ old_bit i (omega arith))
-      ]) is
+      two_lists (λ k. if nat_lt k by then false else entry reading before (place + (k - by))) zeros front (min by n) size
+      (omega arith)
+      (λ k low.
+      then_of k by false (entry reading before (place + (k - by))) (omega arith)
+      ∙ sym (get_or-replicate (min by n) k false false low))
+      (λ k late low.
+      let i : ℕ = k - min by n in
+      let at : k - by ≡ i = omega arith in
+      else_of k by false (entry reading before (place + (k - by))) (omega arith)
+      ∙ ap (λ j. entry reading before (place + j)) at
+      ∙ sym (get_or-take (n - by) old_list i false (omega arith) ∙ old_bit i (omega arith))) is
 
   -- moved here from elsewhere in the memory
   pub moved_list : (source : ℕ) → source + n ≤ length before * reading.bits → Moves reading before after source place n

@@ -1,25 +1,16 @@
--- Tests and answers: `differ_tested`, `answers_yes`, `answers_no`. Bits of two memories: `windows_equal`,
+-- Answers: `answers_yes`, `answers_no`. Bits of two memories: `windows_equal`,
 -- `windows_differ`, `windows_agree`, `windows_stand`, `windows_part`. One list in another:
 -- `holds_empty`, `holds_here`, `holds_none`, `holds_short`, `none_more`; told by the first place: `holds_behind`.
 use Rattle.std.proofs.Common.{◌≡◌, ◌≢◌, ℕ, ◌+◌, ◌-◌, ◌*◌, ◌<◌, ◌≤◌, ◌↔◌, ◌==◌, nat_lt, IsTrue}
-use Rattle.std.proofs.Common.{Bool, true, false, not, List, [], ◌∷◌, length, get_or, refl, sym, ap, ◌∙◌, inl, inr, arith}
-use Rattle.std.proofs.Math.Bool.{beq}
+use Rattle.std.proofs.Common.{Bool, true, false, List, [], ◌∷◌, length, get_or, refl, sym, ap, ◌∙◌, inl, inr, arith}
 use Rattle.std.proofs.lemmas.Bool.{cases_lt, eqb-true, eq-eqb, false≢true, lt-ltb, ltb-true}
 use Rattle.bit_addressing_memory.specs.Memory.{Reading, entry, memory, piece}
 use Rattle.bit_addressing_memory.proofs.MemoryLemmas.{piece_none, piece_piece}
 use Rattle.bit_addressing_memory.proofs.WindowLemmas.{length-window, window_bit, window_is}
-use Rattle.bit_slice_paths.specs.Agrees.{Agrees}
-use Rattle.bit_slice_paths.specs.Stands.{Stands, StandsFirst}
+use Rattle.bit_slice_paths.specs.Agrees.{Agrees, AreSame, StandsFirst}
 use Rattle.bit_slice_words.specs.Holds.{Holds}
 
--- ---- what a test of two bits tells, and what an answer does
-
--- two bits that the test tells apart
-pub differ_tested : (x y : Bool) → not (beq x y) ≡ true → x ≢ y
-differ_tested true true told same = cc
-differ_tested true false told same = cc
-differ_tested false true told same = cc
-differ_tested false false told same = cc
+-- ---- what an answer tells
 
 -- the answer that it is so
 pub answers_yes : {P : Type 0} → P → IsTrue true ↔ P
@@ -35,7 +26,7 @@ answers_no fails = (λ yes. absurd (false≢true yes), λ holds. absurd (fails h
 pub windows_equal : {R Q : Type 0} (reading : Reading R) (words : List R) (its : Reading Q) (others : List Q)
     (place other_place len : ℕ) → 0 < reading.bits → 0 < its.bits → place + len ≤ length words * reading.bits
     → other_place + len ≤ length others * its.bits
-    → ((k : ℕ) → k < len → entry reading words (place + k) ≡ entry its others (other_place + k))
+    → AreSame reading words place its others other_place len
     → piece (memory reading words) place len ≡ piece (memory its others) other_place len
 windows_equal reading words its others place other_place len some its_some fits its_fit same =
     window_is reading words place len (piece (memory its others) other_place len) some fits
@@ -77,7 +68,7 @@ windows_agree reading words its others place other_place len at some its_some fi
 pub windows_stand : {R Q : Type 0} (reading : Reading R) (words : List R) (its : Reading Q) (others : List Q)
     (place other_place n : ℕ) → 0 < reading.bits → 0 < its.bits
     → piece (memory reading words) place n ≡ piece (memory its others) other_place n
-    → Stands reading words place its others other_place n
+    → AreSame reading words place its others other_place n
 windows_stand reading words its others place other_place n some its_some same k low =
     sym (window_bit reading words place n k some low)
     ∙ ap (λ xs. get_or xs k false) same

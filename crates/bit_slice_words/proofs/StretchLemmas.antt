@@ -147,7 +147,7 @@ first_of_cut passes b place end first from last upto next stop (Some q) start is
     let below : q < end = elim (cases_lt next last) [
       | inl early ↦
           let whole : stop ≡ b = inside early in
-          let more : (next + 1) * b ≤ last * b = mul-le-mul_right b (next_le next last early) in
+          let more : (next + 1) * b ≤ last * b = mul-le-mul_right b (omega arith) in
           omega arith
       | inr past ↦
           let same : next ≡ last = omega arith in
@@ -156,9 +156,6 @@ first_of_cut passes b place end first from last upto next stop (Some q) start is
           omega arith
     ] in
     record { low = omega arith; high = below; here = found.here; before = before }
-  where
-    next_le : (n m : ℕ) → n < m → n + 1 ≤ m
-    next_le n m low = omega arith
 
 -- the last place of such a stretch: none in the last word's part, none in the words between down to `before`, which
 -- has one or is the first word
@@ -185,12 +182,12 @@ last_of_cut passes b place end first from last upto before start (Some q) begin 
     between some at_first inside found =
     let low = found.low in
     let high = found.high in
-    let rows : (before + 1) * b ≤ last * b = mul-le-mul_right b (next_le before last most) in
+    let rows : (before + 1) * b ≤ last * b = mul-le-mul_right b (omega arith) in
     let back = nowhere_join passes ((before + 1) * b) (last * b) end between
     (λ p low high. tail p (omega arith) (omega arith)) in
     let above : place ≤ q = elim (cases_lt first before) [
       | inl later ↦
-          let more : (first + 1) * b ≤ before * b = mul-le-mul_right b (next_le first before later) in
+          let more : (first + 1) * b ≤ before * b = mul-le-mul_right b (omega arith) in
           omega arith
       | inr past ↦
           let same : before ≡ first = omega arith in
@@ -207,9 +204,6 @@ last_of_cut passes b place end first from last upto before start (Some q) begin 
         | inr behind ↦ back p behind less
       ];
     }
-  where
-    next_le : (n m : ℕ) → n < m → n + 1 ≤ m
-    next_le n m low = omega arith
 
 -- ---- as an index of the list
 

@@ -1,6 +1,7 @@
 pub mod Found
 pub mod Holds
 pub mod Stretch
+pub mod Orders
 pub mod Edits
 pub mod PathLaws
 -- what public clauses cite of the crates below

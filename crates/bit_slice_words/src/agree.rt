@@ -69,8 +69,8 @@ pub(crate) fn agree_singly<R: BitRegister, O: BitOrder<R>, Q: BitRegister, P: Bi
     len
 }
 
-// The same where the first `few` are the same.
-#[inline(always)]
+// The same where the first `few` are the same. Out of line, so that bits that differ early are compared by a short function.
+#[inline(never)]
 pub(crate) fn agree_rest<R: BitRegister, O: BitOrder<R>, Q: BitRegister, P: BitOrder<Q>>(
     words: &[R],
     place: usize,

@@ -16,7 +16,7 @@ use bit_slice_paths::combining::{AndOp, Combining, CopyOp, OrOp, XorOp};
 use bit_slice_paths::{Steps, by_words};
 
 /// `WordPaths::equal`, in at most one step a bit.
-#[tactic(auto, using(crate::proofs::PathLemmas::takes_behind, crate::proofs::PathLemmas::takes_behind_some))]
+#[tactic(auto, using(crate::proofs::PathLemmas::takes_behind))]
 pub fn equal<R: BitRegister, O: BitOrder<R>>(
     words: &[R],
     place: usize,

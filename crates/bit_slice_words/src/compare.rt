@@ -6,7 +6,7 @@ ghost use Rattle.bit_slice_paths.specs.Agrees.{Agrees};
 ghost use Rattle.std.specs.Cmp.Lexicographic.{slice_cmp};
 ghost use Rattle.std.specs.Ordering.{bool_cmp};
 
-use crate::agree::{BLOCK, agree_rest, few_before_block};
+use crate::agree::{BLOCK, agree_rest, agree_singly, few_before_block};
 use bit_addressing_memory::{BitOrder, BitRegister, read_entry};
 use bit_slice_paths::across;
 use std::cmp::Ordering;
@@ -16,7 +16,6 @@ use std::cmp::Ordering;
 ///
 /// The two may have different words and orders. It answers what `partial_cmp` of two slices in bitvec 1.1.1 has in its
 /// `Some`.
-#[tactic(auto, using(crate::proofs::CompareLemmas::windows_compare_ends))]
 pub fn compare_in<R: BitRegister, O: BitOrder<R>, Q: BitRegister, P: BitOrder<Q>>(
     words: &[R],
     place: usize,
@@ -33,15 +32,9 @@ pub fn compare_in<R: BitRegister, O: BitOrder<R>, Q: BitRegister, P: BitOrder<Q>
     let shorter = len.min(other_len);
     let few = few_before_block::<R, O, Q, P>(shorter);
     // Lists that differ early are answered here.
-    for k in 0..few {
-        let bit = read_entry::<R, O>(words, place + k);
-        let other = read_entry::<Q, P>(others, other_place + k);
-        if bit != other {
-            return bit.cmp(&other);
-        }
-    }
-    if few == shorter {
-        return len.cmp(&other_len);
+    let same = agree_singly::<R, O, Q, P>(words, place, others, other_place, few);
+    if same < few || few == shorter {
+        return compare_at::<R, O, Q, P>(words, place, len, others, other_place, other_len, same);
     }
     compare_behind::<R, O, Q, P>(words, place, len, others, other_place, other_len, few)
 }
@@ -68,38 +61,29 @@ fn compare_behind<R: BitRegister, O: BitOrder<R>, Q: BitRegister, P: BitOrder<Q>
         (piece (memory (read_by Q.BitRegister P.position) others.now) other_place other_len) }
 {
     let shorter = len.min(other_len);
-    if BLOCK <= from || shorter < BLOCK {
-        return compare_rest::<R, O, Q, P>(words, place, len, others, other_place, other_len, from);
+    let mut known = from;
+    if from < BLOCK && BLOCK <= shorter {
+        let same = across::difference_of_part::<R, O, Q, P>(
+            words,
+            place,
+            others,
+            other_place,
+            BLOCK,
+        );
+        if same < BLOCK || shorter == BLOCK {
+            return compare_at::<R, O, Q, P>(
+                words,
+                place,
+                len,
+                others,
+                other_place,
+                other_len,
+                same,
+            );
+        }
+        known = BLOCK;
     }
-    let same = across::difference::<R, O, Q, P>(words, place, others, other_place, BLOCK);
-    if same == BLOCK && BLOCK < shorter {
-        return compare_rest::<R, O, Q, P>(words, place, len, others, other_place, other_len, BLOCK);
-    }
-    compare_at::<R, O, Q, P>(words, place, len, others, other_place, other_len, same)
-}
-
-// The same by blocks behind the first bits, which are the same.
-#[inline(never)]
-fn compare_rest<R: BitRegister, O: BitOrder<R>, Q: BitRegister, P: BitOrder<Q>>(
-    words: &[R],
-    place: usize,
-    len: usize,
-    others: &[Q],
-    other_place: usize,
-    other_len: usize,
-    from: usize,
-) -> Ordering
-    requires lies { Lies R.BITS words.now place len }
-    requires other_lies { Lies Q.BITS others.now other_place other_len }
-    requires least { from ≤ len }
-    requires other_least { from ≤ other_len }
-    requires same { (k : ℕ) → k < from → entry (read_by R.BitRegister O.position) words.now (place + k)
-        ≡ entry (read_by Q.BitRegister P.position) others.now (other_place + k) }
-    ensures { result ≡ slice_cmp bool_cmp (piece (memory (read_by R.BitRegister O.position) words.now) place len)
-        (piece (memory (read_by Q.BitRegister P.position) others.now) other_place other_len) }
-{
-    let shorter = len.min(other_len);
-    let same = agree_rest::<R, O, Q, P>(words, place, others, other_place, shorter, from);
+    let same = agree_rest::<R, O, Q, P>(words, place, others, other_place, shorter, known);
     compare_at::<R, O, Q, P>(words, place, len, others, other_place, other_len, same)
 }
 

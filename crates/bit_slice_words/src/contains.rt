@@ -6,7 +6,7 @@ ghost use Rattle.bit_slice_words.specs.Holds.{Holds};
 
 use crate::agree::{agree_rest, agree_singly, few_to_compare};
 use bit_addressing_memory::{BitOrder, BitRegister, BulkOp, bit_loop_limit_of_two};
-use bit_slice_paths::{direction_for, seek};
+use bit_slice_paths::seek;
 
 /// Whether the `other_len` bits of the memory `others` from a place on stand, in order and next to each other, in the
 /// `len` bits of the memory `words` from another place on. No bits stand everywhere.
@@ -117,13 +117,5 @@ fn contains_rest<R: BitRegister, O: BitOrder<R>, Q: BitRegister, P: BitOrder<Q>>
         (piece (memory (read_by Q.BitRegister P.position) others.now) other_place other_len) }
 {
     let starts = len - other_len + 1 - from;
-    seek::start::<R, O, Q, P>(
-        direction_for::<R, O>(),
-        words,
-        place + from,
-        others,
-        other_place,
-        other_len,
-        starts,
-    ) < starts
+    seek::start::<R, O, Q, P>(words, place + from, others, other_place, other_len, starts) < starts
 }

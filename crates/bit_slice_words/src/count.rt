@@ -5,8 +5,8 @@ ghost use Rattle.bit_addressing_memory.specs.Prelude.{Lies, digits, memory, piec
 
 use bit_addressing_memory::mem::bits_of;
 use bit_addressing_memory::{
-    BitEnd, BitIdx, BitOrder, BitRegister, COUNTED_BY_BLOCKS, Direction, Lsb0, Straight, between,
-    edges_of, masked,
+    BitEnd, BitIdx, BitOrder, BitRegister, COUNTED_BY_BLOCKS, Direction, Lsb0, between, edges_of,
+    masked,
 };
 use bit_slice_paths::{read_bits, read_nth_chunk};
 
@@ -77,19 +77,14 @@ fn ones_of_words<R: BitRegister, O: BitOrder<R>>(body: &[R]) -> usize
     ensures { result ≡ count_by (λ b. b) (memory (read_by R.BitRegister O.position) body.now) }
 {
     if R::BITS < 64 && body.len() >= COUNTED_BY_BLOCKS {
-        let straight = Straight::new(Direction::Ascending);
-        return ones_of_blocks::<R, Lsb0>(straight, body, body.len() * bits_of::<R>());
+        return ones_of_blocks::<R, Lsb0>(body, body.len() * bits_of::<R>());
     }
     ones_word_by_word::<R, O>(body)
 }
 
 // How many of the first `len` bits are 1, by blocks of 64.
 #[tactic(auto, using(crate::proofs::CountLemmas::trues_empty))]
-fn ones_of_blocks<R: BitRegister, O: BitOrder<R>>(
-    straight: Straight<R, O>,
-    words: &[R],
-    len: usize,
-) -> usize
+fn ones_of_blocks<R: BitRegister, O: BitOrder<R>>(words: &[R], len: usize) -> usize
     requires lies { Lies R.BITS words.now 0 len }
     ensures { result ≡ count_by (λ b. b) (piece (memory (read_by R.BitRegister O.position) words.now) 0 len) }
 {
@@ -97,11 +92,11 @@ fn ones_of_blocks<R: BitRegister, O: BitOrder<R>>(
     let rest = len % 64;
     let mut ones = 0;
     for k in 0..whole {
-        let block = read_nth_chunk::<R, O>(straight, words, 0, k);
+        let block = read_nth_chunk::<R, O>(Direction::Ascending, words, 0, k);
         ones += block.count_ones() as usize;
     }
     if rest > 0 {
-        let block = read_bits::<R, O>(straight, words, 64 * whole, rest);
+        let block = read_bits::<R, O>(Direction::Ascending, words, 64 * whole, rest);
         ones += block.count_ones() as usize;
     }
     ones

@@ -59,7 +59,14 @@ fn equal_behind<R: BitRegister, O: BitOrder<R>, Q: BitRegister, P: BitOrder<Q>>(
 {
     let mut known = few;
     if few < BLOCK && BLOCK <= len {
-        if across::difference::<R, O, Q, P>(words, place, others, other_place, BLOCK) < BLOCK {
+        let same = across::difference_of_part::<R, O, Q, P>(
+            words,
+            place,
+            others,
+            other_place,
+            BLOCK,
+        );
+        if same < BLOCK {
             return false;
         }
         known = BLOCK;
@@ -67,29 +74,8 @@ fn equal_behind<R: BitRegister, O: BitOrder<R>, Q: BitRegister, P: BitOrder<Q>>(
     if known == len {
         return true;
     }
-    equal_by_words::<R, O, Q, P>(words, place, others, other_place, len, known)
-}
-
-// The same by whole words behind the last border in the first `few` bits, as far as they go, and by blocks behind them.
-#[inline(always)]
-#[tactic(auto, using(crate::proofs::SameLemmas::answers_no))]
-fn equal_by_words<R: BitRegister, O: BitOrder<R>, Q: BitRegister, P: BitOrder<Q>>(
-    words: &[R],
-    place: usize,
-    others: &[Q],
-    other_place: usize,
-    len: usize,
-    few: usize,
-) -> bool
-    requires few { few ≤ len }
-    requires lies { Lies R.BITS words.now place len }
-    requires other_lies { Lies Q.BITS others.now other_place len }
-    requires same { (k : ℕ) → k < few → entry (read_by R.BitRegister O.position) words.now (place + k)
-        ≡ entry (read_by Q.BitRegister P.position) others.now (other_place + k) }
-    ensures { IsTrue result ↔ (piece (memory (read_by R.BitRegister O.position) words.now) place len
-        ≡ piece (memory (read_by Q.BitRegister P.position) others.now) other_place len) }
-{
-    let reached = match_behind::<R, O, Q, P>(words, place, others, other_place, len, few);
+    // By whole words behind the last border in these, as far as they go, and by blocks behind them.
+    let reached = match_behind::<R, O, Q, P>(words, place, others, other_place, len, known);
     if reached.done < reached.seen {
         return false;
     }
@@ -100,27 +86,5 @@ fn equal_by_words<R: BitRegister, O: BitOrder<R>, Q: BitRegister, P: BitOrder<Q>
         return before + across::difference::<R, O, Q, P>(words, last, others, other_last, ROUND)
             == len;
     }
-    equal_rest::<R, O, Q, P>(words, place, others, other_place, len, same)
-}
-
-// The same by blocks.
-#[inline(never)]
-#[tactic(auto, using(crate::proofs::SameLemmas::windows_agree))]
-fn equal_rest<R: BitRegister, O: BitOrder<R>, Q: BitRegister, P: BitOrder<Q>>(
-    words: &[R],
-    place: usize,
-    others: &[Q],
-    other_place: usize,
-    len: usize,
-    few: usize,
-) -> bool
-    requires few { few ≤ len }
-    requires lies { Lies R.BITS words.now place len }
-    requires other_lies { Lies Q.BITS others.now other_place len }
-    requires same { (k : ℕ) → k < few → entry (read_by R.BitRegister O.position) words.now (place + k)
-        ≡ entry (read_by Q.BitRegister P.position) others.now (other_place + k) }
-    ensures { IsTrue result ↔ (piece (memory (read_by R.BitRegister O.position) words.now) place len
-        ≡ piece (memory (read_by Q.BitRegister P.position) others.now) other_place len) }
-{
-    agree_rest::<R, O, Q, P>(words, place, others, other_place, len, few) == len
+    agree_rest::<R, O, Q, P>(words, place, others, other_place, len, same) == len
 }

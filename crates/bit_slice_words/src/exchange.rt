@@ -4,7 +4,7 @@ ghost use Rattle.std.specs.Prelude.{◌+◌, ◌≤◌};
 ghost use Rattle.bit_addressing_memory.specs.Prelude.{Lies, read_by, Swaps};
 
 use bit_addressing_memory::{BitOrder, BitRegister, BulkOp, bit_loop_limit, swap_within};
-use bit_slice_paths::{direction_for, exchange};
+use bit_slice_paths::exchange;
 
 /// Exchanges `len` bits of a memory, those from `first` on, with those from `second` on. The first stretch ends before
 /// the second begins, which lies in the memory, and its end fits a `usize`. Every other bit stays.
@@ -25,20 +25,5 @@ pub fn exchange_in<R: BitRegister, O: BitOrder<R>>(
         swap_within::<R, O>(words, first, second, len);
         return;
     }
-    exchange_by_chunks::<R, O>(words, first, second, len);
-}
-
-// The same, by chunks. Out of line, so that a few bits are exchanged by a short function.
-#[inline(never)]
-fn exchange_by_chunks<R: BitRegister, O: BitOrder<R>>(
-    words: &mut [R],
-    first: usize,
-    second: usize,
-    len: usize,
-)
-    requires apart { first + len ≤ second }
-    requires lies { Lies R.BITS words.old second len }
-    ensures swapped { Swaps (read_by R.BitRegister O.position) words.old words.new first second len }
-{
-    exchange::exchange::<R, O>(direction_for::<R, O>(), words, first, second, len);
+    exchange::exchange::<R, O>(words, first, second, len);
 }

@@ -14,7 +14,7 @@ use bit_slice_paths::{first_difference, raised, read_nth_chunk, read_part};
 
 // The place of the first bit that is `bit` in a part of a word, of up to 64 bits.
 #[inline(always)]
-#[tactic(auto, using(crate::proofs::ChunkedLemmas::chunk_first, crate::proofs::ChunkedLemmas::chunk_none))]
+#[tactic(auto, using(crate::proofs::ChunkedLemmas::chunk_first, crate::proofs::ChunkedLemmas::none_before))]
 pub(crate) fn first_in_part<R: BitRegister, O: BitOrder<R>>(
     straight: Straight<R, O>,
     words: &[R],
@@ -43,7 +43,7 @@ pub(crate) fn first_in_part<R: BitRegister, O: BitOrder<R>>(
 
 // The place of the first bit that is `bit` in the 64 bits `64 * k` behind a place.
 #[inline(always)]
-#[tactic(auto, using(crate::proofs::ChunkedLemmas::chunk_first, crate::proofs::ChunkedLemmas::chunk_none))]
+#[tactic(auto, using(crate::proofs::ChunkedLemmas::chunk_first, crate::proofs::ChunkedLemmas::none_before))]
 pub(crate) fn first_in_block<R: BitRegister, O: BitOrder<R>>(
     straight: Straight<R, O>,
     words: &[R],
@@ -55,7 +55,7 @@ pub(crate) fn first_in_block<R: BitRegister, O: BitOrder<R>>(
     ensures { IsFirst (bit_found (read_by R.BitRegister O.position) words.now bit)
         (place + 64 * k) (place + 64 * k + 64) result }
 {
-    let chunk = read_nth_chunk::<R, O>(straight, words, place, k);
+    let chunk = read_nth_chunk::<R, O>(straight.direction, words, place, k);
     let before = first_difference(straight.direction, chunk, chunk_without(bit));
     if before < 64 {
         Some(place + 64 * k + before)

@@ -177,7 +177,7 @@ impl AlwaysStraight for Lsb0 {}
 impl AlwaysStraight for Msb0 {}
 
 impl<R: BitRegister, O: AlwaysStraight + StraightOrder<R>> WordPaths<R> for O {
-    ghost use Rattle.bit_slice_words.specs.PathLaws.{span_of_64, most_of_64};
+    ghost use Rattle.bit_slice_words.specs.PathLaws.{most_of_64, span_of_one};
 
     ghost SPAN = { 64 };
 
@@ -253,7 +253,7 @@ impl<R: BitRegister, O: AlwaysStraight + StraightOrder<R>> WordPaths<R> for O {
         by_words::combine::<XorOp, R, O>(words, place, others, other_place, len, steps);
     }
 
-    ghost least_span = { span_of_64 };
+    ghost least_span = { span_of_one };
 
     ghost most_span = { most_of_64 };
 }

@@ -4,7 +4,7 @@ ghost use Rattle.std.specs.Prelude.{◌+◌, ◌-◌};
 ghost use Rattle.bit_addressing_memory.specs.Prelude.{Lies, entry, read_by, Overwrites};
 
 use bit_addressing_memory::{BitOrder, BitRegister, BulkOp, bit_loop_limit, swap_entries};
-use bit_slice_paths::{direction_for, mirror};
+use bit_slice_paths::mirror;
 
 /// Turns `len` bits of a memory round, those from `place` on: the last comes first. They lie in the memory,
 /// and `place + len` fits a `usize`. Every other bit of the memory stays.
@@ -19,17 +19,7 @@ pub fn reverse_in<R: BitRegister, O: BitOrder<R>>(words: &mut [R], place: usize,
         reverse_singly::<R, O>(words, place, len);
         return;
     }
-    reverse_by_chunks::<R, O>(words, place, len);
-}
-
-// The same, by chunks. Out of line, so that a few bits are turned by a short function.
-#[inline(never)]
-fn reverse_by_chunks<R: BitRegister, O: BitOrder<R>>(words: &mut [R], place: usize, len: usize)
-    requires lies { Lies R.BITS words.old place len }
-    ensures reversed { Overwrites (read_by R.BitRegister O.position) words.old words.new place len
-        (λ k. entry (read_by R.BitRegister O.position) words.old (place + (len - 1 - k))) }
-{
-    mirror::reverse::<R, O>(direction_for::<R, O>(), words, place, len);
+    mirror::reverse::<R, O>(words, place, len);
 }
 
 // The same, bit by bit.

@@ -6,7 +6,7 @@ ghost use Rattle.bit_slice_paths.specs.Rotations.{rotated_from};
 
 use crate::reverse::reverse_in;
 use bit_addressing_memory::{BitOrder, BitRegister, BulkOp, bit_loop_limit};
-use bit_slice_paths::{direction_for, rotation};
+use bit_slice_paths::rotation;
 
 /// Moves each of `len` bits of a memory, those from `place` on, `by` places towards the first of them; the
 /// first `by` become the last. They lie in the memory, `place + len` fits a `usize`, and `by` is at most `len`.
@@ -28,23 +28,7 @@ pub fn rotate_left_in<R: BitRegister, O: BitOrder<R>>(
         rotate_by_turns::<R, O>(words, place, len, by);
         return;
     }
-    rotate_by_chunks::<R, O>(words, place, len, by);
-}
-
-// The same, by chunks. Out of line, so that a few bits are rotated by a short function.
-#[inline(never)]
-fn rotate_by_chunks<R: BitRegister, O: BitOrder<R>>(
-    words: &mut [R],
-    place: usize,
-    len: usize,
-    by: usize,
-)
-    requires lies { Lies R.BITS words.old place len }
-    requires most { by ≤ len }
-    ensures rotated { Overwrites (read_by R.BitRegister O.position) words.old words.new place len
-        (λ k. entry (read_by R.BitRegister O.position) words.old (place + rotated_from len by k)) }
-{
-    rotation::rotate::<R, O>(direction_for::<R, O>(), words, place, len, by);
+    rotation::rotate::<R, O>(words, place, len, by);
 }
 
 // The same, by reversals. Each of the two parts is turned round, and then the whole:

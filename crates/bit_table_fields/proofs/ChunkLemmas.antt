@@ -1,22 +1,23 @@
 -- Numbers and the chunks that hold their digits.
 --
 -- Read: `held_digits`, a number from a chunk of its bits. Written:
--- `lowest_digit`, `chunk_of_low`, `chunk_of_high`, the chunk of a number; `number_written`, it in a window.
+-- `lowest_digit`, `chunk_holds`, the chunk of a number; `number_written`, it in a window.
 use Rattle.std.proofs.Common.{◌≡◌, ℕ, suc, ◌+◌, ◌-◌, ◌*◌, ◌/◌, ◌%◌, ◌^◌, ◌==◌, ◌<◌, ◌≤◌, Bool, true, false}
-use Rattle.std.proofs.Common.{List, [], ◌∷◌, length, get_or, reverse, cond, refl, sym, ap, ◌∙◌, inl, inr, arith}
+use Rattle.std.proofs.Common.{List, [], ◌∷◌, length, get_or, reverse, cond, refl, sym, ap, ◌∙◌, arith}
 use Rattle.std.proofs.Common.{pow-suc, ℤ, SFits}
 use mir.Syntax.{w128}
-use Rattle.std.proofs.Math.Pow.{pow_pos}
-use Rattle.std.proofs.lemmas.Bool.{cases_lt, eqb-true}
+use Rattle.std.proofs.lemmas.Bool.{eqb-true}
 use Rattle.std.proofs.lemmas.List.{get_or-reverse, length-reverse}
-use Rattle.std.proofs.lemmas.Nat.Bits.{bit_at-suc, bit_at_lowest, bit_at_above, same_from_bits_below}
+use Rattle.std.proofs.lemmas.Nat.Bits.{bit_at-suc, bit_at_lowest}
 use Rattle.std.specs.Int.{bit_at, cast_unsigned}
 use Rattle.bit_addressing_memory.specs.Bits.{digit_at}
 use Rattle.bit_addressing_memory.specs.Memory.{Reading, memory, piece, with_piece, Overwrites}
-use Rattle.bit_addressing_memory.proofs.ShiftLemmas.{bit_at_shr, bit_at_cut, bit_at_shl_high}
+use Rattle.bit_addressing_memory.proofs.ShiftLemmas.{bit_at_cut}
 use Rattle.bit_addressing_memory.proofs.WindowLemmas.{window_bit, length-window, window_overwritten}
 use Rattle.bit_addressing_memory.proofs.LimbLemmas.{no_digit}
-use Rattle.bit_slice_chunks.specs.Chunk.{chunk_bit, IsChunk}
+use Rattle.bit_addressing_memory.specs.declared.direction.Direction.TheVariants.{Ascending, Descending}
+use Rattle.bit_slice_chunks.specs.Chunk.{chunk_bit, digits_in, HoldsDigits, IsChunk}
+use Rattle.bit_slice_chunks.proofs.DigitsLemmas.{digits_read}
 use Rattle.bit_table_layout.specs.declared.layout.Rule.{Rule}
 use Rattle.bit_table_layout.specs.declared.layout.Rule.TheVariants.{Low, High}
 use Rattle.bit_table_layout.specs.Digits.{binary, has_digit}
@@ -24,7 +25,7 @@ use Rattle.bit_table_layout.specs.Readings.{lowest_first}
 use Rattle.bit_table_layout.specs.Rows.{field_bits}
 use Rattle.bit_table_layout.proofs.DigitLemmas.{has_digit-cast_unsigned}
 use Rattle.bit_table_layout.proofs.ReadingLemmas.{length-field_bits}
-use Rattle.bit_table_fields.specs.Chunks.{rule_way, digits_in, ChunkOf}
+use Rattle.bit_table_fields.specs.Chunks.{rule_way, ChunkOf}
 use Rattle.bit_table_fields.proofs.WindowLemmas.{get_or-field_bits}
 
 -- ---- read
@@ -46,46 +47,35 @@ number_of_bits (b ∷ bs) n digits small =
     (λ i low. ap (λ d. d == 1) (sym (bit_at-suc n i)) ∙ digits (suc i) (omega arith)) half in
     omega arith
 
--- no digit from w on
-small_from_digits : (n w : ℕ) → n < 2 ^ 64 → w ≤ 64 → ((i : ℕ) → w ≤ i → i < 64 → bit_at n i ≡ 0) → n < 2 ^ w
-small_from_digits n w fits narrow none =
-    let cut : n % 2 ^ w < 2 ^ w = omega (arith, pow_pos w) in
-    let same : n ≡ n % 2 ^ w =
-    same_from_bits_below 64 n (n % 2 ^ w) fits (omega arith) (λ i small. elim (cases_lt i w) [
-      | inl low ↦ sym (bit_at_cut n w i low)
-      | inr high ↦ none i high small ∙ sym (bit_at_above (n % 2 ^ w) w i cut high)
-    ]) in
-    omega arith
-
 -- a chunk in the direction of a rule holds the digits of the number of its bits
 pub held_digits : {R : Type 0} (rule : Rule) (reading : Reading R) (words : List R) (place n chunk : ℕ)
     → 0 < reading.bits → place + n ≤ length words * reading.bits → 1 ≤ n → n ≤ 64 → chunk < 2 ^ 64
     → IsChunk reading words place n (rule_way rule) chunk
-    → digits_in rule n chunk ≡ binary (lowest_first rule (piece (memory reading words) place n))
+    → digits_in (rule_way rule) n chunk ≡ binary (lowest_first rule (piece (memory reading words) place n))
 held_digits Low reading words place n chunk some within any few fits is =
+    let read = digits_read Ascending reading words place n chunk any few fits is in
     let size : length (piece (memory reading words) place n) ≡ n = length-window reading words place n within in
     number_of_bits (piece (memory reading words) place n) chunk
     (λ i low.
     let inside : i < n = omega arith in
-    is.inside i inside ∙ sym (window_bit reading words place n i some inside))
-    (rw size (small_from_digits chunk n fits few (λ i high small. no_digit chunk i (is.past i high small))))
+    read.digits i inside ∙ sym (window_bit reading words place n i some inside))
+    (rw size read.small)
 held_digits High reading words place n chunk some within any few fits is =
+    let read = digits_read Descending reading words place n chunk any few fits is in
     let xs = piece (memory reading words) place n in
-    let r : ℕ = chunk / 2 ^ (64 - n) in
+    let d : ℕ = chunk / 2 ^ (64 - n) in
     let size : length xs ≡ n = length-window reading words place n within in
     let turned : length (reverse xs) ≡ n = length-reverse xs ∙ size in
-    number_of_bits (reverse xs) r
+    number_of_bits (reverse xs) d
     (λ i low.
-    let inside : i < n = omega arith in
-    let at : i + (64 - n) ≡ 64 - 1 - (n - 1 - i) = omega arith in
+    let at : n - 1 - (n - 1 - i) ≡ i = omega arith in
     let last : length xs - 1 - i ≡ n - 1 - i = omega arith in
-    ap (λ d. d == 1) (bit_at_shr chunk (64 - n) i ∙ ap (bit_at chunk) at)
-    ∙ is.inside (n - 1 - i) (omega arith)
+    ap (digit_at d) (sym at)
+    ∙ read.digits (n - 1 - i) (omega arith)
     ∙ sym (get_or-reverse xs i false (omega arith)
     ∙ ap (λ k. get_or xs k false) last
     ∙ window_bit reading words place n (n - 1 - i) some (omega arith)))
-    (rw turned (small_from_digits r n (omega arith) few (λ i high small.
-    bit_at_shr chunk (64 - n) i ∙ bit_at_above chunk 64 (i + (64 - n)) fits (omega arith))))
+    (rw turned read.small)
 
 -- ---- written
 
@@ -98,19 +88,10 @@ lowest_digit v d fits is k small =
     ∙ sym (has_digit-cast_unsigned w128 v k fits (omega arith))
 
 -- as a chunk
-pub chunk_of_low : (v : ℤ) (n d : ℕ) → n ≤ 64 → ((k : ℕ) → k < 64 → digit_at d k ≡ has_digit v k)
-    → ChunkOf Low n v d
-chunk_of_low v n d few is k low = is k (omega arith)
-
-pub chunk_of_high : (v : ℤ) (n d r : ℕ) → n ≤ 64 → ((k : ℕ) → k < 64 → digit_at d k ≡ has_digit v k)
-    → r ≡ d * 2 ^ (64 - n) % 2 ^ 64 → ChunkOf High n v r
-chunk_of_high v n d r few is made k low =
-    let at : 64 - 1 - k - (64 - n) ≡ n - 1 - k = omega arith in
-    ap (λ m. digit_at m (64 - 1 - k)) made
-    ∙ ap (λ b. b == 1) (bit_at_cut (d * 2 ^ (64 - n)) 64 (64 - 1 - k) (omega arith)
-    ∙ bit_at_shl_high d (64 - n) (64 - 1 - k) (omega arith)
-    ∙ ap (bit_at d) at)
-    ∙ is (n - 1 - k) (omega arith)
+pub chunk_holds : (rule : Rule) (v : ℤ) (n d chunk : ℕ) → n ≤ 64 → ((k : ℕ) → k < 64 → digit_at d k ≡ has_digit v k)
+    → HoldsDigits (rule_way rule) d n chunk → ChunkOf rule n v chunk
+chunk_holds Low v n d chunk few is holds k low = holds k low ∙ is k (omega arith)
+chunk_holds High v n d chunk few is holds k low = holds k low ∙ is (n - 1 - k) (omega arith)
 
 -- a number's chunk written into a window
 pub number_written : {R : Type 0} (rule : Rule) (reading : Reading R) (before after : List R)

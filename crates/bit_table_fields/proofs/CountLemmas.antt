@@ -5,7 +5,7 @@ use Rattle.std.proofs.Common.{◌≡◌, ℕ, zero, suc, ◌+◌, ◌*◌, ◌/�
 use Rattle.std.proofs.Common.{mul-le-mul_right}
 use Rattle.std.proofs.lemmas.Nat.{div-add-mod', div_below, mod_below}
 use Rattle.bit_addressing_memory.specs.Memory.{touched}
-use Rattle.bit_slice_chunks.proofs.TransferLemmas.{touched_last, in_order}
+use Rattle.bit_addressing_memory.proofs.TransferLemmas.{touched_last, in_order}
 use Rattle.bit_slice_words.specs.Steps.{Takes}
 use Rattle.bit_table_fields.specs.Windows.{most_for}
 

@@ -1,5 +1,5 @@
 -- Numbers of windows in chunks. No public clause cites this module.
-use Rattle.std.specs.Prelude.{ℕ, ℤ, ◌≡◌, ◌-◌, ◌/◌, ◌<◌, ◌^◌}
+use Rattle.std.specs.Prelude.{ℕ, ℤ, ◌≡◌, ◌<◌}
 use Rattle.bit_addressing_memory.specs.declared.direction.Direction.{Direction}
 use Rattle.bit_addressing_memory.specs.declared.direction.Direction.TheVariants.{Ascending, Descending}
 use Rattle.bit_slice_chunks.specs.Chunk.{chunk_bit}
@@ -12,11 +12,6 @@ use Rattle.bit_table_layout.specs.Digits.{has_digit}
 abbrev pub rule_way : Rule → Direction
 rule_way Low = Ascending
 rule_way High = Descending
-
--- the number whose n digits a chunk of that direction has, and zeros behind them
-abbrev pub digits_in : Rule → ℕ → ℕ → ℕ
-digits_in Low n chunk = chunk
-digits_in High n chunk = chunk / 2 ^ (64 - n)
 
 -- the first n bits of the chunk of that direction are those of a field that has the number v
 abbrev pub ChunkOf : Rule → ℕ → ℤ → ℕ → Type 0

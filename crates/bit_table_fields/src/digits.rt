@@ -6,8 +6,10 @@
 
 ghost use Rattle.std.specs.Prelude.{◌≡◌, ℕ, ◌+◌, ◌*◌, ◌^◌, ◌<◌, ◌≤◌, Bool, true, false, length};
 ghost use Rattle.bit_addressing_memory.specs.Memory.{memory, piece, read_by, with_piece};
+ghost use Rattle.bit_addressing_memory.specs.Straight.{Goes};
 ghost use Rattle.bit_slice_words.specs.Steps.{Takes};
 ghost use Rattle.bit_slice_views.specs.View.{view_bits, view_head};
+ghost use Rattle.bit_table_fields.specs.Chunks.{rule_way};
 ghost use Rattle.bit_table_fields.specs.Windows.{most_for, number_held};
 ghost use Rattle.bit_table_layout.specs.Rows.{field_bits};
 ghost use Rattle.bit_table_layout.specs.declared.layout.Rule.TheVariants.{Low, High};
@@ -16,7 +18,7 @@ use crate::{digits_by_chunks, digits_by_words};
 use bit_addressing_memory::{BitOrder, BitRegister, HiLo, Lsb0, Msb0};
 use bit_slice_views::{BitSlice, Bits};
 use bit_slice_views_mut::BitsMut;
-use bit_slice_words::Steps;
+use bit_slice_words::{FieldOrder, Steps};
 use bit_table_layout::Rule;
 
 /// What an order does to move a number into a window and back: the digits lie in it from the lowest on, or from the
@@ -160,17 +162,27 @@ pub trait Digits<R: BitRegister>: BitOrder<R> {
     }
 }
 
-impl<R: BitRegister> Digits<R> for Lsb0 {
-    ghost LOW_WORDS = { true };
+/// Marks the orders that have the digits of all that count a word's digits in turn. It names no register, so that an
+/// order of another crate, which is not marked, may have digits of its own.
+pub trait CountsInTurn {}
 
-    const LOW_WORDS: bool = true;
+impl CountsInTurn for Lsb0 {}
 
-    ghost HIGH_WORDS = { false };
+impl CountsInTurn for Msb0 {}
 
-    const HIGH_WORDS: bool = false;
+impl<R: BitRegister, O: CountsInTurn + FieldOrder<R>> Digits<R> for O {
+    ghost use Rattle.std.specs.Prelude.{not};
+
+    ghost LOW_WORDS = { O.LOW_FIRST };
+
+    const LOW_WORDS: bool = O::LOW_FIRST;
+
+    ghost HIGH_WORDS = { not O.LOW_FIRST };
+
+    const HIGH_WORDS: bool = !O::LOW_FIRST;
 
     fn load_low_at(words: &[R], place: usize, width: u32, signed: bool, steps: &mut Steps) -> i128 {
-        digits_by_words::load::<R, Lsb0>(Rule::Low, words, place, width, signed, steps)
+        load::<R, O>(O::LOW_FIRST, Rule::Low, words, place, width, signed, steps)
     }
 
     fn load_high_at(
@@ -180,72 +192,90 @@ impl<R: BitRegister> Digits<R> for Lsb0 {
         signed: bool,
         steps: &mut Steps,
     ) -> i128 {
-        digits_by_chunks::load::<R, Lsb0>(Rule::High, words, place, width, signed, steps)
+        load::<R, O>(
+            !O::LOW_FIRST,
+            Rule::High,
+            words,
+            place,
+            width,
+            signed,
+            steps,
+        )
     }
 
-    fn store_low_at<V: BitsMut<Store = R, Order = Lsb0>>(
+    fn store_low_at<V: BitsMut<Store = R, Order = O>>(
         view: &mut V,
         at: usize,
         width: u32,
         value: i128,
         steps: &mut Steps,
     ) {
-        digits_by_words::store::<V>(Rule::Low, view, at, width, value, steps);
+        store::<V>(O::LOW_FIRST, Rule::Low, view, at, width, value, steps);
     }
 
-    fn store_high_at<V: BitsMut<Store = R, Order = Lsb0>>(
+    fn store_high_at<V: BitsMut<Store = R, Order = O>>(
         view: &mut V,
         at: usize,
         width: u32,
         value: i128,
         steps: &mut Steps,
     ) {
-        digits_by_chunks::store::<V>(Rule::High, view, at, width, value, steps);
+        store::<V>(!O::LOW_FIRST, Rule::High, view, at, width, value, steps);
     }
 }
 
-impl<R: BitRegister> Digits<R> for Msb0 {
-    ghost LOW_WORDS = { false };
-
-    const LOW_WORDS: bool = false;
-
-    ghost HIGH_WORDS = { true };
-
-    const HIGH_WORDS: bool = true;
-
-    fn load_low_at(words: &[R], place: usize, width: u32, signed: bool, steps: &mut Steps) -> i128 {
-        digits_by_chunks::load::<R, Msb0>(Rule::Low, words, place, width, signed, steps)
+// The number that the `width` bits from `place` on hold, by words where the digits of the rule lie in a word as the
+// positions of the order go, else by a chunk.
+#[inline(always)]
+fn load<R: BitRegister, O: BitOrder<R>>(
+    by_words: bool,
+    rule: Rule,
+    words: &[R],
+    place: usize,
+    width: u32,
+    signed: bool,
+    steps: &mut Steps,
+) -> i128
+    requires goes { by_words ≡ true → Goes R.BITS O.position (rule_way rule) }
+    requires some { 1 ≤ width }
+    requires narrow { width ≤ 64 }
+    requires within { place + width ≤ length words.now * R.BITS }
+    requires ends { place + width < 2 ^ 64 }
+    ensures value { result ≡ number_held rule signed width
+        (piece (memory (read_by R.BitRegister O.position) words.now) place width) }
+    ensures steps { Takes steps.old steps.new 1 (most_for by_words R.BITS place width) }
+{
+    if by_words {
+        return digits_by_words::load::<R, O>(rule, words, place, width, signed, steps);
     }
+    digits_by_chunks::load::<R, O>(rule, words, place, width, signed, steps)
+}
 
-    fn load_high_at(
-        words: &[R],
-        place: usize,
-        width: u32,
-        signed: bool,
-        steps: &mut Steps,
-    ) -> i128 {
-        digits_by_words::load::<R, Msb0>(Rule::High, words, place, width, signed, steps)
+// The same of a store.
+#[inline(always)]
+fn store<V: BitsMut>(
+    by_words: bool,
+    rule: Rule,
+    view: &mut V,
+    at: usize,
+    width: u32,
+    value: i128,
+    steps: &mut Steps,
+)
+    requires goes { by_words ≡ true → Goes V.Store.BITS V.Order.position (rule_way rule) }
+    requires some { 1 ≤ width }
+    requires narrow { width ≤ 64 }
+    requires within { at + width ≤ length (V.bits view.old) }
+    ensures bits { V.bits view.new ≡ with_piece (V.bits view.old) at (field_bits rule width value) }
+    ensures len { length (V.bits view.new) ≡ length (V.bits view.old) }
+    ensures frame { V.frame view.new ≡ V.frame view.old }
+    ensures steps { Takes steps.old steps.new 1 (most_for by_words V.Store.BITS (V.place view.old + at) width) }
+{
+    if by_words {
+        digits_by_words::store::<V>(rule, view, at, width, value, steps);
+        return;
     }
-
-    fn store_low_at<V: BitsMut<Store = R, Order = Msb0>>(
-        view: &mut V,
-        at: usize,
-        width: u32,
-        value: i128,
-        steps: &mut Steps,
-    ) {
-        digits_by_chunks::store::<V>(Rule::Low, view, at, width, value, steps);
-    }
-
-    fn store_high_at<V: BitsMut<Store = R, Order = Msb0>>(
-        view: &mut V,
-        at: usize,
-        width: u32,
-        value: i128,
-        steps: &mut Steps,
-    ) {
-        digits_by_words::store::<V>(Rule::High, view, at, width, value, steps);
-    }
+    digits_by_chunks::store::<V>(rule, view, at, width, value, steps);
 }
 
 impl<R: BitRegister> Digits<R> for HiLo {

@@ -7,7 +7,7 @@ ghost use Rattle.bit_addressing_memory.specs.Memory.{memory, piece, read_by, wit
 ghost use Rattle.bit_slice_chunks.specs.Chunk.{IsChunk};
 ghost use Rattle.bit_slice_views_mut.specs.Frame.{KeepsBeside};
 ghost use Rattle.bit_slice_words.specs.Steps.{Takes};
-ghost use Rattle.bit_table_fields.specs.Chunks.{digits_in, rule_way, ChunkOf};
+ghost use Rattle.bit_table_fields.specs.Chunks.{rule_way, ChunkOf};
 ghost use Rattle.bit_table_fields.specs.Windows.{number_held};
 ghost use Rattle.bit_table_layout.specs.Digits.{has_digit};
 ghost use Rattle.bit_table_layout.specs.Rows.{field_bits};
@@ -16,6 +16,7 @@ use crate::digits_by_bits;
 use crate::digits_by_bits::number_of;
 use bit_addressing_memory::{BitOrder, BitRegister, BulkOp, Direction, bit_loop_limit};
 use bit_slice_chunks::any_order::{read_bits, write_bits};
+use bit_slice_chunks::{chunk_of, digits_of};
 use bit_slice_views::BitSlice;
 use bit_slice_views_mut::BitsMut;
 use bit_slice_words::Steps;
@@ -128,7 +129,7 @@ pub(crate) fn number_in<R: BitRegister, O: BitOrder<R>>(
         → IsChunk (read_by R.BitRegister O.position) words place width (rule_way rule) chunk
         → result ≡ number_held rule signed width (piece (memory (read_by R.BitRegister O.position) words) place width) }
 {
-    number_of(digits_of(rule, chunk, width), width, signed)
+    number_of(digits_of(way_of(rule), chunk, width as u8), width, signed)
 }
 
 /// `Digits::store_low_at` or `Digits::store_high_at`, as the rule says.
@@ -202,7 +203,7 @@ fn write_number<R: BitRegister, O: BitOrder<R>>(
         (field_bits rule width value) }
     ensures beside { KeepsBeside (read_by R.BitRegister O.position) words.old words.new place all }
 {
-    let chunk = chunk_of(rule, value, width);
+    let chunk = chunk_for(rule, value, width);
     write_bits::<R, O>(way_of(rule), words, place + at, width as usize, chunk);
 }
 
@@ -216,29 +217,13 @@ pub(crate) fn way_of(rule: Rule) -> Direction
     }
 }
 
-// The number whose digits the first bits of a chunk are, and zeros behind them.
-fn digits_of(rule: Rule, chunk: u64, width: u32) -> u64
-    requires some { 1 ≤ width }
-    requires narrow { width ≤ 64 }
-    ensures { result ≡ digits_in rule width chunk }
-{
-    match rule {
-        Rule::Low => chunk,
-        Rule::High => chunk >> (64 - width),
-    }
-}
-
 // The chunk whose first bits are digits of a number.
-pub(crate) fn chunk_of(rule: Rule, value: i128, width: u32) -> u64
+pub(crate) fn chunk_for(rule: Rule, value: i128, width: u32) -> u64
     requires some { 1 ≤ width }
     requires narrow { width ≤ 64 }
     ensures { ChunkOf rule width value result }
 {
-    let digits = lowest_digits(value);
-    match rule {
-        Rule::Low => digits,
-        Rule::High => digits << (64 - width),
-    }
+    chunk_of(way_of(rule), lowest_digits(value), width as u8)
 }
 
 // The 64 lowest digits of a number.

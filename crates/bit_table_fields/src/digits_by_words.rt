@@ -10,8 +10,8 @@ ghost use Rattle.bit_table_fields.specs.Chunks.{rule_way};
 ghost use Rattle.bit_table_fields.specs.Windows.{number_held};
 ghost use Rattle.bit_table_layout.specs.Rows.{field_bits};
 
-use crate::digits_by_chunks::{chunk_of, number_in, way_of};
-use bit_addressing_memory::{BitOrder, BitRegister, Straight};
+use crate::digits_by_chunks::{chunk_for, number_in, way_of};
+use bit_addressing_memory::{BitOrder, BitRegister};
 use bit_slice_chunks::{read_counted, write_counted};
 use bit_slice_views_mut::BitsMut;
 use bit_slice_words::Steps;
@@ -36,12 +36,7 @@ pub(crate) fn load<R: BitRegister, O: BitOrder<R>>(
         (piece (memory (read_by R.BitRegister O.position) words.now) place width) }
     ensures steps { Takes steps.old steps.new 1 (touched R.BITS place width) }
 {
-    let (chunk, reads) = read_counted::<R, O>(
-        Straight::new(way_of(rule)),
-        words,
-        place,
-        width as usize,
-    );
+    let (chunk, reads) = read_counted::<R, O>(way_of(rule), words, place, width as usize);
     steps.many(reads);
     number_in::<R, O>(rule, chunk, width, signed)
 }
@@ -96,12 +91,6 @@ fn write_number<R: BitRegister, O: BitOrder<R>>(
     ensures beside { KeepsBeside (read_by R.BitRegister O.position) words.old words.new place all }
     ensures writes { result ≡ touched R.BITS (place + at) width }
 {
-    let chunk = chunk_of(rule, value, width);
-    write_counted::<R, O>(
-        Straight::new(way_of(rule)),
-        words,
-        place + at,
-        width as usize,
-        chunk,
-    )
+    let chunk = chunk_for(rule, value, width);
+    write_counted::<R, O>(way_of(rule), words, place + at, width as usize, chunk)
 }

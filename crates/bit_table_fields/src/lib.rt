@@ -8,6 +8,6 @@ mod digits_by_words;
 mod numbers;
 mod rows;
 
-pub use digits::Digits;
+pub use digits::{CountsInTurn, Digits};
 pub use numbers::{load_number, store_number};
 pub use rows::{bits_before, load_row, store_row};

@@ -3,9 +3,8 @@ use Rattle.bit_addressing_memory.proofs.LimbLemmas.{limb_mixed}
 use Rattle.bit_addressing_memory.proofs.limbs.with_bits.Goals as goal
 
 pub returns : goal.returns
-returns g c words place has =
-    limb_mixed (read_by g.R.BitRegister g.O.Positions.position) words c.args.word c.with_limb-2.result
-    c.args.base (min 64 g.R.BitRegister.BITS) c.args.from c.args.upto place c.args.bits
-    c.limb_of-own.result c.spread_limb-limb.result c.requires.low c.requires.order c.requires.high (omega arith)
-    has c.limb_of-own.ensures.inside c.spread_limb-limb.ensures.inside
-    c.spread_limb-limb.ensures.below c.spread_limb-limb.ensures.above c.with_limb-2.ensures
+returns g c =
+    limb_mixed (read_by g.R.BitRegister g.O.Positions.position) c.args.word c.with_limb-2.result c.args.base
+    (min 64 g.R.BitRegister.BITS) c.args.from c.args.upto c.args.chunk c.limb_of-own.result c.patched-limb.result
+    c.requires.low c.requires.order c.requires.high (omega arith) c.limb_of-own.ensures c.patched-limb.ensures
+    c.with_limb-2.ensures

@@ -1,21 +1,9 @@
-use Rattle.bit_addressing_memory.proofs.Common.{◌+◌, ◌≤◌, read_by}
+use Rattle.bit_addressing_memory.proofs.Common.{◌+◌, ◌-◌, read_by}
 use Rattle.bit_addressing_memory.specs.MoveSteps.{PutsWords}
-use Rattle.bit_addressing_memory.specs.Sweep.{edge_of}
+use Rattle.bit_addressing_memory.specs.Ways.{by_way}
 use Rattle.bit_addressing_memory.proofs.moves.put_gathered.Given as goal
 
-abbrev pub invariant-up : goal.invariant-up
-invariant-up g l =
-    let reading = read_by g.R.BitRegister g.O.Positions.position in
-    record {
-      put : PutsWords reading l.fn.sweep l.sweep l.source l.target l.len l.first l.k;
-      edge : edge_of l.sweep ≤ l.k;
-    }
-
-abbrev pub invariant-down : goal.invariant-down
-invariant-down g l =
-    let reading = read_by g.R.BitRegister g.O.Positions.position in
-    record {
-      put : PutsWords reading l.fn.sweep l.sweep l.source l.target l.len l.k (l.last + 1);
-      edge : l.k ≤ edge_of l.sweep;
-      low : l.first ≤ l.k;
-    }
+abbrev pub invariant-loop-m : goal.invariant-loop-m
+invariant-loop-m g l =
+    PutsWords (read_by g.R.BitRegister g.O.Positions.position) (g.R.BitRegister.BITS + 1) l.fn.sweep l.sweep
+    l.task.source l.task.target l.task.len (by_way l.way l.first (l.last + 1 - (l.m - l.first))) (by_way l.way l.m (l.last + 1))

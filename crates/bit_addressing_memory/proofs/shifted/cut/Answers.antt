@@ -1,14 +1,16 @@
-use Rattle.bit_addressing_memory.proofs.Common.{◌≡◌, ◌+◌, ◌*◌, ◌<◌, ◌≤◌, length, refl, arith, read_by}
-use Rattle.bit_addressing_memory.proofs.ShiftedWords.{begins_across, begins_aligned}
+use Rattle.bit_addressing_memory.proofs.Common.{◌≡◌, ◌+◌, ◌*◌, ◌<◌, ◌≤◌, length, refl, ap, arith, read_by}
+use Rattle.bit_addressing_memory.proofs.ShiftedWords.{begins_across, begins_inside}
 use Rattle.bit_addressing_memory.proofs.shifted.cut.Goals as goal
 
 pub returns-then-by-eq0-clause-digits : goal.returns-then-by-eq0-clause-digits
 returns-then-by-eq0-clause-digits g c =
     let reading = read_by g.R.BitRegister g.O.Positions.position in
-    let at : c.args.word * reading.bits ≡ c.args.word * reading.bits + c.args.by = omega (arith, c.if-by-eq0.true) in
-    let most : reading.bits ≤ reading.bits = omega arith in
-    begins_aligned reading c.args.sweep.now.words.now (c.args.word * reading.bits + c.args.by) reading.bits c.args.word
-    c.read-first.result at most c.requires.first c.read-first.ensures.value
+    let first = c.read-first.result in
+    begins_inside reading c.args.sweep.now.words.now (c.args.word * reading.bits + c.args.by) reading.bits c.args.word
+    c.args.by first first refl (omega (arith, c.if-by-eq0.true)) c.requires.first c.read-first.ensures.value
+    (λ i _.
+    let same : i ≡ c.args.by + i = omega (arith, c.if-by-eq0.true) in
+    ap (reading.digit first) same)
 
 pub returns-clause-digits : goal.returns-clause-digits
 returns-clause-digits g c =

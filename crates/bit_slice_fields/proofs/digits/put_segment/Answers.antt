@@ -17,8 +17,8 @@ returns g c =
     let is =
     segment_piece b cut.head n c.args.place segment some c.requires.head c.requires.begins c.requires.is cut.low cut.le
     weight c.requires.mirrored c.requires.few c.weight_of_segment-weight.ensures.value in
-    written_piece (read_by g.T.BitRegister g.O.Positions.position) c.args.words.now c.write_counted.new.words
-    (cut_weight cut b n) n segment.from segment.len weight c.args.digits c.chunk_of-chunk.result
-    (segment.word * c.bits_of.result + segment.index) (c.args.place + segment.from) (way_for cut.low) is
-    c.chunk_of-chunk.ensures (rw c.bits_of.ensures c.requires.is.place)
-    (rw c.straight_of.ensures at c.write_counted.ensures.bits)
+    written_piece (read_by g.T.BitRegister g.O.Positions.position) c.args.words.now c.write_part.new.words
+    (cut_weight cut b n) n segment.from segment.len weight c.args.digits c.chunk_from-chunk.result
+    (segment.word * b + segment.index) (c.args.place + segment.from) (way_for cut.low) is
+    c.chunk_from-chunk.ensures c.requires.is.place
+    (rw c.straight_of-straight.ensures at c.write_part.ensures)

@@ -3,7 +3,7 @@ use Rattle.bit_addressing_memory.proofs.Common.{entry, indexed, read_by}
 use Rattle.bit_addressing_memory.proofs.EntryLemmas.{entry_read}
 use Rattle.bit_addressing_memory.proofs.PartsLemmas.{stores_as}
 use Rattle.std.proofs.lemmas.Nat.{div-add-mod'}
-use Rattle.bit_slice_chunks.proofs.TransferLemmas.{first_in}
+use Rattle.bit_addressing_memory.proofs.TransferLemmas.{first_in}
 use Rattle.bit_slice_chunks.specs.Combined.{combined_bit}
 use Rattle.bit_slice_paths.proofs.WholeWordLemmas.{alike_digit}
 use Rattle.bit_slice_paths.proofs.merge.merge_part.Goals as goal

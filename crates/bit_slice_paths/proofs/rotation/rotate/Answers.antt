@@ -37,4 +37,4 @@ returns-else-left-right-2 g c =
     let left = c.loop-right.left in
     let right = c.loop-right.right in
     let by : left + right - right ≡ left = omega arith in
-    c.loop-right.invariant.rest c.move_up.new.words (rw by at c.move_up.ensures)
+    c.loop-right.invariant.rest c.move_towards-else-left-right-2.new.words (rw by at c.move_towards-else-left-right-2.ensures)

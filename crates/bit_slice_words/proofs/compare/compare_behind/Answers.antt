@@ -1,11 +1,10 @@
-use Rattle.bit_addressing_memory.proofs.Common.{arith}
+use Rattle.std.proofs.Common.{min, arith}
+use Rattle.bit_addressing_memory.specs.Memory.{read_by}
+use Rattle.bit_slice_paths.proofs.AcrossLemmas.{agrees_near}
 use Rattle.bit_slice_words.proofs.compare.compare_behind.Goals as goal
 
 pub compare_at-requires-clause-agrees : goal.compare_at-requires-clause-agrees
 compare_at-requires-clause-agrees g c =
-    let agree = c.difference-same.ensures in
-    record {
-      most = omega (arith, agree.most);
-      same = agree.same;
-      differ = λ low. agree.differ (omega (arith, agree.most));
-    }
+    agrees_near (read_by g.R.BitRegister g.O.Positions.position) (read_by g.Q.BitRegister g.P.Positions.position)
+    c.args.words.now c.args.others.now c.args.place c.args.other_place 64 (min c.args.len c.args.other_len)
+    c.difference_of_part-same.result (omega arith) (λ low. omega arith) c.difference_of_part-same.ensures

@@ -1,5 +1,5 @@
 use Rattle.bit_addressing_memory.proofs.Common.{◌≡◌, ◌+◌, ◌-◌, ◌*◌, ap, arith, read_by}
-use Rattle.bit_slice_words.proofs.ChunkedLemmas.{back_rest, back_last, back_none}
+use Rattle.bit_slice_words.proofs.ChunkedLemmas.{back_rest, back_last, none_behind}
 use Rattle.bit_slice_words.proofs.parts.last_in_part.Goals as goal
 
 pub returns-then-behind-count : goal.returns-then-behind-count
@@ -26,8 +26,8 @@ returns-else-behind-count g c =
     let chunk = c.raised-chunk.result in
     let other = c.opposite.result in
     let end : place + count ≡ c.args.word * g.R.BitRegister.BITS + c.args.upto = omega (arith, c.requires.order) in
-    rw (← end) (back_none reading c.args.words.now c.args.bit place count other chunk c.chunk_without.result
-    c.first_difference-behind.result (omega arith)
+    rw (← end) (none_behind reading c.args.words.now c.args.bit place count count place other chunk c.chunk_without.result
+    c.first_difference-behind.result (omega arith) (omega arith) (omega arith)
     (back_rest reading c.args.words.now place count (64 - count) c.args.straight.direction other c.read_part-read.result chunk
     (omega (arith, c.requires.few)) c.opposite.ensures c.read_part-read.ensures c.raised-chunk.ensures)
     (c.chunk_without.ensures other) c.first_difference-behind.ensures)

@@ -12,6 +12,6 @@ returns g c = λ words place within is.
     let some : 0 < g.R.BitRegister.BITS = omega (arith, g.met.R.BitRegister.least_bits) in
     to_z-of_z w128 c.number_of.result (record { sfits = c.number_of.type_inv })
     ∙ c.number_of.ensures
-    ∙ ap (number_from_digits c.args.signed c.args.width) (c.digits_of.ensures
+    ∙ ap (number_from_digits c.args.signed c.args.width) ((rw c.way_of.ensures at c.digits_of.ensures)
     ∙ held_digits c.args.rule reading words place c.args.width c.args.chunk some within c.requires.some
     c.requires.narrow c.ranges.chunk.fits is)

@@ -10,7 +10,7 @@ use Rattle.bit_addressing_memory.proofs.Sweeps.{first_le_last}
 use Rattle.bit_addressing_memory.specs.Memory.{entry, read_by, touched}
 use Rattle.bit_addressing_memory.specs.Sweep.{sweep_words, way_of}
 use Rattle.bit_addressing_memory.specs.declared.sweep.Way.TheVariants.{Up}
-use Rattle.bit_slice_chunks.proofs.TransferLemmas.{word_in}
+use Rattle.bit_addressing_memory.proofs.TransferLemmas.{word_in}
 use Rattle.bit_table_rows.proofs.keep.put_zeros.Goals as goal
 
 -- the word k begins before the end

@@ -1,5 +1,5 @@
 use Rattle.bit_addressing_memory.proofs.Common.{◌*◌, read_by, Swaps}
-use Rattle.bit_slice_paths.proofs.exchange.exchange.Given as goal
+use Rattle.bit_slice_paths.proofs.exchange.exchange_by_chunks.Given as goal
 
 abbrev pub invariant-loop-k : goal.invariant-loop-k
 invariant-loop-k g l =
